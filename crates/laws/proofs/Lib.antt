@@ -1,0 +1,2 @@
+-- Laws on tests, numbers and lists that any project could use.
+pub mod Tests

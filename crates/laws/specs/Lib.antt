@@ -1,0 +1,2 @@
+-- Choices between values that every other definition uses.
+pub mod Choice
