@@ -1,2 +1,3 @@
 -- Lines and frames: how bytes are read and written.
 pub mod Lines
+pub mod Reading
