@@ -1,3 +1,4 @@
 -- Laws of lines.
 pub mod Digits
 pub mod Reading
+pub mod Writing

@@ -3,8 +3,9 @@ ghost use mathlib.Core.Path.{_≡_};
 ghost use mathlib.Core.Bool.{true};
 ghost use Prim.Native.Nat.{ℕ, _+_, _*_, _≤_, _<_};
 ghost use lib.ListN.{length, getD, take, drop};
-ghost use Rattle.lines.specs.Lines.{isHex, valueOf, allHex, isDigits, frameOf};
+ghost use Rattle.lines.specs.Lines.{isHex, valueOf, allHex, isDigits, frameOf, digitOf, lineText};
 ghost use Rattle.lines.specs.Reading.{takeLine, lineAt};
+ghost use Rattle.lines.specs.Writing.{over};
 
 // A frame's first bytes, how many it has, and where the next line starts.
 pub struct Frame {
@@ -50,6 +51,23 @@ pub fn read_line(text: &[u8], at: usize) -> Read
     } else {
         Read::Refused(1)
     }
+}
+
+// Writes a frame as a line from the start of the lent part, where later bytes stay, and gives the line's length.
+pub fn put_frame(out: &mut [u8], frame: &[u8]) -> usize
+    requires { ⌜ length (lineText (now frame)) ≤ length (now out) ⌝ }
+    ensures { λ r. ⌜ r ≡ length (lineText (now (frame .entry))) ⌝ }
+    ensures { λ _. ⌜ now (out .exit) ≡ over (lineText (now (frame .entry))) (now (out .entry)) ⌝ }
+{
+    let mut i = 0;
+    while i < frame.len() {
+        let byte = frame[i];
+        out[2 * i] = digit(byte / 16);
+        out[2 * i + 1] = digit(byte % 16);
+        i += 1;
+    }
+    out[2 * i] = FEED;
+    2 * i + 1
 }
 
 // Where the line that starts at a place ends: at its 0a, or at the end of the text.
@@ -126,4 +144,12 @@ fn value(b: u8) -> u8
     ensures { λ r. ⌜ (r ≡ valueOf b) × (r < 16) ⌝ }
 {
     if b <= 57 { b - 48 } else { b - 87 }
+}
+
+// The digit of a value.
+fn digit(v: u8) -> u8
+    requires { ⌜ v < 16 ⌝ }
+    ensures { λ r. ⌜ r ≡ digitOf v ⌝ }
+{
+    if v < 10 { 48 + v } else { 87 + v }
 }
