@@ -1,1 +1,4 @@
 -- Laws of nests.
+pub mod Stored
+pub mod Scan
+pub mod Faults

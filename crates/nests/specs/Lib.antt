@@ -4,3 +4,4 @@ pub mod Nests
 pub mod Loops
 pub mod Gaps
 pub mod Valid
+pub mod Stored
