@@ -1,1 +1,2 @@
--- Laws of nests.
+-- Laws of nests: levels, loops, gaps, dependences, the ring.
+pub mod Levels
