@@ -1,2 +1,3 @@
 -- Laws of nests: levels, loops, gaps, dependences, the ring.
 pub mod Levels
+pub mod Loops
