@@ -83,9 +83,9 @@ record Rest (d : ℕ) (ps : List ℕ) : Type 0 where
 
 rest-end : Rest 0 []
 rest-end = record {
-    inside = λ i l. absurd (omega arith);
-    last = refl;
-    deep = elim-deep
+  inside = λ i l. absurd (omega arith);
+  last = refl;
+  deep = elim-deep;
 }
   where
     elim-deep : 0 ≤ DEPTH → (i : ℕ) → depthFrom 0 (take i []) ≤ DEPTH

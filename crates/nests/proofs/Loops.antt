@@ -93,12 +93,12 @@ range-of ps w d h =
     range : {e : ℕ} → endOf ps d ≡ e → Falls ps (lev ps d) (suc d) e → Range ps d
     range {e} q f =
         record {
-        after = rw q (f .from);
-        there = rw q (f .there);
-        ends = rw q (f .ends);
-        back = rw q (f .back);
-        above = λ j a c. f .above j a (rw q at c)
-    }
+          after = rw q (f .from);
+          there = rw q (f .there);
+          ends = rw q (f .ends);
+          back = rw q (f .back);
+          above = λ j a c. f .above j a (rw q at c);
+        }
 
 -- h is the last DO below k whose loop ends at g or later
 pub record Owner (ps : List ℕ) (k g h : ℕ) : Type 0 where
@@ -167,7 +167,7 @@ module _ (ps : List ℕ) (shape : isShape ps ≡ true) where
       let z = lev-zero ps in
       let t : endOf ps 0 < length ps = end-there 0 h in
       let y : length ps ≤ suc (endOf ps 0) =
-          le-by λ x. let q = lev-inside ps shape (suc (endOf ps 0)) (omega arith) x in omega (arith, range-back 0 h) in
+      le-by λ x. let q = lev-inside ps shape (suc (endOf ps 0)) (omega arith) x in omega (arith, range-back 0 h) in
       omega arith
 
   pub end-in-outermost : (d : ℕ) → isDo ps d ≡ true → endOf ps d ≤ endOf ps 0
