@@ -1,0 +1,6 @@
+-- The planner's theorem.
+pub mod World
+pub mod Counts
+pub mod Claim
+pub mod Walk
+mod Trial
