@@ -3,4 +3,5 @@ pub mod World
 pub mod Counts
 pub mod Claim
 pub mod Walk
+pub mod Exchange
 mod Trial
