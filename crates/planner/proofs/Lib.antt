@@ -4,4 +4,5 @@ pub mod Counts
 pub mod Claim
 pub mod Walk
 pub mod Exchange
+pub mod Choices
 mod Trial
