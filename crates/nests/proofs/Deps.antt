@@ -1,0 +1,81 @@
+-- Dependences that are placed well: an independent one runs forward, a carried one has both points inside its loop. The order
+-- of a carried one's two points plays no part.
+-- Main definition: `Fits`. Main statements: `dep-fits`, `deps-fit`.
+use mathlib.Core.Path.{_≡_, refl, sym, ap, _∙_}
+use mathlib.Core.Bool.{Bool, true, false, _&&_, _||_, not}
+use mathlib.Core.List.{List, [], _∷_}
+use mathlib.Core.Logic.{_⊎_, inl, inr, ⊎-elim}
+use Prim.Native.Nat.{ℕ, zero, suc, _≤_, _<_}
+use native.Mathlib.Omega.{arith}
+use lib.Dec.{eqb, ltb, leb}
+use lib.ListN.{length, getD}
+use borrow.Author.Tests.{ltb-true, leb-true, eqb-true}
+use Rattle.laws.specs.Choice.{pick}
+use Rattle.laws.proofs.Tests.{and-true, or-true, never-both}
+use Rattle.nests.specs.Kinds.{STATEMENT, DO, ENDDO, INDEPENDENT, CARRIED}
+use Rattle.nests.specs.Nests.{Dep}
+use Rattle.nests.specs.Loops.{isDo, isEnd, endOf, inLoop}
+use Rattle.nests.specs.Valid.{isSource, isTarget, namesPoints, runsRight, isDep, areDeps}
+
+-- an independent dependence
+pub record Line (ps : List ℕ) (e : Dep) : Type 0 where
+  pub kind-is : e .kind ≡ INDEPENDENT
+  pub forward : e .s < e .t
+  pub target-there : e .t < length ps
+
+-- a carried dependence
+pub record Back (ps : List ℕ) (e : Dep) : Type 0 where
+  pub kind-is : e .kind ≡ CARRIED
+  pub loop : isDo ps (e .d) ≡ true
+  pub source-after : e .d < e .s
+  pub source-before : e .s < endOf ps (e .d)
+  pub target-after : e .d < e .t
+  pub target-before : e .t < endOf ps (e .d)
+
+abbrev pub Fits : List ℕ → Dep → Type 0
+Fits ps e = Line ps e ⊎ Back ps e
+
+in-loop : (ps : List ℕ) (d p : ℕ) → inLoop ps d p ≡ true → (d < p) × (p < endOf ps d)
+in-loop ps d p h =
+    let z = and-true (ltb d p) (ltb p (endOf ps d)) h in
+    (ltb-true d p (z .0), ltb-true p (endOf ps d) (z .1))
+
+module _ (ps : List ℕ) (e : Dep) (names : namesPoints ps e ≡ true) (right : runsRight ps e ≡ true) where
+  target-there : e .t < length ps
+  target-there =
+      let a = and-true (isSource ps (e .s)) (isTarget ps (e .t) && (not (eqb (e .kind) CARRIED) || isDo ps (e .d))) names in
+      let b = and-true (isTarget ps (e .t)) (not (eqb (e .kind) CARRIED) || isDo ps (e .d)) (a .1) in
+      let c = and-true (ltb (e .t) (length ps)) (eqb (getD ps (e .t) 0) STATEMENT || eqb (getD ps (e .t) 0) ENDDO) (b .0) in
+      ltb-true (e .t) (length ps) (c .0)
+
+  line-fits : e .kind ≡ INDEPENDENT → Line ps e
+  line-fits k = record { kind-is = k; forward = ltb-true (e .s) (e .t) (rw k at right); target-there = target-there }
+
+  back-fits : e .kind ≡ CARRIED → Back ps e
+  back-fits k =
+      let a = and-true (isSource ps (e .s)) (isTarget ps (e .t) && (not (eqb (e .kind) CARRIED) || isDo ps (e .d))) names in
+      let b = and-true (isTarget ps (e .t)) (not (eqb (e .kind) CARRIED) || isDo ps (e .d)) (a .1) in
+      let c : (leb (e .t) (e .s) && (inLoop ps (e .d) (e .s) && inLoop ps (e .d) (e .t))) ≡ true = rw k at right in
+      let f = and-true (leb (e .t) (e .s)) (inLoop ps (e .d) (e .s) && inLoop ps (e .d) (e .t)) c in
+      let g = and-true (inLoop ps (e .d) (e .s)) (inLoop ps (e .d) (e .t)) (f .1) in
+      let s = in-loop ps (e .d) (e .s) (g .0) in
+      let t = in-loop ps (e .d) (e .t) (g .1) in
+      record {
+        kind-is = k;
+        loop = rw k at (b .1);
+        source-after = s .0;
+        source-before = s .1;
+        target-after = t .0;
+        target-before = t .1;
+      }
+
+pub dep-fits : (ps : List ℕ) (e : Dep) → isDep ps e ≡ true → Fits ps e
+dep-fits ps e h =
+    let a = and-true ((eqb (e .kind) INDEPENDENT && eqb (e .d) 0) || eqb (e .kind) CARRIED) (namesPoints ps e && runsRight ps e) h in
+    let b = and-true (namesPoints ps e) (runsRight ps e) (a .1) in
+    ⊎-elim
+    (λ (z : (eqb (e .kind) INDEPENDENT && eqb (e .d) 0) ≡ true).
+    let k = and-true (eqb (e .kind) INDEPENDENT) (eqb (e .d) 0) z in
+    inl (line-fits ps e (b .0) (b .1) (eqb-true (e .kind) INDEPENDENT (k .0))))
+    (λ (z : eqb (e .kind) CARRIED ≡ true). inr (back-fits ps e (b .0) (b .1) (eqb-true (e .kind) CARRIED z)))
+    (or-true (eqb (e .kind) INDEPENDENT && eqb (e .d) 0) (eqb (e .kind) CARRIED) (a .0))

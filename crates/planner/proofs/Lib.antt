@@ -1,0 +1,8 @@
+-- The planner's theorem.
+pub mod World
+pub mod Counts
+pub mod Claim
+pub mod Walk
+pub mod Exchange
+pub mod Choices
+mod Trial

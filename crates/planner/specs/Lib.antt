@@ -1,0 +1,2 @@
+-- The planner's definitions: sweeps from right to left, and the tables they make.
+pub mod Sweep
