@@ -17,7 +17,7 @@ use Rattle.lines.specs.declared.Frame.{Frame}
 use Rattle.lines.specs.declared.Read.{Read}
 use Rattle.lines.specs.declared.Read.the-variants as RV
 use Rattle.lines.specs.Lines.{FEED, Line, line, push, linesOf, isGood, isDigits, frameOf}
-use Rattle.lines.specs.Reading.{takeLine, hasFeed, frame, answerOf, lineAt}
+use Rattle.lines.specs.Reading.{takeLine, hasFeed, frame, IsFrame, answerOf, lineAt}
 use Rattle.lines.proofs.Digits.{digits-two, frame-length}
 
 -- the lines of a text without its first
@@ -163,11 +163,7 @@ pub record Good-line (s : List ℕ) (at : ℕ) (f : Frame) : Type 0 where
   pub first : Line
   pub lines : linesOf (drop at s) ≡ first ∷ linesOf (drop (f .next) s)
   pub good : isGood first ≡ true
-  pub kind : f .kind ≡ getD (frameOf (first .bytes)) 0 0
-  pub len : f .len ≡ length (frameOf (first .bytes))
-  pub a : f .a ≡ getD (frameOf (first .bytes)) 1 0
-  pub b : f .b ≡ getD (frameOf (first .bytes)) 2 0
-  pub c : f .c ≡ getD (frameOf (first .bytes)) 3 0
+  pub frame-is : IsFrame f (frameOf (first .bytes))
   pub on : at + 3 ≤ f .next
   pub inside : f .next ≤ length s
 
@@ -217,17 +213,22 @@ frame-line s at f i g e =
     let shorter : length (takeLine u) < length u =
     ltb-true (length (takeLine u)) (length u) (sym (feed-inside u) ∙ both .1) in
     let start : at + suc (length (takeLine u)) ≡ f .next = omega arith in
+    let rest : drop (suc (length (takeLine u))) u ≡ drop (f .next) s =
+    drop-drop (suc (length (takeLine u))) at s ∙ ap (λ (n : ℕ). drop n s) start in
     record {
       first = line (takeLine u) (hasFeed u);
       lines =
           lines-first u (omega (arith, length-drop at s))
-          ∙ ap (λ (l : List ℕ). line (takeLine u) (hasFeed u) ∷ linesOf l) (drop-drop (suc (length (takeLine u))) at s ∙ ap (λ (n : ℕ). drop n s) start);
+          ∙ ap (λ (l : List ℕ). line (takeLine u) (hasFeed u) ∷ linesOf l) rest;
       good = g;
-      kind = ap (λ (x : Frame). x .kind) e;
-      len = ap (λ (x : Frame). x .len) e;
-      a = ap (λ (x : Frame). x .a) e;
-      b = ap (λ (x : Frame). x .b) e;
-      c = ap (λ (x : Frame). x .c) e;
+      frame-is =
+          record {
+            kind-is = ap (λ (x : Frame). x .kind) e;
+            len-is = ap (λ (x : Frame). x .len) e;
+            a-is = ap (λ (x : Frame). x .a) e;
+            b-is = ap (λ (x : Frame). x .b) e;
+            c-is = ap (λ (x : Frame). x .c) e;
+          };
       on = omega arith;
       inside = omega (arith, length-drop at s);
     }

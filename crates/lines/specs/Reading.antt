@@ -1,5 +1,6 @@
 -- One line at a place of a text: what the line reader answers.
--- Main definitions: `takeLine`, `hasFeed`, `frame`, `lineAt`.
+-- Main definitions: `takeLine`, `hasFeed`, `frame`, `IsFrame`, `lineAt`.
+use mathlib.Core.Path.{_≡_}
 use mathlib.Core.Bool.{Bool, true, false, _||_}
 use mathlib.Core.List.{List, [], _∷_}
 use Prim.Native.Nat.{ℕ, _+_}
@@ -25,6 +26,14 @@ hasFeed (b ∷ s) = eqb b FEED || hasFeed s
 abbrev pub frame : List ℕ → ℕ → Frame
 frame f n =
     record { kind = getD f 0 0; len = length f; a = getD f 1 0; b = getD f 2 0; c = getD f 3 0; next = n }
+
+-- the same as a fact of a frame that the reader handed on
+pub record IsFrame (x : Frame) (f : List ℕ) : Type 0 where
+  pub kind-is : x .kind ≡ getD f 0 0
+  pub len-is : x .len ≡ length f
+  pub a-is : x .a ≡ getD f 1 0
+  pub b-is : x .b ≡ getD f 2 0
+  pub c-is : x .c ≡ getD f 3 0
 
 -- 01, "Text": a line is either one frame or one refusal; the first of the lines that start at the place
 abbrev pub answerOf : ℕ → List Line → Read
