@@ -1,1 +1,4 @@
 -- Laws of texts.
+pub mod Faults
+pub mod Frames
+pub mod Loading
