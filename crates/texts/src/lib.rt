@@ -5,8 +5,18 @@ ghost use lib.ListN.{length, take};
 ghost use Rattle.nests.specs.Stored.{nestIn, IsCounted};
 ghost use Rattle.texts.specs.Reads.{IsRead, RefusedAs, EndedAs, closedBy, misplacedBy, tooManyBy, PointFault};
 ghost use Rattle.texts.specs.Reads.{DependenceFault, FrameFault, IsDependence, HasRoom, FrameAdded};
-use lines::{Frame, Read, read_line};
-use nests::{CARRIED, DO, Dependence, ENDDO, INDEPENDENT, Nest, STATEMENT, deeper, dep_fault};
+use lines::Frame;
+use lines::Read;
+use lines::read_line;
+use nests::CARRIED;
+use nests::DO;
+use nests::Dependence;
+use nests::ENDDO;
+use nests::INDEPENDENT;
+use nests::Nest;
+use nests::STATEMENT;
+use nests::deeper;
+use nests::dep_fault;
 
 // A nest text's reading: the number and the line of its refusal, 0 and 0 for none, and the nest.
 pub struct Reading {

@@ -25,19 +25,21 @@ is-too-many-requires c κs = search needs
 
 returns-3 : tie.Need-returns-3
 returns-3 c n h =
-    rw
-    (point-is n (c .before .before .before .before .before .args .count) (c .before .before .before .before .before .args .many) (c .before .before .before .before .before .args .depth) h (c .before .before .before .before .before .args .kind),
-    lt-leb 1 (c .before .before .before .before .before .args .many) (c .before .before .before .before .if1 .left),
-    sym (c .before .before .before .is-misplaced .ensures) ∙ c .before .before .if2 .left,
-    sym (c .before .is-too-many .ensures) ∙ c .if3 .taken)
+    rw (
+      point-is n (c .before .before .before .before .before .args .count) (c .before .before .before .before .before .args .many) (c .before .before .before .before .before .args .depth) h (c .before .before .before .before .before .args .kind),
+      lt-leb 1 (c .before .before .before .before .before .args .many) (c .before .before .before .before .if1 .left),
+      sym (c .before .before .before .is-misplaced .ensures) ∙ c .before .before .if2 .left,
+      sym (c .before .is-too-many .ensures) ∙ c .if3 .taken,
+    )
 
 returns-4 : tie.Need-returns-4
 returns-4 c n h =
-    rw
-    (point-is n (c .before .before .before .before .before .args .count) (c .before .before .before .before .before .args .many) (c .before .before .before .before .before .args .depth) h (c .before .before .before .before .before .args .kind),
-    lt-leb 1 (c .before .before .before .before .before .args .many) (c .before .before .before .before .if1 .left),
-    sym (c .before .before .before .is-misplaced .ensures) ∙ c .before .before .if2 .left,
-    sym (c .before .is-too-many .ensures) ∙ c .if3 .left)
+    rw (
+      point-is n (c .before .before .before .before .before .args .count) (c .before .before .before .before .before .args .many) (c .before .before .before .before .before .args .depth) h (c .before .before .before .before .before .args .kind),
+      lt-leb 1 (c .before .before .before .before .before .args .many) (c .before .before .before .before .if1 .left),
+      sym (c .before .before .before .is-misplaced .ensures) ∙ c .before .before .if2 .left,
+      sym (c .before .is-too-many .ensures) ∙ c .if3 .left,
+    )
 
 pub point-fault-spec : {M : Type 1} → statement M
 point-fault-spec =
