@@ -1,1 +1,3 @@
 -- Laws of placements.
+pub mod Words
+pub mod Lowest

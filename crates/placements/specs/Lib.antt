@@ -1,4 +1,5 @@
 -- Placements: cuts, counts, cost trees, keys.
 pub mod Placements
+pub mod Words
 pub mod Trees
 pub mod Keys
