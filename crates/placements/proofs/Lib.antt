@@ -1,3 +1,4 @@
 -- Laws of placements.
 pub mod Words
+pub mod Rising
 pub mod Lowest
