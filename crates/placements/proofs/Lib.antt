@@ -2,3 +2,4 @@
 pub mod Words
 pub mod Rising
 pub mod Lowest
+pub mod Cuts
