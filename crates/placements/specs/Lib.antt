@@ -1,4 +1,6 @@
--- Placements: cuts, counts, cost trees, keys.
+-- Placements: cuts, counts, cost trees, keys; placements as words.
 pub mod Placements
+pub mod Words
+pub mod Answers
 pub mod Trees
 pub mod Keys
