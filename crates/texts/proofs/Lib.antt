@@ -2,3 +2,5 @@
 pub mod Faults
 pub mod Frames
 pub mod Loading
+pub mod Barriers
+pub mod Placing

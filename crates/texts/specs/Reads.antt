@@ -1,8 +1,8 @@
 -- What the readers of whole texts promise, and what their steps promise of the nest so far.
--- Main definitions: `IsRead`, `HasNumbers`, `PointFault`, `DependenceFault`, `FrameFault`, `FrameAdded`.
+-- Main definitions: `IsRead`, `IsPlaced`, `HasNumbers`, `PointFault`, `DependenceFault`, `FrameFault`, `FrameAdded`.
 use mathlib.Core.Path.{_≡_}
 use mathlib.Core.Bool.{Bool, true, false, _&&_, _||_, not}
-use mathlib.Core.List.{List}
+use mathlib.Core.List.{List, []}
 use Prim.Native.Nat.{ℕ, _≤_, _<_}
 use lib.Dec.{eqb, leb}
 use lib.ListN.{length, take}
@@ -15,8 +15,11 @@ use Rattle.nests.specs.declared.Dependence.{Dependence}
 use Rattle.nests.specs.declared.Nest as DN
 use Rattle.lines.specs.declared.Frame.{Frame}
 use Rattle.lines.specs.Reading.{IsFrame}
+use Rattle.placements.specs.Words.{gapsIn}
 use Rattle.texts.specs.declared.Reading.{Reading}
+use Rattle.texts.specs.declared.PlacementReading.{PlacementReading}
 use Rattle.texts.specs.NestTexts.{isPoint, depOf, pointFault, dependenceFault, frameFault, withFrame, got, readNest}
+use Rattle.texts.specs.PlacementTexts.{barrierFault, placed, readPlacement}
 
 -- the reading of a nest text: its number and line, and the nest, which is empty where the text is refused
 pub record IsRead (s : List ℕ) (r : Reading) : Type 0 where
@@ -75,3 +78,15 @@ pub record HasRoom (n : DN.Nest) (f : Frame) : Type 0 where
 pub record FrameAdded (n : DN.Nest) (f : Frame) (r : DN.Nest) : Type 0 where
   pub nest-is : (l : List ℕ) → IsFrame f l → nestIn r ≡ withFrame (nestIn n) l
   pub counted : IsCounted r
+
+-- the reading of a placement text: its number and line, and the gaps, of which there is none where the text is refused
+pub record IsPlaced (n : ℕ) (s : List ℕ) (r : PlacementReading) : Type 0 where
+  pub placed-is : placed (r .number) (r .line) (gapsIn (r .placement .words)) ≡ readPlacement n s
+
+-- the reading of a refused placement text
+pub record UnplacedAs (number line : ℕ) (r : PlacementReading) : Type 0 where
+  pub placed-is : placed (r .number) (r .line) (gapsIn (r .placement .words)) ≡ placed number line []
+
+-- r is the refusal of a barrier after the gap `last`, of a nest with n points
+abbrev pub BarrierFault : ℕ → ℕ → Frame → ℕ → Type 0
+BarrierFault last n f r = (l : List ℕ) → IsFrame f l → r ≡ barrierFault last n l

@@ -5,6 +5,7 @@ ghost use lib.ListN.{length, take};
 ghost use Rattle.nests.specs.Stored.{nestIn, IsCounted};
 ghost use Rattle.texts.specs.Reads.{IsRead, RefusedAs, EndedAs, closedBy, misplacedBy, tooManyBy, PointFault};
 ghost use Rattle.texts.specs.Reads.{DependenceFault, FrameFault, IsDependence, HasRoom, FrameAdded};
+ghost use Rattle.texts.specs.Reads.{IsPlaced, UnplacedAs, BarrierFault};
 use lines::Frame;
 use lines::Read;
 use lines::read_line;
@@ -17,6 +18,7 @@ use nests::Nest;
 use nests::STATEMENT;
 use nests::deeper;
 use nests::dep_fault;
+use placements::Placement;
 
 // A nest text's reading: the number and the line of its refusal, 0 and 0 for none, and the nest.
 pub struct Reading {
@@ -24,6 +26,16 @@ pub struct Reading {
     pub line: usize,
     pub nest: Nest,
 }
+
+// A placement text's reading: the number and the line of its refusal, 0 and 0 for none, and the placement.
+pub struct PlacementReading {
+    pub number: u8,
+    pub line: usize,
+    pub placement: Placement,
+}
+
+// The kind of barriers.
+pub const BARRIER: u8 = 33;
 
 // Reads a nest text up to its first faulty line.
 pub fn read_nest(text: &[u8]) -> Reading
@@ -54,7 +66,38 @@ pub fn read_nest(text: &[u8]) -> Reading
     }
 }
 
-// The reading of a refused text.
+// Reads a placement text, for a nest with so many points, up to its first faulty line.
+pub fn read_placement(points: usize, text: &[u8]) -> PlacementReading
+    ensures { λ r. ⌜ IsPlaced points (now (text .entry)) r ⌝ }
+{
+    let mut placement = Placement::empty();
+    let mut last: usize = 0;
+    let mut at: usize = 0;
+    let mut line: usize = 1;
+    loop {
+        let next = read_line(text, at);
+        match next {
+            Read::End => return PlacementReading {
+                number: 0,
+                line: 0,
+                placement: placement,
+            },
+            Read::Refused(number) => return unplaced(number, line),
+            Read::Frame(f) => {
+                let number = barrier_fault(last, points, f);
+                if number != 0 {
+                    return unplaced(number, line);
+                }
+                last = f.a as usize;
+                placement = placement.put(last);
+                at = f.next;
+                line += 1;
+            }
+        }
+    }
+}
+
+// The reading of a refused nest text.
 fn refused(number: u8, line: usize) -> Reading
     ensures { λ r. ⌜ RefusedAs number line r ⌝ }
 {
@@ -78,6 +121,40 @@ fn ended(nest: Nest, depth: usize, line: usize) -> Reading
         }
     } else {
         refused(4, line)
+    }
+}
+
+// The reading of a refused placement text.
+fn unplaced(number: u8, line: usize) -> PlacementReading
+    ensures { λ r. ⌜ UnplacedAs number line r ⌝ }
+{
+    PlacementReading {
+        number: number,
+        line: line,
+        placement: Placement::empty(),
+    }
+}
+
+// The refusal of a barrier after the gap `last`, 2 or 8, or 0 for none.
+fn barrier_fault(last: usize, points: usize, f: Frame) -> u8
+    ensures { λ r. ⌜ BarrierFault last points f r ⌝ }
+{
+    let kind = f.kind;
+    match kind {
+        BARRIER => {
+            if f.len == 2 {
+                let g = f.a as usize;
+                if g <= last {
+                    return 8;
+                }
+                if points <= g {
+                    return 8;
+                }
+                return 0;
+            }
+            2
+        }
+        _ => 2,
     }
 }
 
