@@ -1,0 +1,2 @@
+-- Lines and frames: how bytes are read and written.
+pub mod Lines

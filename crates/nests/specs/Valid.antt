@@ -1,0 +1,65 @@
+-- When a nest is valid, and numbers 6 and 7 of a dependence.
+-- Main definitions: `isShape`, `depFault`, `isDep`, `isValid`.
+use mathlib.Core.Bool.{Bool, true, false, _&&_, _||_, not}
+use mathlib.Core.List.{List, [], _∷_}
+use Prim.Native.Nat.{ℕ, zero, suc}
+use lib.Dec.{eqb, ltb, leb}
+use lib.ListN.{length, getD}
+use Rattle.laws.specs.Choice.{pick, when, firstOf}
+use Rattle.nests.specs.Kinds.{DO, ENDDO, STATEMENT, INDEPENDENT, CARRIED, POINTS, DEPTH, DEPENDENCES}
+use Rattle.nests.specs.Nests.{Dep, Nest}
+use Rattle.nests.specs.Loops.{isDo, inLoop}
+
+-- the rest of a nest's points at depth d: every loop closes, none deeper than the limit, nothing after the outermost
+abbrev pub closes : ℕ → List ℕ → Bool
+closes zero [] = true
+closes zero (p ∷ ps) = false
+closes (suc d) [] = false
+closes (suc d) (p ∷ ps) =
+    pick
+    (eqb p DO)
+    (ltb (suc d) DEPTH && closes (suc (suc d)) ps)
+    (pick (eqb p ENDDO) (closes d ps) (eqb p STATEMENT && closes (suc d) ps))
+
+-- 01, "The nest and its gaps": point 0 is a DO and its ENDDO is the last point; loops at most 8 deep
+abbrev pub isShape : List ℕ → Bool
+isShape [] = false
+isShape (p ∷ ps) = eqb p DO && closes 1 ps
+
+-- 01, "The nest and its gaps": s is a statement or a DO, t a statement or an ENDDO
+abbrev pub isSource : List ℕ → ℕ → Bool
+isSource ps s = ltb s (length ps) && (eqb (getD ps s 0) STATEMENT || eqb (getD ps s 0) DO)
+
+abbrev pub isTarget : List ℕ → ℕ → Bool
+isTarget ps t = ltb t (length ps) && (eqb (getD ps t 0) STATEMENT || eqb (getD ps t 0) ENDDO)
+
+-- 01, "Numbers from the input", 6: s, t or d names no point, or a point of the wrong sort
+abbrev pub namesPoints : List ℕ → Dep → Bool
+namesPoints ps e = isSource ps (e .s) && (isTarget ps (e .t) && (not (eqb (e .kind) CARRIED) || isDo ps (e .d)))
+
+-- 01, "Numbers from the input", 7: independent with s at or after t; carried with s before t, or a point not inside L
+abbrev pub runsRight : List ℕ → Dep → Bool
+runsRight ps e =
+    pick
+    (eqb (e .kind) CARRIED)
+    (leb (e .t) (e .s) && (inLoop ps (e .d) (e .s) && inLoop ps (e .d) (e .t)))
+    (ltb (e .s) (e .t))
+
+-- 6 or 7, of a dependence of either kind; 0 for none
+abbrev pub depFault : List ℕ → Dep → ℕ
+depFault ps e = firstOf (when (not (namesPoints ps e)) 6) (when (not (runsRight ps e)) 7)
+
+-- a dependence as the paper says; an independent one has no d
+abbrev pub isDep : List ℕ → Dep → Bool
+isDep ps e =
+    ((eqb (e .kind) INDEPENDENT && eqb (e .d) 0) || eqb (e .kind) CARRIED) && (namesPoints ps e && runsRight ps e)
+
+abbrev pub areDeps : List ℕ → List Dep → Bool
+areDeps ps [] = true
+areDeps ps (e ∷ es) = isDep ps e && areDeps ps es
+
+-- a nest that breaks no rule
+abbrev pub isValid : Nest → Bool
+isValid n =
+    isShape (n .points) &&
+    (leb (length (n .points)) POINTS && (leb (length (n .deps)) DEPENDENCES && areDeps (n .points) (n .deps)))

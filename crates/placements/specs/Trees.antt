@@ -1,0 +1,1 @@
+-- Cost trees and the tree order of 001, definition 1.

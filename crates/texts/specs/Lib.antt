@@ -1,0 +1,3 @@
+-- Nest texts and placement texts: how they are read, refused and spelled.
+pub mod NestTexts
+pub mod PlacementTexts
