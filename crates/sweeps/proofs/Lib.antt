@@ -1,1 +1,3 @@
 -- Laws of a sweep over lists.
+pub mod Seek
+pub mod Steps
