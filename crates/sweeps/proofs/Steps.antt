@@ -59,7 +59,8 @@ module _ (need left : List ℕ) (kids l p c f b : ℕ) (found : b ≡ seek (at n
         step-is = λ lay w. step-at lay w ∙ rw (eq-eqb b 0 z, le-ltb c c (omega arith), e, add-one);
         low = omega arith;
         high = λ h. omega arith;
-        grows = omega arith }
+        grows = omega arith;
+      }
 
   pub step-inner : (b ≡ 0 → ⊥) → b ≤ p → 0 < row left kids b → Stepped need left kids l p c f c (row left kids b) b
   unfolding childAt inner
@@ -68,7 +69,8 @@ module _ (need left : List ℕ) (kids l p c f b : ℕ) (found : b ≡ seek (at n
         step-is = λ lay w. step-at lay w ∙ rw (ne-eqb b 0 z, le-leb b p h, lt-ltb 0 (row left kids b) g, le-ltb c c (omega arith));
         low = seek-low (at need) f l (p + 1) b found z;
         high = λ _. h;
-        grows = omega arith }
+        grows = omega arith;
+      }
 
   pub step-outer : (f′ : ℕ) → (b ≡ 0 → ⊥) → (b ≤ p → row left kids b ≤ 0) → f′ ≡ firstOf (row left kids (l + 1)) (p + 1) → Stepped need left kids l p c f (c + 1) f′ (l + 1)
   unfolding childAt outer
@@ -77,9 +79,10 @@ module _ (need left : List ℕ) (kids l p c f b : ℕ) (found : b ≡ seek (at n
         step-is = λ lay w. step-at lay w ∙ rw (ne-eqb b 0 z) (go lay w (leb b p) refl);
         low = omega arith;
         high = λ h. omega arith;
-        grows = omega arith }
+        grows = omega arith;
+      }
     where
       go : (lay : ℕ → ℕ → Bool) (w : ℕ → Bool) (t : Bool) → leb b p ≡ t
-         → pick (t && ltb 0 (row left kids b)) (inner (row left kids) lay b (st c f w)) (outer (row left kids) lay l p (st c f w)) ≡ st (c + 1) f′ (laid (ltb c (c + 1)) p (lay (l + 1)) w)
+          → pick (t && ltb 0 (row left kids b)) (inner (row left kids) lay b (st c f w)) (outer (row left kids) lay l p (st c f w)) ≡ st (c + 1) f′ (laid (ltb c (c + 1)) p (lay (l + 1)) w)
       go lay w true y = rw (le-ltb 0 (row left kids b) (h (borrow.Author.Tests.leb-true b p y)), lt-ltb c (c + 1) (omega arith), e, add-one c, add-one l, add-one p)
       go lay w false y = rw (lt-ltb c (c + 1) (omega arith), e, add-one c, add-one l, add-one p)

@@ -34,9 +34,7 @@ pub fn sweep(
     requires { ⌜ e < length (now need) ⌝ }
     requires { ⌜ kids + e < length (now left) ⌝ }
     requires { ⌜ Low (now own) ⌝ }
-    ensures {
-        λ r. ⌜ SweepSays (now (points .entry)) (now (own .entry)) (now (need .entry)) (now (left .entry)) kids d e (r .c) (r .f) ⌝
-    }
+    ensures { λ r. ⌜ SweepSays (now (points .entry)) (now (own .entry)) (now (need .entry)) (now (left .entry)) kids d e (r .c) (r .f) ⌝ }
 {
     let mut c = 0;
     let mut f = e + 1;
@@ -73,10 +71,8 @@ pub fn step_child(
     requires { ⌜ p + 1 < length (now need) ⌝ }
     requires { ⌜ kids + p + 1 < length (now left) ⌝ }
     requires { ⌜ l ≤ p ⌝ }
-    requires { ⌜ c ≤ p ⌝ }
-    ensures {
-        λ r. ⌜ Stepped (now (need .entry)) (now (left .entry)) kids l p c f (r .c) (r .f) (r .ask) ⌝
-    }
+    requires { ⌜ c < length (now need) ⌝ }
+    ensures { λ r. ⌜ Stepped (now (need .entry)) (now (left .entry)) kids l p c f (r .c) (r .f) (r .ask) ⌝ }
 {
     let b = last_need(need, f, l, p + 1);
     let first = left[kids + (l + 1)];

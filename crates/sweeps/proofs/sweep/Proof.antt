@@ -1,3 +1,9 @@
+use mathlib.Core.Path.{_≡_}
+use mathlib.Core.Bool.{Bool}
+use Prim.Native.Nat.{ℕ, _+_, _-_, _≤_}
+use native.Mathlib.Omega.{arith}
+use lib.ListN.{getD}
+use Rattle.sweeps.proofs.Turns.{Turn, begin, on-put, on-skip, on-child, done}
 use Rattle.sweeps.proofs.sweep.Statement.{statement}
 use Rattle.sweeps.proofs.sweep.Tie as tie
 use Rattle.sweeps.proofs.sweep.Reads as reads
@@ -5,78 +11,90 @@ use Rattle.sweeps.proofs.sweep.Lts as lts
 use Rattle.sweeps.proofs.step_child.Reads as step-child-reads
 
 abbrev Inv-loop : tie.InvT-loop
-Inv-loop points own need left kids d e c₀ f₀ p₀ c f p = ?
+Inv-loop points own need left kids d e c₀ f₀ p₀ c f p =
+    (p ≤ e) × (c + p ≤ e) × ((lay : ℕ → ℕ → ℕ → Bool) → Turn points own need left kids d e lay p c f)
 
 abbrev μ-loop : tie.MeasureT-loop
-μ-loop points own need left kids d e c₀ f₀ p₀ c f p = ?
+μ-loop points own need left kids d e c₀ f₀ p₀ c f p = p
 
--- src/lib.rt:42:17
 add-f : tie.Need-add-f Inv-loop μ-loop
-add-f c = ?
+add-f c = omega arith
 
--- src/lib.rt:44:5
 loop-holds : tie.Need-loop-holds Inv-loop μ-loop
-loop-holds c = ?
+loop-holds c =
+    let i = c .before .before .before .before .args in
+    (omega arith, omega arith, begin (i .points .now) (i .own .now) (i .need .now) (i .left .now) (i .kids) (i .d) (i .e))
 
--- src/lib.rt:45:22
 sub-before : tie.Need-sub-before Inv-loop μ-loop
-sub-before c = ?
+sub-before c = omega arith
 
--- src/lib.rt:46:12
 shared-slice-read-if1 : tie.Need-shared-slice-read-if1 Inv-loop μ-loop
-shared-slice-read-if1 c = ?
+shared-slice-read-if1 c = omega arith
 
--- src/lib.rt:47:21
 mul-l : tie.Need-mul-l Inv-loop μ-loop
-mul-l c = ?
+mul-l c = omega arith
 
--- src/lib.rt:47:21
 shared-slice-read-l : tie.Need-shared-slice-read-l Inv-loop μ-loop
-shared-slice-read-l c = ?
+shared-slice-read-l c = omega arith
 
--- src/lib.rt:48:17
 step-child-requires : tie.Need-step-child-requires Inv-loop μ-loop
-step-child-requires c κs = ?
+step-child-requires c κs =
+    let low = c .before .before .before .before .before .before .before .before .before .pre .1 .1 .1 .1 (c .before .before .before .before .loop .p - 1) in
+    (omega arith, (omega arith, (low, omega arith)))
 
--- src/lib.rt:44:5
 loop-less : tie.Need-loop-less Inv-loop μ-loop
-loop-less c = ?
+loop-less c = omega (arith, c .before .before .before .before .before .before .before .before .before .before .pre .1 .1 .1 .1 (c .before .before .before .before .before .loop .p - 1))
 
--- src/lib.rt:44:5
 loop-again : tie.Need-loop-again Inv-loop μ-loop
-loop-again c = ?
+loop-again c =
+    let i = c .before .before .before .before .before .before .before .before .before .before .args in
+    let l = c .before .before .before .before .before .loop in
+    let s = c .step-child in
+    let low = c .before .before .before .before .before .before .before .before .before .before .pre .1 .1 .1 .1 (l .p - 1) in
+    let test : getD (i .points .now) (l .p - 1) 0 ≡ 2 = c .before .before .if1 .taken in (
+      omega arith,
+      omega (arith, s .ensures .grows),
+      λ lay. on-child (i .points .now) (i .own .now) (i .need .now) (i .left .now) (i .kids) (i .d) (i .e) lay (l .p) (l .c) (l .f) (s .result .c) (s .result .f) (s .result .ask) (omega arith) test low (s .ensures) (l .inv .2 lay),
+    )
 
--- src/lib.rt:53:16
 mul-if2 : tie.Need-mul-if2 Inv-loop μ-loop
-mul-if2 c = ?
+mul-if2 c = omega arith
 
--- src/lib.rt:53:16
 shared-slice-read-if2 : tie.Need-shared-slice-read-if2 Inv-loop μ-loop
-shared-slice-read-if2 c = ?
+shared-slice-read-if2 c = omega arith
 
--- src/lib.rt:54:17
 add-c : tie.Need-add-c Inv-loop μ-loop
-add-c c = ?
+add-c c = omega arith
 
--- src/lib.rt:44:5
 loop-less-2 : tie.Need-loop-less-2 Inv-loop μ-loop
-loop-less-2 c = ?
+loop-less-2 c = omega arith
 
--- src/lib.rt:44:5
 loop-again-2 : tie.Need-loop-again-2 Inv-loop μ-loop
-loop-again-2 c = ?
+loop-again-2 c =
+    let i = c .before .before .before .before .before .before .before .before .before .before .args in
+    let l = c .before .before .before .before .before .loop in (
+      omega arith,
+      omega arith,
+      λ lay. on-put (i .points .now) (i .own .now) (i .need .now) (i .left .now) (i .kids) (i .d) (i .e) lay (l .p) (l .c) (l .f) (omega arith) (c .before .before .if1 .left) (c .if2 .taken) (l .inv .2 lay),
+    )
 
--- src/lib.rt:44:5
 loop-less-3 : tie.Need-loop-less-3 Inv-loop μ-loop
-loop-less-3 c = ?
+loop-less-3 c = omega arith
 
--- src/lib.rt:44:5
 loop-again-3 : tie.Need-loop-again-3 Inv-loop μ-loop
-loop-again-3 c = ?
+loop-again-3 c =
+    let i = c .before .before .before .before .before .before .before .before .before .before .args in
+    let l = c .before .before .before .before .before .loop in (
+      omega arith,
+      omega arith,
+      λ lay. on-skip (i .points .now) (i .own .now) (i .need .now) (i .left .now) (i .kids) (i .d) (i .e) lay (l .p) (l .c) (l .f) (omega arith) (c .before .before .if1 .left) (c .if2 .left) (l .inv .2 lay),
+    )
 
--- src/lib.rt:23:1
 returns : tie.Need-returns Inv-loop μ-loop
-returns c = ?
+returns c =
+    let i = c .before .before .before .before .before .before .args in
+    let l = c .before .loop in
+    λ lay. done (i .points .now) (i .own .now) (i .need .now) (i .left .now) (i .kids) (i .d) (i .e) lay (l .p) (l .c) (l .f) (omega arith) (l .inv .2 lay)
 
 pub sweep-spec : {M : Type 1} → statement M
 sweep-spec =
