@@ -5,4 +5,5 @@ pub mod Claim
 pub mod Walk
 pub mod Exchange
 pub mod Choices
+pub mod Rows
 mod Trial
