@@ -6,4 +6,5 @@ pub mod Walk
 pub mod Exchange
 pub mod Choices
 pub mod Rows
+pub mod Bounds
 mod Trial
