@@ -7,4 +7,5 @@ pub mod Exchange
 pub mod Choices
 pub mod Rows
 pub mod Bounds
+pub mod Alike
 mod Trial
