@@ -8,4 +8,5 @@ pub mod Choices
 pub mod Rows
 pub mod Bounds
 pub mod Alike
+pub mod AlikeRows
 mod Trial
