@@ -9,4 +9,5 @@ pub mod Rows
 pub mod Bounds
 pub mod Alike
 pub mod AlikeRows
+pub mod Tables
 mod Trial
