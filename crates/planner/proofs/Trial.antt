@@ -1,52 +1,70 @@
--- The paper's nest P, computed.
+-- The definitions run: the key and the counts of document 01's papers P, Q and R, computed.
+-- Main statements: `key-P`, `key-Q`, `key-R`.
 use mathlib.Core.Path.{_≡_, refl}
 use mathlib.Core.Bool.{Bool, true, false, _&&_, _||_}
 use mathlib.Core.List.{List, [], _∷_}
 use Prim.Native.Nat.{ℕ, zero, suc}
 use lib.Dec.{eqb, ltb, leb}
 use lib.ListN.{getD}
-use Rattle.laws.specs.Choice.{pick, firstOf, between}
+use Rattle.laws.specs.Choice.{pick, between}
 use Rattle.planner.specs.Sweep
+use Rattle.planner.specs.Plan
 
-abbrev kinds : List ℕ
-kinds = 1 ∷ (1 ∷ (3 ∷ (3 ∷ (3 ∷ (3 ∷ (2 ∷ (1 ∷ (3 ∷ (3 ∷ (3 ∷ (3 ∷ (2 ∷ (2 ∷ [])))))))))))))
+-- loops from the list of kinds, of the ENDDO of each DO, and of the loop of each gap
+abbrev loopsOf : List ℕ → List ℕ → List ℕ → Sweep.Loops
+loopsOf kinds stops owns = record { isDo = λ d. eqb (getD kinds d 0) 1; isEnd = λ p. eqb (getD kinds p 0) 2; stop = λ d. getD stops d 0; own = λ g. getD owns g 0 }
 
-abbrev loops : Sweep.Loops
-loops =
-    record {
-      isDo = λ d. eqb (getD kinds d 0) 1;
-      isEnd = λ p. eqb (getD kinds p 0) 2;
-      stop = λ d. pick (eqb d 0) 13 (pick (eqb d 1) 6 12);
-      own = λ g. pick (between 2 g 6) 1 (pick (between 8 g 12) 7 0);
-    }
+-- the gaps of a placement, the last first
+abbrev gaps : (ℕ → Bool) → ℕ → List ℕ
+gaps x zero = []
+gaps x (suc g) = pick (x (suc g)) (suc g ∷ gaps x g) (gaps x g)
 
-abbrev lines : Sweep.Lines
-lines =
+abbrev loops-P : Sweep.Loops
+loops-P =
+    loopsOf
+    (1 ∷ (1 ∷ (3 ∷ (3 ∷ (3 ∷ (3 ∷ (2 ∷ (1 ∷ (3 ∷ (3 ∷ (3 ∷ (3 ∷ (2 ∷ (2 ∷ []))))))))))))))
+    (13 ∷ (6 ∷ (0 ∷ (0 ∷ (0 ∷ (0 ∷ (0 ∷ (12 ∷ []))))))))
+    (0 ∷ (0 ∷ (1 ∷ (1 ∷ (1 ∷ (1 ∷ (1 ∷ (0 ∷ (7 ∷ (7 ∷ (7 ∷ (7 ∷ (7 ∷ (0 ∷ []))))))))))))))
+
+abbrev lines-P : Sweep.Lines
+lines-P =
     record {
       has = λ d. true;
       reach = λ d a. pick (eqb d 1 && eqb a 3) 5 (pick (eqb d 7 && eqb a 9) 11 (pick (eqb d 0 && eqb a 5) 9 99));
       limit = λ d q. pick (eqb d 1) (pick (ltb q 5) 3 6) (pick (eqb d 7) (pick (ltb q 11) 9 12) (pick (ltb q 11) 2 13));
     }
 
-abbrev none : Sweep.Tables
-none = record { cost = λ d. 0; left = λ d q. 0; choice = λ d q. 0; lay = λ d q. Sweep.bare }
+-- 01 03 01 01 03 03 02 03 02 02 with 11 1 5 (home 0), 12 3 5 4 (home 3), 11 4 7 (home 2)
+abbrev loops-Q : Sweep.Loops
+loops-Q =
+    loopsOf
+    (1 ∷ (3 ∷ (1 ∷ (1 ∷ (3 ∷ (3 ∷ (2 ∷ (3 ∷ (2 ∷ (2 ∷ []))))))))))
+    (9 ∷ (0 ∷ (8 ∷ (6 ∷ []))))
+    (0 ∷ (0 ∷ (0 ∷ (2 ∷ (3 ∷ (3 ∷ (3 ∷ (2 ∷ (2 ∷ (0 ∷ []))))))))))
 
-abbrev add : ℕ → Sweep.Tables → Sweep.Tables
-add d T =
+abbrev lines-Q : Sweep.Lines
+lines-Q =
     record {
-      cost = λ x. pick (eqb x d) (Sweep.costOf loops lines T d) (T .cost x);
-      left = λ x q. pick (eqb x d) (Sweep.leftOf loops lines T d q) (T .left x q);
-      choice = λ x q. pick (eqb x d) (Sweep.choiceOf loops lines T d q) (T .choice x q);
-      lay = λ x q. pick (eqb x d) (Sweep.layOf loops lines T d q) (T .lay x q);
+      has = λ d. true;
+      reach = λ d a. pick (eqb d 0 && eqb a 2) 5 (pick (eqb d 2 && eqb a 5) 7 99);
+      limit = λ d q. pick (eqb d 3) (pick (ltb q 6) 4 6) (pick (eqb d 2) 8 9);
     }
 
-abbrev table : Sweep.Tables
-table = add 0 (add 1 (add 7 none))
+-- 01, six times 03, 02 with 11 1 4, 11 3 6, 12 0 5 2
+abbrev loops-R : Sweep.Loops
+loops-R = loopsOf (1 ∷ (3 ∷ (3 ∷ (3 ∷ (3 ∷ (3 ∷ (3 ∷ (2 ∷ [])))))))) (7 ∷ []) []
 
-abbrev gaps : (ℕ → Bool) → ℕ → List ℕ
-gaps x zero = []
-gaps x (suc g) = pick (x (suc g)) (suc g ∷ gaps x g) (gaps x g)
+abbrev lines-R : Sweep.Lines
+lines-R = record { has = λ d. true; reach = λ d a. pick (eqb a 2) 4 (pick (eqb a 4) 6 99); limit = λ d q. pick (ltb q 6) 2 7 }
 
-key : gaps (table .lay 0 1) 13 ≡ (11 ∷ (5 ∷ []))
-unfolding Sweep.needOf Sweep.put Sweep.stepPlain Sweep.seek Sweep.free Sweep.inner Sweep.outer Sweep.childAt Sweep.stepChild Sweep.next Sweep.step Sweep.walk Sweep.sweep Sweep.close Sweep.value Sweep.least Sweep.better Sweep.best Sweep.childSome Sweep.someOf Sweep.costOf Sweep.frontOf Sweep.leftOf Sweep.choiceOf Sweep.layOf
-key = refl
+key-P : gaps (Plan.keyOf loops-P lines-P 14) 13 ≡ 11 ∷ (5 ∷ [])
+unfolding Plan.keyOf Plan.tableOf Plan.tableFrom Plan.withRow Plan.noTables Sweep.needOf Sweep.put Sweep.stepPlain Sweep.seek Sweep.free Sweep.inner Sweep.outer Sweep.childAt Sweep.stepChild Sweep.next Sweep.step Sweep.walk Sweep.sweep Sweep.close Sweep.value Sweep.least Sweep.better Sweep.best Sweep.childSome Sweep.someOf Sweep.costOf Sweep.frontOf Sweep.leftOf Sweep.choiceOf Sweep.layOf
+key-P = refl
+
+key-Q : gaps (Plan.keyOf loops-Q lines-Q 10) 9 ≡ 6 ∷ (2 ∷ [])
+unfolding Plan.keyOf Plan.tableOf Plan.tableFrom Plan.withRow Plan.noTables Sweep.needOf Sweep.put Sweep.stepPlain Sweep.seek Sweep.free Sweep.inner Sweep.outer Sweep.childAt Sweep.stepChild Sweep.next Sweep.step Sweep.walk Sweep.sweep Sweep.close Sweep.value Sweep.least Sweep.better Sweep.best Sweep.childSome Sweep.someOf Sweep.costOf Sweep.frontOf Sweep.leftOf Sweep.choiceOf Sweep.layOf
+key-Q = refl
+
+key-R : gaps (Plan.keyOf loops-R lines-R 8) 7 ≡ 4 ∷ (1 ∷ [])
+unfolding Plan.keyOf Plan.tableOf Plan.tableFrom Plan.withRow Plan.noTables Sweep.needOf Sweep.put Sweep.stepPlain Sweep.seek Sweep.free Sweep.inner Sweep.outer Sweep.childAt Sweep.stepChild Sweep.next Sweep.step Sweep.walk Sweep.sweep Sweep.close Sweep.value Sweep.least Sweep.better Sweep.best Sweep.childSome Sweep.someOf Sweep.costOf Sweep.frontOf Sweep.leftOf Sweep.choiceOf Sweep.layOf
+key-R = refl
