@@ -48,7 +48,8 @@ pub record Swept (ps own need left : List ℕ) (kids d e c f : ℕ) (lay : ℕ �
   pub f-is : f ≡ sweepOf ps own need left kids lay d e .f
 
 abbrev pub SweepSays : List ℕ → List ℕ → List ℕ → List ℕ → ℕ → ℕ → ℕ → ℕ → ℕ → Type 0
-SweepSays ps own need left kids d e c f = (lay : ℕ → ℕ → ℕ → Bool) → Swept ps own need left kids d e c f lay
+SweepSays ps own need left kids d e c f =
+    (c ≤ e) × ((lay : ℕ → ℕ → ℕ → Bool) → Swept ps own need left kids d e c f lay)
 
 -- no loop starts after its ENDDO
 abbrev pub Low : List ℕ → Type 0
