@@ -93,9 +93,10 @@ loop-again-3 c =
 returns : tie.Need-returns Inv-loop μ-loop
 returns c =
     let i = c .before .before .before .before .before .before .args in
-    let l = c .before .loop in
-    (omega arith,
-    λ lay. done (i .points .now) (i .own .now) (i .need .now) (i .left .now) (i .kids) (i .d) (i .e) lay (l .p) (l .c) (l .f) (omega arith) (l .inv .2 lay))
+    let l = c .before .loop in (
+      omega arith,
+      λ lay. done (i .points .now) (i .own .now) (i .need .now) (i .left .now) (i .kids) (i .d) (i .e) lay (l .p) (l .c) (l .f) (omega arith) (l .inv .2 lay),
+    )
 
 pub sweep-spec : {M : Type 1} → statement M
 sweep-spec =
