@@ -11,11 +11,12 @@ use lib.Dec.{eqb, ltb, leb}
 use lib.ListN.{length, getD}
 use borrow.Author.Tests.{ltb-true, leb-true, eqb-true}
 use Rattle.laws.specs.Choice.{pick}
+use Rattle.laws.specs.Members.{Among}
 use Rattle.laws.proofs.Tests.{and-true, or-true, never-both}
-use Rattle.nests.specs.Kinds.{STATEMENT, DO, ENDDO, INDEPENDENT, CARRIED}
-use Rattle.nests.specs.Nests.{Dep}
+use Rattle.nests.specs.Kinds.{STATEMENT, DO, ENDDO, INDEPENDENT, CARRIED, POINTS, DEPENDENCES}
+use Rattle.nests.specs.Nests.{Dep, Nest}
 use Rattle.nests.specs.Loops.{isDo, isEnd, endOf, inLoop}
-use Rattle.nests.specs.Valid.{isSource, isTarget, namesPoints, runsRight, isDep, areDeps}
+use Rattle.nests.specs.Valid.{isSource, isTarget, namesPoints, runsRight, isDep, areDeps, isShape, isValid}
 
 -- an independent dependence
 pub record Line (ps : List ℕ) (e : Dep) : Type 0 where
@@ -79,3 +80,23 @@ dep-fits ps e h =
     inl (line-fits ps e (b .0) (b .1) (eqb-true (e .kind) INDEPENDENT (k .0))))
     (λ (z : eqb (e .kind) CARRIED ≡ true). inr (back-fits ps e (b .0) (b .1) (eqb-true (e .kind) CARRIED z)))
     (or-true (eqb (e .kind) INDEPENDENT && eqb (e .d) 0) (eqb (e .kind) CARRIED) (a .0))
+
+abbrev sizes : Nest → Bool
+sizes n =
+    leb (length (n .points)) POINTS && (leb (length (n .deps)) DEPENDENCES && areDeps (n .points) (n .deps))
+
+pub deps-fit : (ps : List ℕ) (ds : List Dep) → areDeps ps ds ≡ true → (e : Dep) → Among e ds → Fits ps e
+deps-fit ps [] h e a = absurd a
+deps-fit ps (x ∷ xs) h e a =
+    let z = and-true (isDep ps x) (areDeps ps xs) h in
+    ⊎-elim (λ (q : e ≡ x). rw q (dep-fits ps x (z .0))) (λ (q : Among e xs). deps-fit ps xs (z .1) e q) a
+
+-- a valid nest is well shaped, and its dependences are as the paper says
+pub valid-shape : (n : Nest) → isValid n ≡ true → isShape (n .points) ≡ true
+valid-shape n h = and-true (isShape (n .points)) (sizes n) h .0
+
+pub valid-deps : (n : Nest) → isValid n ≡ true → areDeps (n .points) (n .deps) ≡ true
+valid-deps n h = 
+    let a = and-true (isShape (n .points)) (sizes n) h in
+    let b = and-true (leb (length (n .points)) POINTS) (leb (length (n .deps)) DEPENDENCES && areDeps (n .points) (n .deps)) (a .1) in
+    and-true (leb (length (n .deps)) DEPENDENCES) (areDeps (n .points) (n .deps)) (b .1) .1

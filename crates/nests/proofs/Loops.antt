@@ -123,6 +123,19 @@ owner-later ps k g h e o =
             let c′ : g ≤ endOf ps k = rw z at c in
             never-both (and-intro a′ (le-leb g (endOf ps k) c′)) e
 
+-- the search stays below its bound
+pub owner-from-below : (ps : List ℕ) (k g : ℕ) → ownerFrom (suc k) g ps ≤ k
+owner-from-below ps zero g = go (isDo ps 0 && leb g (endOf ps 0))
+  where
+    go : (t : Bool) → elim t [ true ↦ 0 | false ↦ 0 ] ≤ 0
+    go true = omega arith
+    go false = omega arith
+owner-from-below ps (suc k) g = go (isDo ps (suc k) && leb g (endOf ps (suc k))) (owner-from-below ps k g)
+  where
+    go : (t : Bool) → ownerFrom (suc k) g ps ≤ k → elim t [ true ↦ suc k | false ↦ ownerFrom (suc k) g ps ] ≤ suc k
+    go true h = omega arith
+    go false h = omega arith
+
 -- two of them are the same loop
 pub owner-unique : {ps : List ℕ} {k g h x : ℕ} → Owner ps k g h → Owner ps k g x → h ≡ x
 owner-unique {ps} {k} {g} {h} {x} o p =

@@ -1,5 +1,6 @@
 -- The planner's theorem.
 pub mod World
+pub mod Instance
 pub mod Counts
 pub mod Claim
 pub mod Walk
