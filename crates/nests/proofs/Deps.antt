@@ -10,12 +10,14 @@ use native.Mathlib.Omega.{arith}
 use lib.Dec.{eqb, ltb, leb}
 use lib.ListN.{length, getD}
 use borrow.Author.Tests.{ltb-true, leb-true, eqb-true}
-use Rattle.laws.specs.Choice.{pick}
+use Rattle.laws.specs.Choice.{pick, between}
 use Rattle.laws.specs.Members.{Among}
-use Rattle.laws.proofs.Tests.{and-true, or-true, never-both}
+use Rattle.laws.proofs.Ranges.{in-between, between-in}
+use Rattle.laws.proofs.Tests.{and-true, or-true, or-left, or-right}
 use Rattle.nests.specs.Kinds.{STATEMENT, DO, ENDDO, INDEPENDENT, CARRIED, POINTS, DEPENDENCES}
 use Rattle.nests.specs.Nests.{Dep, Nest}
 use Rattle.nests.specs.Loops.{isDo, isEnd, endOf, inLoop}
+use Rattle.nests.specs.Gaps.{hasGap}
 use Rattle.nests.specs.Valid.{isSource, isTarget, namesPoints, runsRight, isDep, areDeps, isShape, isValid}
 
 -- an independent dependence
@@ -100,3 +102,33 @@ valid-deps n h =
     let a = and-true (isShape (n .points)) (sizes n) h in
     let b = and-true (leb (length (n .points)) POINTS) (leb (length (n .deps)) DEPENDENCES && areDeps (n .points) (n .deps)) (a .1) in
     and-true (leb (length (n .deps)) DEPENDENCES) (areDeps (n .points) (n .deps)) (b .1) .1
+
+-- the gaps of a well placed dependence, as facts
+pub line-gap : (ps : List ℕ) (e : Dep) (g : ℕ) → e .kind ≡ INDEPENDENT → hasGap ps e g ≡ true → (e .s < g) × (g ≤ e .t)
+line-gap ps e g k h = in-between (suc (e .s)) g (e .t) (rw k at h)
+
+pub gap-of-line : (ps : List ℕ) (e : Dep) (g : ℕ) → e .kind ≡ INDEPENDENT → e .s < g → g ≤ e .t → hasGap ps e g ≡ true
+gap-of-line ps e g k p q = rw k (between-in (suc (e .s)) g (e .t) p q)
+
+pub back-gap :
+    (ps : List ℕ) (e : Dep) (g : ℕ) → e .kind ≡ CARRIED → hasGap ps e g ≡ true →
+    ((e .d < g) × (g ≤ e .t)) ⊎ ((e .s < g) × (g ≤ endOf ps (e .d)))
+back-gap ps e g k h = ⊎-elim
+    (λ (z : between (suc (e .d)) g (e .t) ≡ true). inl (in-between (suc (e .d)) g (e .t) z))
+    (λ (z : between (suc (e .s)) g (endOf ps (e .d)) ≡ true). inr (in-between (suc (e .s)) g (endOf ps (e .d)) z))
+    (or-true (between (suc (e .d)) g (e .t)) (between (suc (e .s)) g (endOf ps (e .d))) (rw k at h))
+
+pub gap-before-target :
+    (ps : List ℕ) (e : Dep) (g : ℕ) → e .kind ≡ CARRIED → e .d < g → g ≤ e .t → hasGap ps e g ≡ true
+gap-before-target ps e g k p q =
+    rw k (or-left (between (suc (e .s)) g (endOf ps (e .d))) (between-in (suc (e .d)) g (e .t) p q))
+
+pub gap-after-source :
+    (ps : List ℕ) (e : Dep) (g : ℕ) → e .kind ≡ CARRIED → e .s < g → g ≤ endOf ps (e .d) → hasGap ps e g ≡ true
+gap-after-source ps e g k p q =
+    rw k (or-right (between (suc (e .d)) g (e .t)) (between-in (suc (e .s)) g (endOf ps (e .d)) p q))
+
+-- each has the gap before its target
+pub target-gap : (ps : List ℕ) (e : Dep) → Fits ps e → hasGap ps e (e .t) ≡ true
+target-gap ps e (inl l) = gap-of-line ps e (e .t) (l .kind-is) (l .forward) (omega arith)
+target-gap ps e (inr b) = gap-before-target ps e (e .t) (b .kind-is) (b .target-after) (omega arith)

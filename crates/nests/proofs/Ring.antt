@@ -13,6 +13,7 @@ use lib.Dec.{eqb, ltb, leb}
 use lib.ListN.{length, getD}
 use borrow.Author.Tests.{ltb-true, lt-ltb, le-ltb, leb-true, le-leb, eqb-true, eq-eqb}
 use Rattle.laws.specs.Choice.{pick, between, isIn}
+use Rattle.laws.proofs.Ranges.{in-between, between-in}
 use Rattle.laws.proofs.Tests.{never, never-both, le-or, eq-or, and-true, and-intro, or-true, or-left, or-right, bool-by}
 use Rattle.nests.specs.Kinds.{INDEPENDENT, DO}
 use Rattle.nests.specs.Nests.{Dep}
@@ -22,14 +23,6 @@ use Rattle.nests.specs.Valid.{isShape, isDep}
 use Rattle.nests.specs.Ring.{noDo, oneLoop, nextGap, runOf, Interval}
 use Rattle.nests.proofs.Loops.{outermost, end-there}
 use Rattle.nests.proofs.Deps.{Line, Back, Fits, dep-fits}
-
-pub in-between : (a x b : ℕ) → between a x b ≡ true → (a ≤ x) × (x ≤ b)
-in-between a x b h =
-    let z = and-true (leb a x) (leb x b) h in
-    (leb-true a x (z .0), leb-true x b (z .1))
-
-pub between-in : (a x b : ℕ) → a ≤ x → x ≤ b → between a x b ≡ true
-between-in a x b p q = and-intro (le-leb a x p) (le-leb x b q)
 
 next-up : (m g : ℕ) → g < m → nextGap m g ≡ suc g
 next-up m g l = rw (lt-ltb g m l)

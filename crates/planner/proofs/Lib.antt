@@ -1,6 +1,7 @@
 -- The planner's theorem.
 pub mod World
 pub mod Instance
+pub mod Cuts
 pub mod Counts
 pub mod Claim
 pub mod Walk
