@@ -1,17 +1,17 @@
 -- Levels: the depth after some points, and what a well shaped list of points says of it.
 -- Main definition: `lev`. Main statements: `lev-step`, `lev-up`, `lev-down`, `lev-same`, `lev-inside`, `lev-deep`,
 -- `lev-last`, `last-below`.
-use mathlib.Core.Path.{_≡_, refl, sym, ap, _∙_}
+use mathlib.Core.Path.{_≡_, refl, _∙_}
 use mathlib.Core.Bool.{Bool, true, false, _&&_}
 use mathlib.Core.List.{List, [], _∷_}
 use mathlib.Core.Logic.{_⊎_, inl, inr, ⊎-elim}
-use Prim.Native.Nat.{ℕ, zero, suc, _+_, _-_, _≤_, _<_}
+use Prim.Native.Nat.{ℕ, zero, suc, _-_, _≤_, _<_}
 use native.Mathlib.Omega.{arith}
-use lib.Dec.{eqb, ltb, leb}
-use lib.ListN.{length, getD, take, drop}
-use borrow.Author.Tests.{ltb-true, eqb-true, eq-eqb, ne-eqb}
+use lib.Dec.{eqb, ltb}
+use lib.ListN.{length, getD, take}
+use borrow.Author.Tests.{ltb-true, eqb-true}
 use Rattle.laws.specs.Choice.{pick}
-use Rattle.laws.proofs.Tests.{test, never, le-or, and-true}
+use Rattle.laws.proofs.Tests.{never, le-or, and-true}
 use Rattle.nests.specs.Kinds.{DO, ENDDO, STATEMENT, DEPTH}
 use Rattle.nests.specs.Loops.{isDo, isEnd, deeper, depthFrom}
 use Rattle.nests.specs.Valid.{closes, isShape}

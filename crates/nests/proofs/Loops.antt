@@ -2,22 +2,22 @@
 -- point before it with a lower level. From here on nothing unfolds `endOf` or `ownerFrom`.
 -- Main statements: `do-has-end`, `range-above`, `range-back`, `end-is`, `owner-among`, `nested`, `nested-or-disjoint`,
 -- `end-has-do`, `owner-of-end`, `outermost`.
-use mathlib.Core.Path.{_≡_, refl, sym, ap, _∙_}
+use mathlib.Core.Path.{_≡_, refl, ap}
 use mathlib.Core.Bool.{Bool, true, false, _&&_}
-use mathlib.Core.List.{List, [], _∷_}
+use mathlib.Core.List.{List}
 use mathlib.Core.Logic.{_⊎_, inl, inr, ⊎-elim}
 use Prim.Native.Nat.{ℕ, zero, suc, _+_, _-_, _≤_, _<_}
 use native.Mathlib.Omega.{arith}
-use lib.Dec.{eqb, ltb, leb}
-use lib.ListN.{length, getD, take, drop}
+use lib.Dec.{eqb, leb}
+use lib.ListN.{length, getD, drop}
 use lib.Seq.{drop-cons}
-use borrow.Author.Tests.{leb-true, leb-false, le-leb, eqb-true, eqb-false, eq-eqb, ne-eqb}
+use borrow.Author.Tests.{leb-true, le-leb, eqb-true, eqb-false}
 use Rattle.laws.specs.Choice.{pick}
-use Rattle.laws.proofs.Tests.{test, never, never-both, le-or, le-by, lt-by, eq-by, false-by, and-true, and-false, and-intro}
-use Rattle.nests.specs.Kinds.{DO, ENDDO}
+use Rattle.laws.proofs.Tests.{never-both, le-or, le-by, lt-by, and-true, and-intro}
 use Rattle.nests.specs.Loops.{isDo, isEnd, deeper, endFrom, endOf, ownerFrom, ownerOf}
 use Rattle.nests.specs.Valid.{isShape}
-use Rattle.nests.proofs.Levels.{lev, lev-step, lev-up, lev-falls, lev-same, lev-zero, lev-inside, lev-last, point-in, starts-with-do, end-not-first, do-where-rises, Last, last-below}
+use Rattle.nests.proofs.Levels.{lev, lev-up, lev-falls, lev-same, lev-zero, lev-inside, lev-last, point-in}
+use Rattle.nests.proofs.Levels.{starts-with-do, end-not-first, do-where-rises, Last, last-below}
 
 -- e is the first point at or after i at which the level falls back to b
 record Falls (ps : List ℕ) (b i e : ℕ) : Type 0 where

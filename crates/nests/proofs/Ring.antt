@@ -2,26 +2,25 @@
 -- An independent dependence's run goes from s + 1 to t. A carried one's goes from s + 1 to n - 1 and on from 1 to t; where t
 -- lies after s the two parts meet and it is the whole ring.
 -- Main statement: `ring-run`.
-use mathlib.Core.Path.{_≡_, refl, sym, ap, _∙_}
-use mathlib.Core.Bool.{Bool, true, false, _&&_, _||_, not}
+use mathlib.Core.Path.{_≡_, refl, _∙_}
+use mathlib.Core.Bool.{true, false, _||_, not}
 use mathlib.Core.List.{List, [], _∷_}
 use mathlib.Core.Logic.{_⊎_, inl, inr, ⊎-elim}
 use Prim.Native.Nat.{ℕ, zero, suc, _+_, _-_, _≤_, _<_}
 use native.Mathlib.Omega.{arith}
-use native.Mathlib.Nat.{suc-add, zero-add}
-use lib.Dec.{eqb, ltb, leb}
-use lib.ListN.{length, getD}
-use borrow.Author.Tests.{ltb-true, lt-ltb, le-ltb, leb-true, le-leb, eqb-true, eq-eqb}
-use Rattle.laws.specs.Choice.{pick, between, isIn}
+use lib.Dec.{eqb}
+use lib.ListN.{length}
+use borrow.Author.Tests.{lt-ltb, le-ltb, eqb-true, eq-eqb}
+use Rattle.laws.specs.Choice.{between, isIn}
 use Rattle.laws.proofs.Ranges.{in-between, between-in}
-use Rattle.laws.proofs.Tests.{never, never-both, le-or, eq-or, and-true, and-intro, or-true, or-left, or-right, bool-by}
-use Rattle.nests.specs.Kinds.{INDEPENDENT, DO}
+use Rattle.laws.proofs.Tests.{never, le-or, eq-or, and-true, or-true, or-left, or-right, bool-by}
+use Rattle.nests.specs.Kinds.{DO}
 use Rattle.nests.specs.Nests.{Dep}
 use Rattle.nests.specs.Loops.{isDo, endOf}
 use Rattle.nests.specs.Gaps.{hasGap}
 use Rattle.nests.specs.Valid.{isShape, isDep}
 use Rattle.nests.specs.Ring.{noDo, oneLoop, nextGap, runOf, Interval}
-use Rattle.nests.proofs.Loops.{outermost, end-there}
+use Rattle.nests.proofs.Loops.{outermost}
 use Rattle.nests.proofs.Deps.{Line, Back, Fits, dep-fits}
 
 next-up : (m g : ℕ) → g < m → nextGap m g ≡ suc g

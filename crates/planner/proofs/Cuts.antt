@@ -1,14 +1,12 @@
 -- A placement cuts every dependence of a nest exactly if it is sound at the outermost loop of the nest's world.
 -- Main definition: `Cut`. Main statements: `home-holds`, `cuts-sound`, `sound-cuts`.
-use mathlib.Core.Path.{_≡_, refl, sym, ap, _∙_}
-use mathlib.Core.Bool.{Bool, true, false}
+use mathlib.Core.Path.{_≡_, refl, ap}
+use mathlib.Core.Bool.{Bool, true}
 use mathlib.Core.List.{List}
 use mathlib.Core.Logic.{_⊎_, inl, inr, ⊎-elim}
-use Prim.Native.Nat.{ℕ, zero, suc, _≤_, _<_}
+use Prim.Native.Nat.{ℕ, suc, _≤_, _<_}
 use native.Mathlib.Omega.{arith}
-use lib.ListN.{length}
 use Rattle.laws.specs.Members.{Among}
-use Rattle.nests.specs.Kinds.{INDEPENDENT, CARRIED}
 use Rattle.nests.specs.Nests.{Dep}
 use Rattle.nests.specs.Loops.{isDo, endOf, ownerFrom}
 use Rattle.nests.specs.Gaps.{hasGap}
@@ -17,7 +15,7 @@ use Rattle.nests.proofs.Loops as L
 use Rattle.nests.proofs.Gaps as G
 use Rattle.nests.proofs.Deps as D
 use Rattle.planner.specs.Home.{homeOf, loopsIn}
-use Rattle.planner.proofs.World.{World, Inside}
+use Rattle.planner.proofs.World.{Inside}
 use Rattle.planner.proofs.Claim.{Hit, Sound}
 use Rattle.planner.proofs.Instance.{LineAt, BackAt, worldOf, AllFit}
 

@@ -3,17 +3,17 @@
 -- points).
 -- Main definitions: `LineAt`, `BackAt`, `worldOf`. Main statement: `lawful`.
 use mathlib.Core.Path.{_≡_, refl, sym, ap, _∙_}
-use mathlib.Core.Bool.{Bool, true, false, _&&_, _||_, not}
+use mathlib.Core.Bool.{Bool, true, false, _&&_}
 use mathlib.Core.List.{List, [], _∷_}
 use mathlib.Core.Logic.{_⊎_, inl, inr, ⊎-elim}
-use Prim.Native.Nat.{ℕ, zero, suc, _≤_, _<_, min}
+use Prim.Native.Nat.{ℕ, suc, _≤_, _<_, min}
 use native.Mathlib.Omega.{arith}
-use lib.Dec.{eqb, ltb, leb}
+use lib.Dec.{eqb, ltb}
 use lib.ListN.{length}
-use borrow.Author.Tests.{ltb-true, lt-ltb, eqb-true, eqb-false, eq-eqb, ne-eqb, not-true}
+use borrow.Author.Tests.{ltb-true, lt-ltb, eqb-true, eq-eqb}
 use Rattle.laws.specs.Choice.{pick}
 use Rattle.laws.specs.Members.{Among}
-use Rattle.laws.proofs.Tests.{never, never-both, le-or, lt-by, and-true, and-intro, or-true, or-left, or-right, not-by}
+use Rattle.laws.proofs.Tests.{never, never-both, le-or, lt-by, and-true, and-intro, or-true, or-left, or-right}
 use Rattle.nests.specs.Kinds.{INDEPENDENT, CARRIED}
 use Rattle.nests.specs.Nests.{Dep}
 use Rattle.nests.specs.Loops.{isDo, isEnd, endOf, ownerFrom, ownerOf}
@@ -21,9 +21,9 @@ use Rattle.nests.specs.Valid.{isShape}
 use Rattle.nests.proofs.Loops as L
 use Rattle.nests.proofs.Gaps as G
 use Rattle.nests.proofs.Deps as D
-use Rattle.planner.specs.Sweep.{Loops, Lines}
-use Rattle.planner.specs.Home.{homeOf, startsAt, returnsAfter, leastEnd, reachOf, limitOf, hasAt, loopsIn, linesIn}
-use Rattle.planner.proofs.World.{World, Inside, Owner, Child, Plain, LoopLaws, Behind, Home, by-line, by-back, LineLaws, Lawful}
+use Rattle.planner.specs.Home.{homeOf, startsAt, returnsAfter, leastEnd, reachOf, limitOf, hasAt, loopsIn}
+use Rattle.planner.specs.Home.{linesIn}
+use Rattle.planner.proofs.World.{World, Owner, Child, Plain, LoopLaws, Behind, Home, by-line, by-back, Lawful}
 
 -- one of ds is independent, has home d and the gaps a … b
 pub record LineAt (ps : List ℕ) (ds : List Dep) (d a b : ℕ) : Type 0 where

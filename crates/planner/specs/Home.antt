@@ -1,8 +1,8 @@
 -- The dependences of a nest, by the loop that has to cut them.
 -- Main definitions: `homeOf`, `reachOf`, `limitOf`, `hasAt`, and the nest as the sweeps see it, `loopsIn` and `linesIn`.
-use mathlib.Core.Bool.{Bool, true, false, _&&_, _||_, not}
+use mathlib.Core.Bool.{Bool, false, _&&_, _||_, not}
 use mathlib.Core.List.{List, [], _∷_}
-use Prim.Native.Nat.{ℕ, zero, suc, min}
+use Prim.Native.Nat.{ℕ, suc, min}
 use lib.Dec.{eqb, ltb}
 use lib.ListN.{length}
 use Rattle.laws.specs.Choice.{pick}
