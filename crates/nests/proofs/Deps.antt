@@ -3,7 +3,7 @@
 -- Main definition: `Fits`. Main statements: `dep-fits`, `deps-fit`, `valid-is`, and the gaps as facts:
 -- `line-gap`, `gap-of-line`, `back-gap`, `gap-before-target`, `gap-after-source`, `target-gap`.
 use mathlib.Core.Path.{_≡_}
-use mathlib.Core.Bool.{Bool, true, _&&_, _||_, not}
+use mathlib.Core.Bool.{true, _&&_, _||_, not}
 use mathlib.Core.List.{List, [], _∷_}
 use mathlib.Core.Logic.{_⊎_, inl, inr, ⊎-elim}
 use Prim.Native.Nat.{ℕ, suc, _≤_, _<_}
@@ -108,11 +108,11 @@ valid-is n h =
     let b = and-true points (many && deps) (a .1) in
     let c = and-true many deps (b .1) in
     record {
-    shape = a .0;
-    few-points = leb-true (length (n .points)) POINTS (b .0);
-    few-deps = leb-true (length (n .deps)) DEPENDENCES (c .0);
-    all-deps = c .1
-}
+      shape = a .0;
+      few-points = leb-true (length (n .points)) POINTS (b .0);
+      few-deps = leb-true (length (n .deps)) DEPENDENCES (c .0);
+      all-deps = c .1;
+    }
 
 -- the gaps of a well placed dependence, as facts
 pub line-gap : (ps : List ℕ) (e : Dep) (g : ℕ) → e .kind ≡ INDEPENDENT → hasGap ps e g ≡ true → (e .s < g) × (g ≤ e .t)

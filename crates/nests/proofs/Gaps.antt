@@ -1,5 +1,5 @@
--- The gaps of a loop: its own and those of the loops directly inside it; the walk over them from right to left; the home
--- of an independent dependence.
+-- The gaps of a loop: its own and those of the loops directly inside it; the walk over them from right to left; the
+-- home of an independent dependence.
 -- Main statements: `child-law`, `plain-law`, `own-or-child`, `loop-in-child`, `children-apart`, `home-law`,
 -- `home-passes`, and, from left to right, `owner-after-do`, `owner-after-end`, `owner-after-plain`.
 use mathlib.Core.Path.{_≡_, refl, sym, ap, _∙_}
@@ -88,8 +88,8 @@ module _ (ps : List ℕ) (shape : isShape ps ≡ true) where
       inside = lt-by λ z. ⊎-elim
           (λ (y : L ≡ d). let q : endOf ps d ≡ p = rw y at ends in omega (arith, o .holds))
           (λ (y : L ≡ d → ⊥).
-              let q : d ≤ endOf ps L = omega (arith, o .below, ends) in
-              omega (arith, nested ps shape L d loop (o .loop) (omega arith) q, ends, o .holds))
+          let q : d ≤ endOf ps L = omega (arith, o .below, ends) in
+          omega (arith, nested ps shape L d loop (o .loop) (omega arith) q, ends, o .holds))
           (eq-or L d)
 
       owned : ownerOf ps L ≡ d
@@ -206,11 +206,11 @@ module _ (ps : List ℕ) (shape : isShape ps ≡ true) where
           let q : d ≤ u = owner-inside ps shape d g h l m in
           let c = loop-in-child d u h (o .loop) (omega arith) (omega (arith, o .below)) in
           record {
-          at = c .at;
-          child = c .child;
-          after = omega (arith, c .after, o .below);
-          within = omega (arith, c .within, o .holds)
-      }
+            at = c .at;
+            child = c .child;
+            after = omega (arith, c .after, o .below);
+            within = omega (arith, c .within, o .holds);
+          }
 
   -- the home of an independent dependence from s to t: the innermost loop whose range holds all its gaps
   pub home-law : (s t : ℕ) → t < length ps → Owner ps (suc s) t (ownerFrom (suc s) t ps)

@@ -65,7 +65,10 @@ first-of d p ps h = go (eqb p DO) (eqb p ENDDO) refl refl h
   where
     go :
         (a b : Bool) → eqb p DO ≡ a → eqb p ENDDO ≡ b →
-        pick a (ltb (suc d) DEPTH && closes (suc (suc d)) ps) (pick b (closes d ps) (eqb p STATEMENT && closes (suc d) ps)) ≡
+        pick
+        a
+        (ltb (suc d) DEPTH && closes (suc (suc d)) ps)
+        (pick b (closes d ps) (eqb p STATEMENT && closes (suc d) ps)) ≡
         true → First d p ps
     go true b x y k =
         let z = and-true (ltb (suc d) DEPTH) (closes (suc (suc d)) ps) k in
@@ -92,7 +95,8 @@ rest-end = record {
     elim-deep h zero = h
     elim-deep h (suc i) = h
 
-rest-cons : (d e p : ℕ) (ps : List ℕ) → deeper (suc d) p ≡ e → (suc d ≤ DEPTH → e ≤ DEPTH) → Rest e ps → Rest (suc d) (p ∷ ps)
+rest-cons :
+    (d e p : ℕ) (ps : List ℕ) → deeper (suc d) p ≡ e → (suc d ≤ DEPTH → e ≤ DEPTH) → Rest e ps → Rest (suc d) (p ∷ ps)
 rest-cons d e p ps q b r = record { inside = inside; last = last; deep = deep }
   where
     last : depthFrom (deeper (suc d) p) (take (length ps) ps) ≡ 0
@@ -212,5 +216,8 @@ last-below f k (suc (suc g)) h l = go (le-or k (f (suc g))) (last-below f k (suc
     go (inl a) r = record { at = r .at; before = omega (arith, r .before); low = r .low; after = after }
       where
         after : (j : ℕ) → r .at < j → j < suc (suc g) → k ≤ f j
-        after j b c = ⊎-elim (λ (z : j ≤ g). r .after j b (omega arith)) (λ (z : g < j). let e : j ≡ suc g = omega arith in rw e a) (le-or j g)
+        after j b c = ⊎-elim
+            (λ (z : j ≤ g). r .after j b (omega arith))
+            (λ (z : g < j). let e : j ≡ suc g = omega arith in rw e a)
+            (le-or j g)
     go (inr a) r = record { at = suc g; before = omega arith; low = a; after = λ j b c. absurd (omega arith) }

@@ -42,10 +42,10 @@ home-holds ps e w (inl l) =
     held : Held ps e (ownerFrom (suc (e .s)) (e .t) ps)
     held =
         record {
-        loop = o .loop;
-        low = λ g h. let z = D.line-gap ps e g (l .kind-is) h in omega (arith, o .below);
-        high = λ g h. let z = D.line-gap ps e g (l .kind-is) h in omega (arith, o .holds)
-    }
+          loop = o .loop;
+          low = λ g h. let z = D.line-gap ps e g (l .kind-is) h in omega (arith, o .below);
+          high = λ g h. let z = D.line-gap ps e g (l .kind-is) h in omega (arith, o .holds);
+        }
 home-holds ps e w (inr b) =
     let z : homeOf ps e ≡ e .d = rw (b .kind-is) in
     rw z (record { loop = b .loop; low = low; high = high })
@@ -76,9 +76,11 @@ module _ (ps : List ℕ) (ds : List Dep) (x : ℕ → Bool) where
       backs : (l a t : ℕ) → Inside (loopsIn ps) d l → BackAt ps ds l a t → Hit x (suc l) t ⊎ Hit x a (endOf ps l)
       backs l a t i y = ⊎-elim
           (λ (z : (y .e .d < c .gap) × (c .gap ≤ y .e .t)).
-              inl (record { gap = c .gap; low = omega (arith, y .home-is); high = omega (arith, y .ends); holds = c .holds }))
+          let p : suc l ≤ c .gap = omega (arith, y .home-is) in
+          inl (record { gap = c .gap; low = p; high = omega (arith, y .ends); holds = c .holds }))
           (λ (z : (y .e .s < c .gap) × (c .gap ≤ endOf ps (y .e .d))).
-              inr (record { gap = c .gap; low = omega (arith, y .starts); high = omega (arith, same); holds = c .holds }))
+          let p : a ≤ c .gap = omega (arith, y .starts) in
+          inr (record { gap = c .gap; low = p; high = omega (arith, same); holds = c .holds }))
           (D.back-gap ps (y .e) (c .gap) (y .kind-is) (c .of))
         where
           same : endOf ps (y .e .d) ≡ endOf ps l
@@ -94,23 +96,26 @@ module _ (ps : List ℕ) (ds : List Dep) (x : ℕ → Bool) where
     where
       inside : (h : ℕ) → isDo ps h ≡ true → Inside (loopsIn ps) 0 h
       inside h k =
-          record { is-do = k; from = omega arith; below = omega (arith, L.end-after ps w h k, L.end-in-outermost ps w h k) }
+          let l : h < endOf ps 0 = omega (arith, L.end-after ps w h k, L.end-in-outermost ps w h k) in
+          record { is-do = k; from = omega arith; below = l }
 
       line : D.Line ps e → Cut ps e x
       line l =
           let o = G.home-law ps w (e .s) (e .t) (l .target-there) in
           let h = ownerFrom (suc (e .s)) (e .t) ps in
           let y : LineAt ps ds h (suc (e .s)) (e .t) =
-              record { e = e; among = a; kind-is = l .kind-is; home-is = refl; starts = refl; ends = refl } in
+          record { e = e; among = a; kind-is = l .kind-is; home-is = refl; starts = refl; ends = refl } in
           let z : Hit x (suc (e .s)) (e .t) = sound .lines h (suc (e .s)) (e .t) (inside h (o .loop)) y in
           record { gap = z .gap; of = D.gap-of-line ps e (z .gap) (l .kind-is) (z .low) (z .high); holds = z .holds }
 
       back : D.Back ps e → Cut ps e x
       back b = ⊎-elim
           (λ (z : Hit x (suc (e .d)) (e .t)).
-              record { gap = z .gap; of = D.gap-before-target ps e (z .gap) (b .kind-is) (z .low) (z .high); holds = z .holds })
+          let g = D.gap-before-target ps e (z .gap) (b .kind-is) (z .low) (z .high) in
+          record { gap = z .gap; of = g; holds = z .holds })
           (λ (z : Hit x (suc (e .s)) (endOf ps (e .d))).
-              record { gap = z .gap; of = D.gap-after-source ps e (z .gap) (b .kind-is) (z .low) (z .high); holds = z .holds })
+          let g = D.gap-after-source ps e (z .gap) (b .kind-is) (z .low) (z .high) in
+          record { gap = z .gap; of = g; holds = z .holds })
           (sound .backs (e .d) (suc (e .s)) (e .t) (inside (e .d) (b .loop)) y)
         where
           y : BackAt ps ds (e .d) (suc (e .s)) (e .t)

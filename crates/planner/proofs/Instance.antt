@@ -1,6 +1,6 @@
 -- Every nest is a world of the planner's theorem: its loops and the dependences by their homes obey the laws.
--- Assumed of the nest: its points are well shaped, and its dependences are placed well (in either order of a carried one's
--- points).
+-- Assumed of the nest: its points are well shaped, and its dependences are placed well (a carried one's points in
+-- either order).
 -- Main definitions: `LineAt`, `BackAt`, `worldOf`. Main statement: `lawful`.
 use mathlib.Core.Path.{_≡_, refl, sym, ap, _∙_}
 use mathlib.Core.Bool.{Bool, true, false, _&&_}
@@ -51,7 +51,8 @@ abbrev pub AllFit : List ℕ → List Dep → Type 0
 AllFit ps ds = (e : Dep) → Among e ds → D.Fits ps e
 
 -- the least end is at most each, and is one of them, or the number for none
-pub least-end-le : (p : Dep → Bool) (none : ℕ) (ds : List Dep) (e : Dep) → Among e ds → p e ≡ true → leastEnd p none ds ≤ e .t
+pub least-end-le :
+    (p : Dep → Bool) (none : ℕ) (ds : List Dep) (e : Dep) → Among e ds → p e ≡ true → leastEnd p none ds ≤ e .t
 unfolding leastEnd
 least-end-le p none [] e a h = absurd a
 least-end-le p none (x ∷ xs) e a h = go (p x) refl a (least-end-le p none xs e)
@@ -59,7 +60,9 @@ least-end-le p none (x ∷ xs) e a h = go (p x) refl a (least-end-le p none xs e
     r : ℕ
     r = leastEnd p none xs
 
-    go : (b : Bool) → p x ≡ b → (e ≡ x) ⊎ Among e xs → (Among e xs → p e ≡ true → r ≤ e .t) → pick b (min (x .t) r) r ≤ e .t
+    go :
+        (b : Bool) → p x ≡ b → (e ≡ x) ⊎ Among e xs → (Among e xs → p e ≡ true → r ≤ e .t) →
+        pick b (min (x .t) r) r ≤ e .t
     go true z (inl q) i = let y : e .t ≡ x .t = rw q in omega arith
     go true z (inr q) i = omega (arith, i q h)
     go false z (inl q) i = never-both (rw q at h) z
@@ -98,7 +101,9 @@ module _ (ps : List ℕ) (d a : ℕ) (e : Dep) where
   starts-at : e .kind ≡ INDEPENDENT → ownerFrom (suc (e .s)) (e .t) ps ≡ d → suc (e .s) ≡ a → startsAt ps d a e ≡ true
   starts-at k h s = rw k (and-intro (eq-eqb (ownerFrom (suc (e .s)) (e .t) ps) d h) (eq-eqb (suc (e .s)) a s))
 
-  at-starts : startsAt ps d a e ≡ true → (e .kind ≡ INDEPENDENT) × (ownerFrom (suc (e .s)) (e .t) ps ≡ d) × (suc (e .s) ≡ a)
+  at-starts :
+      startsAt ps d a e ≡ true →
+      (e .kind ≡ INDEPENDENT) × (ownerFrom (suc (e .s)) (e .t) ps ≡ d) × (suc (e .s) ≡ a)
   at-starts h =
       let x = and-true (eqb (e .kind) INDEPENDENT) (eqb (homeOf ps e) d && eqb (suc (e .s)) a) h in
       let y = and-true (eqb (homeOf ps e) d) (eqb (suc (e .s)) a) (x .1) in
@@ -144,7 +149,9 @@ at-has ps (x ∷ xs) d h = ⊎-elim
     later r = record { e = r .e; among = inr (r .among); home-is = r .home-is }
 
 -- a dependence with its home, as the world sees it
-home-of : (ps : List ℕ) (ds : List Dep) (d : ℕ) (e : Dep) → Among e ds → D.Fits ps e → homeOf ps e ≡ d → Home (worldOf ps ds) d
+home-of :
+    (ps : List ℕ) (ds : List Dep) (d : ℕ) (e : Dep) → Among e ds → D.Fits ps e → homeOf ps e ≡ d →
+    Home (worldOf ps ds) d
 home-of ps ds d e a (inl l) h =
     by-line (suc (e .s)) (e .t)
     (record { e = e; among = a; kind-is = l .kind-is; home-is = rw (l .kind-is) at h; starts = refl; ends = refl })
@@ -155,14 +162,14 @@ home-of ps ds d e a (inr b) h =
 pub loop-laws : (ps : List ℕ) → isShape ps ≡ true → LoopLaws (loopsIn ps)
 loop-laws ps w =
     record {
-    long = L.end-after ps w;
-    own-stop = L.owner-of-end ps w;
-    own-below = λ g. L.owner-from-below ps g (suc g);
-    owner = owner;
-    nested = L.nested ps w;
-    child = child;
-    plain = plain
-}
+      long = L.end-after ps w;
+      own-stop = L.owner-of-end ps w;
+      own-below = λ g. L.owner-from-below ps g (suc g);
+      owner = owner;
+      nested = L.nested ps w;
+      child = child;
+      plain = plain;
+    }
   where
     owner : (d g : ℕ) → isDo ps d ≡ true → d < g → g ≤ endOf ps d → Owner (loopsIn ps) d g
     owner d g h l m =
@@ -222,8 +229,8 @@ module _ (ps : List ℕ) (ds : List Dep) (shape : isShape ps ≡ true) (fit : Al
       a ≤ endOf ps x → endOf ps x < b
   line-leaves d a b x h l c p q =
       lt-by λ z.
-          omega
-          (arith, c .below, line-home l .most x (c .is-do) (omega (arith, l .starts)) (omega (arith, l .ends)))
+      omega
+      (arith, c .below, line-home l .most x (c .is-do) (omega (arith, l .starts)) (omega (arith, l .ends)))
 
   back-low : (d a t : ℕ) → isDo ps d ≡ true → BackAt ps ds d a t → d < a
   back-low d a t h b = omega (arith, b .starts, b .home-is, back-fits b .source-after)
@@ -240,8 +247,8 @@ module _ (ps : List ℕ) (ds : List Dep) (shape : isShape ps ≡ true) (fit : Al
   unfolding reachOf
   reach-least d a b h l =
       let z =
-          least-end-le (startsAt ps d a) (length ps) ds (l .e) (l .among)
-          (starts-at ps d a (l .e) (l .kind-is) (l .home-is) (l .starts)) in
+      least-end-le (startsAt ps d a) (length ps) ds (l .e) (l .among)
+      (starts-at ps d a (l .e) (l .kind-is) (l .home-is) (l .starts)) in
       omega (arith, l .ends)
 
   reach-is :
@@ -251,8 +258,8 @@ module _ (ps : List ℕ) (ds : List Dep) (shape : isShape ps ≡ true) (fit : Al
   reach-is d a h p q r = ⊎-elim
       (λ (z : leastEnd (startsAt ps d a) (length ps) ds ≡ length ps). absurd (omega (arith, L.end-there ps shape d h)))
       (λ (f : Found (startsAt ps d a) ds (leastEnd (startsAt ps d a) (length ps) ds)).
-          let s = at-starts ps d a (f .e) (f .passes) in
-          record { e = f .e; among = f .among; kind-is = s .0; home-is = s .1; starts = s .2; ends = f .ends })
+      let s = at-starts ps d a (f .e) (f .passes) in
+      record { e = f .e; among = f .among; kind-is = s .0; home-is = s .1; starts = s .2; ends = f .ends })
       (least-end-is (startsAt ps d a) (length ps) ds)
 
   limit-least :
@@ -260,8 +267,8 @@ module _ (ps : List ℕ) (ds : List Dep) (shape : isShape ps ≡ true) (fit : Al
   unfolding limitOf
   limit-least d q a t h x y l b =
       let z =
-          least-end-le (returnsAfter ps d q) (endOf ps d) ds (b .e) (b .among)
-          (returns-after ps d q (b .e) (b .kind-is) (b .home-is) (omega (arith, b .starts))) in
+      least-end-le (returnsAfter ps d q) (endOf ps d) ds (b .e) (b .among)
+      (returns-after ps d q (b .e) (b .kind-is) (b .home-is) (omega (arith, b .starts))) in
       omega (arith, b .ends)
 
   limit-is :
@@ -271,12 +278,12 @@ module _ (ps : List ℕ) (ds : List Dep) (shape : isShape ps ≡ true) (fit : Al
   limit-is d q h x y = ⊎-elim
       (λ (z : leastEnd (returnsAfter ps d q) (endOf ps d) ds ≡ endOf ps d). inl z)
       (λ (f : Found (returnsAfter ps d q) ds (leastEnd (returnsAfter ps d q) (endOf ps d) ds)).
-          let s = after-returns ps d q (f .e) (fit (f .e) (f .among)) (f .passes) in
-          inr
-          (record {
-          a = suc (f .e .s);
-          above = s .2;
-          back = record { e = f .e; among = f .among; kind-is = s .0; home-is = s .1; starts = refl; ends = f .ends }
+      let s = after-returns ps d q (f .e) (fit (f .e) (f .among)) (f .passes) in
+      inr
+      (record {
+        a = suc (f .e .s);
+        above = s .2;
+        back = record { e = f .e; among = f .among; kind-is = s .0; home-is = s .1; starts = refl; ends = f .ends };
       }))
       (least-end-is (returnsAfter ps d q) (endOf ps d) ds)
 
@@ -295,22 +302,22 @@ module _ (ps : List ℕ) (ds : List Dep) (shape : isShape ps ≡ true) (fit : Al
   pub lawful : Lawful (worldOf ps ds) (linesIn ps ds)
   lawful =
       record {
-      of-loops = loop-laws ps shape;
-      of-lines =
-          record {
-          line-low = line-low;
-          line-long = line-long;
-          line-high = line-high;
-          line-leaves = line-leaves;
-          back-low = back-low;
-          back-end = back-end;
-          back-high = back-high;
-          reach-least = reach-least;
-          reach-is = reach-is;
-          limit-least = limit-least;
-          limit-is = limit-is;
-          has-line = has-line;
-          has-back = has-back;
-          has-is = has-is
+        of-loops = loop-laws ps shape;
+        of-lines =
+            record {
+              line-low = line-low;
+              line-long = line-long;
+              line-high = line-high;
+              line-leaves = line-leaves;
+              back-low = back-low;
+              back-end = back-end;
+              back-high = back-high;
+              reach-least = reach-least;
+              reach-is = reach-is;
+              limit-least = limit-least;
+              limit-is = limit-is;
+              has-line = has-line;
+              has-back = has-back;
+              has-is = has-is;
+            };
       }
-  }

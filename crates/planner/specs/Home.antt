@@ -1,5 +1,5 @@
 -- The dependences of a nest, by the loop that has to cut them.
--- Main definitions: `homeOf`, `reachOf`, `limitOf`, `hasAt`, and the nest as the sweeps see it, `loopsIn` and `linesIn`.
+-- Main definitions: `homeOf`, `reachOf`, `limitOf`, `hasAt`; and the nest as the sweeps see it, `loopsIn`, `linesIn`.
 use mathlib.Core.Bool.{Bool, false, _&&_, _||_, not}
 use mathlib.Core.List.{List, [], _∷_}
 use Prim.Native.Nat.{ℕ, suc, min}
