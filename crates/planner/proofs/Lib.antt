@@ -4,4 +4,6 @@ pub mod Counts
 pub mod Claim
 pub mod Walk
 pub mod Exchange
+pub mod Ring
+pub mod AttainedBody
 mod Trial
