@@ -132,3 +132,54 @@ module _ (W : World) (laws : LoopLaws (W .loops)) (T : Tables) (d : ℕ) (is-do 
       other g z =
           let e : y g ≡ w g = also-right (only (suc p)) w g (λ k. z (only-is (suc p) g k)) in
           rw e
+
+  -- point p is no loop inside d
+  pub skip-body : (p c : ℕ) (w : ℕ → Bool) → (p ≡ d) ⊎ Plain (W .loops) d p → Body W T d (suc p) c w → Body W T d p c w
+  skip-body p c w h k = record { mine = k .mine; passed = λ l i j u. go l i j u (eq-or l p) }
+    where
+      go : (l : ℕ) → Inside (W .loops) d l → d < l → p ≤ l → (l ≡ p) ⊎ ((l ≡ p) → ⊥) → Done W T l w
+      go l i j u (inl z) =
+          ⊎-elim
+          (λ (y : p ≡ d). absurd (omega arith))
+          (λ (y : Plain (W .loops) d p). never-both (i .is-do) (rw z (y .no-do)))
+          h
+      go l i j u (inr z) = k .passed l i j (omega (arith, z))
+
+  -- what is laid for a child, before all that is laid
+  module _ (p l c : ℕ) (x w : ℕ → Bool) (child : Child (W .loops) d p l) (part : Part W T l x) (low : (g : ℕ) → w g ≡ true → p < g) (k : Body W T d (suc p) c w) where
+    -- an own gap of d does not lie in the child, nor does one of a loop after the child
+    not-mine : (g : ℕ) → W .loops .own g ≡ d → x g ≡ true → ⊥
+    not-mine g e h = omega (arith, laws .owner l g (child .is-do) (part .low g h) (part .high g h) .from, child .below)
+
+    not-after : (m g : ℕ) → 0 < g → W .loops .own g ≡ m → suc p ≤ m → x g ≡ true → ⊥
+    not-after m g a e h z = omega (arith, own-above g m a e, part .high g z, child .ends)
+
+    -- a loop inside the child ends with it at the latest
+    ends-by : (m : ℕ) → Inside (W .loops) l m → W .loops .stop m ≤ p
+    ends-by m i =
+        ⊎-elim
+        (λ (z : m ≤ l). (
+            let y : m ≡ l = omega (arith, i .from) in
+            rw y (omega (arith, child .ends))))
+        (λ (z : l < m). omega (arith, laws .nested l m (child .is-do) (i .is-do) z (omega (arith, i .below)), child .ends))
+        (le-or m l)
+
+    -- the child's ENDDO is no DO
+    no-do : W .loops .isDo p ≡ true → ⊥
+    no-do h =
+        let y : W .loops .isDo (W .loops .stop l) ≡ true = rw (child .ends) h in
+        let u : l < W .loops .stop l = laws .long l (child .is-do) in
+        omega (arith, laws .long (W .loops .stop l) y, laws .nested l (W .loops .stop l) (child .is-do) y u (omega arith))
+
+    in-child : (m : ℕ) → Inside (W .loops) l m → Done W T m (also x w)
+    in-child m i = done-more W T m x (also x w) (λ g z. or-left (w g) z) (λ g a b e. also-left x w g (λ z. omega (arith, low g z, ends-by m i))) (part .done m i)
+
+    after : (m : ℕ) → Inside (W .loops) d m → d < m → suc p ≤ m → Done W T m (also x w)
+    after m i h j = done-more W T m w (also x w) (λ g z. or-right (x g) z) (λ g a b e. also-right x w g (not-after m g a e j)) (k .passed m i h j)
+
+    pub join-body : Body W T d l c (also x w)
+    join-body =
+        record {
+          mine = count-same (W .loops) (also x w) w d (λ g a b e. also-right x w g (not-mine g e)) ∙ k .mine;
+          passed = λ m i h j. ⊎-elim (λ (z : suc p ≤ m). after m i h z) (λ (z : m < suc p). ⊎-elim (λ (y : m ≡ p). absurd (no-do (rw y at (i .is-do)))) (λ (y : m ≡ p → ⊥). in-child m record { is-do = i .is-do; from = j; below = omega (arith, y, child .ends) }) (eq-or m p)) (le-or (suc p) m);
+        }
