@@ -6,4 +6,5 @@ pub mod Walk
 pub mod Exchange
 pub mod Ring
 pub mod AttainedBody
+pub mod AttainedFront
 mod Trial
