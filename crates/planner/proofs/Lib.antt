@@ -7,4 +7,5 @@ pub mod Exchange
 pub mod Ring
 pub mod AttainedBody
 pub mod AttainedFront
+pub mod AttainedSweep
 mod Trial
