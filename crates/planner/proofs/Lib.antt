@@ -8,4 +8,7 @@ pub mod Ring
 pub mod AttainedBody
 pub mod AttainedFront
 pub mod AttainedSweep
+pub mod Choices
+pub mod Rows
+pub mod Bounds
 mod Trial
