@@ -1,6 +1,6 @@
 -- What a sweep lays, at each boundary: front, body and cuts together are kept by every step, from the claims of the
 -- children; so they hold at the loop's DO.
--- Main statements: `Swept`, `swept`.
+-- Main statements: `Swept`, `Kids`, `swept`.
 use mathlib.Core.Path.{_≡_, refl, sym, _∙_, ap}
 use mathlib.Core.Bool.{Bool, true, false, _&&_, _||_}
 use mathlib.Core.Logic.{_⊎_, inl, inr, ⊎-elim}
@@ -30,7 +30,7 @@ Kids W T d = (l : ℕ) → W .loops .isDo l ≡ true → W .loops .own l ≡ d �
 
 module _ (W : World) (laws : LoopLaws (W .loops)) (T : Tables) (d : ℕ) (is-do : W .loops .isDo d ≡ true) (kids : Kids W T d) (need : ℕ → ℕ) (needs : NeedLaws (W .loops) d need) where
   -- the step at an own gap
-  put-swept : (p : ℕ) (s : State) → AtPlain (W .loops) d p → Swept W T need d (suc p) s → Swept W T need d p (put p s)
+  pub put-swept : (p : ℕ) (s : State) → AtPlain (W .loops) d p → Swept W T need d (suc p) s → Swept W T need d p (put p s)
   unfolding put
   put-swept p s at i =
       record {

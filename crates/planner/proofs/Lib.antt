@@ -11,4 +11,5 @@ pub mod AttainedSweep
 pub mod Choices
 pub mod Rows
 pub mod Bounds
+pub mod Attained
 mod Trial
