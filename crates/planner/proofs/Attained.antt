@@ -1,7 +1,7 @@
 -- What the table lays for a loop d is best in d and has the table's front, from the claims of the loops directly inside d:
 -- the sweep's placement, closed by the prefix, cuts the carried dependences too, by the ring lemma. Where the front is 0,
--- nothing is laid; where it is 0 for the whole range, d and all the loops inside have nothing to cut.
--- Main statements: `attained`, `blank`, `each-in-child`, `empty`.
+-- nothing is laid.
+-- Main statements: `attained`, `blank`.
 use mathlib.Core.Path.{_≡_, refl, sym, _∙_, ap, fun-ext, subst⁻¹}
 use mathlib.Core.Bool.{Bool, true, false, _&&_, _||_}
 use mathlib.Core.Logic.{_⊎_, inl, inr, ⊎-elim}
@@ -22,7 +22,7 @@ use Rattle.planner.proofs.AttainedBody.{Done, Body}
 use Rattle.planner.proofs.AttainedFront.{NeedLaws, need-laws, need-least, need-suffix, Foremost, Cuts}
 use Rattle.planner.proofs.AttainedSweep.{Swept, Kids, put-swept, swept}
 
-module _ (W : World) (N : Lines) (laws : Lawful W N) (T : Tables) (d : ℕ) (is-do : W .loops .isDo d ≡ true) (kids : Kids W T d) where
+module _ (W : World) (N : Lines) (laws : Lawful W N) (T : Tables) (table : IsTable (W .loops) N T) (d : ℕ) (is-do : W .loops .isDo d ≡ true) (kids : Kids W T d) where
   long : d < W .loops .stop d
   long = laws .of-loops .long d is-do
 
@@ -105,41 +105,39 @@ module _ (W : World) (N : Lines) (laws : Lawful W N) (T : Tables) (d : ℕ) (is-
     value-settled : Settled W (T .cost) (value (W .loops) N T d q .w) d
     value-settled = record { sound = value-sound; inside = λ l i z. valued .0 .body .passed l i z (i .from) .exact }
 
-  -- the table's row
-  module _ (table : IsTable (W .loops) N T) where
-    -- a front that is there: something is to cut
-    busy : (q : ℕ) → d < q → q ≤ W .loops .stop d → 0 < T .left d q → someOf (W .loops) N T d ≡ true
-    busy q low high h =
-        ⊎-elim
-        (λ (z : someOf (W .loops) N T d ≡ true). z)
-        (λ (z : someOf (W .loops) N T d ≡ false). absurd (omega (arith, row-idle (W .loops) (laws .of-loops) N T table d is-do q low high z .1)))
-        (test (someOf (W .loops) N T d))
+  -- a front that is there: something is to cut
+  busy : (q : ℕ) → d < q → q ≤ W .loops .stop d → 0 < T .left d q → someOf (W .loops) N T d ≡ true
+  busy q low high h =
+      ⊎-elim
+      (λ (z : someOf (W .loops) N T d ≡ true). z)
+      (λ (z : someOf (W .loops) N T d ≡ false). absurd (omega (arith, row-idle (W .loops) (laws .of-loops) N T table d is-do q low high z .1)))
+      (test (someOf (W .loops) N T d))
 
-    pub attained : (q : ℕ) → d < q → q ≤ W .loops .stop d → 0 < T .left d q → Laid W T d q (T .lay d q)
-    attained q low high h =
-        subst⁻¹ (λ x. Laid W T d q x) (fun-ext (λ g. row-lay (W .loops) (laws .of-loops) N T table d is-do q g low high h)) record {
-          low = λ g z. made .front .low g z;
-          high = λ g z. made .front .high g z;
-          best = record { settled = value-settled at at-low at-high; exact = made .body .mine ∙ r .exact h };
-          hit = hit-wider q (W .loops .stop d) (r .low h) (omega arith) (value-hit at at-low at-high);
-          holds = rw (r .is h) at (value-holds at at-low at-high);
-          first = λ g z. omega (arith, made .front .first g z, r .is h);
-        }
-      where
-        at : ℕ
-        at = T .choice d q
+  pub attained : (q : ℕ) → d < q → q ≤ W .loops .stop d → 0 < T .left d q → Laid W T d q (T .lay d q)
+  attained q low high h =
+      subst⁻¹ (λ x. Laid W T d q x) (fun-ext (λ g. row-lay (W .loops) (laws .of-loops) N T table d is-do q g low high h)) record {
+        low = λ g z. made .front .low g z;
+        high = λ g z. made .front .high g z;
+        best = record { settled = value-settled at at-low at-high; exact = made .body .mine ∙ r .exact h };
+        hit = hit-wider q (W .loops .stop d) (r .low h) (omega arith) (value-hit at at-low at-high);
+        holds = rw (r .is h) at (value-holds at at-low at-high);
+        first = λ g z. omega (arith, made .front .first g z, r .is h);
+      }
+    where
+      at : ℕ
+      at = T .choice d q
 
-        r : Fronts (value (W .loops) N T d) (T .cost d) (W .loops .stop d) q (front (T .left d q) (T .choice d q))
-        r = row-fronts (W .loops) (laws .of-loops) N T table d is-do q low high (busy q low high h)
+      r : Fronts (value (W .loops) N T d) (T .cost d) (W .loops .stop d) q (front (T .left d q) (T .choice d q))
+      r = row-fronts (W .loops) (laws .of-loops) N T table d is-do q low high (busy q low high h)
 
-        at-low : d < at
-        at-low = omega (arith, r .low h)
+      at-low : d < at
+      at-low = omega (arith, r .low h)
 
-        at-high : at ≤ W .loops .stop d
-        at-high = r .high h
+      at-high : at ≤ W .loops .stop d
+      at-high = r .high h
 
-        made : Swept W T (need at at-low at-high) d d (value (W .loops) N T d at)
-        made = valued at at-low at-high .0
+      made : Swept W T (need at at-low at-high) d d (value (W .loops) N T d at)
+      made = valued at at-low at-high .0
 
-    pub blank : (q : ℕ) → d < q → q ≤ W .loops .stop d → T .left d q ≡ 0 → (g : ℕ) → T .lay d q g ≡ true → ⊥
-    blank q low high h g k = never-both k (row-blank (W .loops) (laws .of-loops) N T table d is-do q g low high h)
+  pub blank : (q : ℕ) → d < q → q ≤ W .loops .stop d → T .left d q ≡ 0 → (g : ℕ) → T .lay d q g ≡ true → ⊥
+  blank q low high h g k = never-both k (row-blank (W .loops) (laws .of-loops) N T table d is-do q g low high h)

@@ -101,6 +101,13 @@ idle-part W T l x h k =
       };
     }
 
+-- a child's ENDDO is no DO
+pub end-no-do : (B : Loops) → LoopLaws B → (d p l : ℕ) → Child B d p l → B .isDo p ≡ true → ⊥
+end-no-do B laws d p l c h =
+    let y : B .isDo (B .stop l) ≡ true = rw (c .ends) h in
+    let u : l < B .stop l = laws .long l (c .is-do) in
+    omega (arith, laws .long (B .stop l) y, laws .nested l (B .stop l) (c .is-do) y u (omega arith))
+
 module _ (W : World) (laws : LoopLaws (W .loops)) (T : Tables) (d : ℕ) (is-do : W .loops .isDo d ≡ true) where
   -- an own gap lies above its loop's DO
   own-above : (g l : ℕ) → 0 < g → W .loops .own g ≡ l → l < g
@@ -164,13 +171,6 @@ module _ (W : World) (laws : LoopLaws (W .loops)) (T : Tables) (d : ℕ) (is-do 
         (λ (z : l < m). omega (arith, laws .nested l m (child .is-do) (i .is-do) z (omega (arith, i .below)), child .ends))
         (le-or m l)
 
-    -- the child's ENDDO is no DO
-    no-do : W .loops .isDo p ≡ true → ⊥
-    no-do h =
-        let y : W .loops .isDo (W .loops .stop l) ≡ true = rw (child .ends) h in
-        let u : l < W .loops .stop l = laws .long l (child .is-do) in
-        omega (arith, laws .long (W .loops .stop l) y, laws .nested l (W .loops .stop l) (child .is-do) y u (omega arith))
-
     in-child : (m : ℕ) → Inside (W .loops) l m → Done W T m (also x w)
     in-child m i = done-more W T m x (also x w) (λ g z. or-left (w g) z) (λ g a b e. also-left x w g (λ z. omega (arith, low g z, ends-by m i))) (part .done m i)
 
@@ -181,5 +181,5 @@ module _ (W : World) (laws : LoopLaws (W .loops)) (T : Tables) (d : ℕ) (is-do 
     join-body =
         record {
           mine = count-same (W .loops) (also x w) w d (λ g a b e. also-right x w g (not-mine g e)) ∙ k .mine;
-          passed = λ m i h j. ⊎-elim (λ (z : suc p ≤ m). after m i h z) (λ (z : m < suc p). ⊎-elim (λ (y : m ≡ p). absurd (no-do (rw y at (i .is-do)))) (λ (y : m ≡ p → ⊥). in-child m record { is-do = i .is-do; from = j; below = omega (arith, y, child .ends) }) (eq-or m p)) (le-or (suc p) m);
+          passed = λ m i h j. ⊎-elim (λ (z : suc p ≤ m). after m i h z) (λ (z : m < suc p). ⊎-elim (λ (y : m ≡ p). absurd (end-no-do (W .loops) laws d p l child (rw y at (i .is-do)))) (λ (y : m ≡ p → ⊥). in-child m record { is-do = i .is-do; from = j; below = omega (arith, y, child .ends) }) (eq-or m p)) (le-or (suc p) m);
         }

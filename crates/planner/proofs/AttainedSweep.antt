@@ -11,7 +11,7 @@ use borrow.Author.Tests.{eq-eqb}
 use Rattle.laws.specs.Choice.{pick, firstOf}
 use Rattle.laws.proofs.Tests.{le-or, or-left, or-right}
 use Rattle.planner.specs.Sweep.{Loops, Tables, State, bare, only, also, put, stepPlain, free, inner, outer, stepChild, start, sweep}
-use Rattle.planner.proofs.World.{World, Child, LoopLaws}
+use Rattle.planner.proofs.World.{World, Inside, LoopLaws}
 use Rattle.planner.proofs.Claim.{Hit, Laid, Claim}
 use Rattle.planner.proofs.Walk.{plain-cases, child-cases, Free, Inner, Outer, AtPlain, AtChild, along}
 use Rattle.planner.proofs.Ring.{hit-wider, hit-more}
@@ -27,6 +27,10 @@ pub record Swept (W : World) (T : Tables) (need : ℕ → ℕ) (d p : ℕ) (s : 
 -- the claims of the loops directly inside d
 abbrev pub Kids : World → Tables → ℕ → Type 0
 Kids W T d = (l : ℕ) → W .loops .isDo l ≡ true → W .loops .own l ≡ d → d < l → l < W .loops .stop d → Claim W T l
+
+-- which those of all the loops inside d give
+pub kids-inside : (W : World) (T : Tables) (d : ℕ) → ((l : ℕ) → Inside (W .loops) d l → d < l → Claim W T l) → Kids W T d
+kids-inside W T d all l a b c e = all l record { is-do = a; from = omega arith; below = e } c
 
 module _ (W : World) (laws : LoopLaws (W .loops)) (T : Tables) (d : ℕ) (is-do : W .loops .isDo d ≡ true) (kids : Kids W T d) (need : ℕ → ℕ) (needs : NeedLaws (W .loops) d need) where
   -- the step at an own gap

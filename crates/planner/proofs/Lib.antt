@@ -12,4 +12,5 @@ pub mod Choices
 pub mod Rows
 pub mod Bounds
 pub mod Attained
+pub mod AttainedEmpty
 mod Trial
