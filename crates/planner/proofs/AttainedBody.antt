@@ -166,8 +166,8 @@ module _ (W : World) (laws : LoopLaws (W .loops)) (T : Tables) (d : ℕ) (is-do 
     ends-by m i =
         ⊎-elim
         (λ (z : m ≤ l). (
-            let y : m ≡ l = omega (arith, i .from) in
-            rw y (omega (arith, child .ends))))
+        let y : m ≡ l = omega (arith, i .from) in
+        rw y (omega (arith, child .ends))))
         (λ (z : l < m). omega (arith, laws .nested l m (child .is-do) (i .is-do) z (omega (arith, i .below)), child .ends))
         (le-or m l)
 

@@ -36,8 +36,8 @@ module _ (B : Loops) (laws : LoopLaws B) (T : Tables) (d : ℕ) (is-do : B .isDo
       ⊎-elim
       (λ (z : suc p ≤ l). k l i h z)
       (λ (z : l < suc p). (
-          let y : l ≡ p = omega arith in
-          ⊎-elim (λ (e : p ≡ d). absurd (omega arith)) (λ (e : Plain B d p). never-both (i .is-do) (rw y (e .no-do))) (at .before)))
+      let y : l ≡ p = omega arith in
+      ⊎-elim (λ (e : p ≡ d). absurd (omega arith)) (λ (e : Plain B d p). never-both (i .is-do) (rw y (e .no-do))) (at .before)))
       (le-or (suc p) l)
 
   over-child : (p c : ℕ) → AtChild B d p c → InChildren (suc p) → InChildren c

@@ -63,8 +63,8 @@ module _ (W : World) (N : Lines) (laws : Lawful W N) (d : ℕ) (is-do : W .loops
   reach-leaves a p l c u h i =
       ⊎-elim
       (λ (z : N .reach d a ≤ W .loops .stop d). (
-          let k : W .Line d a (N .reach d a) = laws .of-lines .reach-is d a is-do (omega (arith, c .below)) (omega arith) z in
-          omega (arith, c .ends, laws .of-lines .line-leaves d a (N .reach d a) l is-do k record { is-do = c .is-do; below = c .below; ends = refl; owner = c .owner } h (omega (arith, c .ends)))))
+      let k : W .Line d a (N .reach d a) = laws .of-lines .reach-is d a is-do (omega (arith, c .below)) (omega arith) z in
+      omega (arith, c .ends, laws .of-lines .line-leaves d a (N .reach d a) l is-do k record { is-do = c .is-do; below = c .below; ends = refl; owner = c .owner } h (omega (arith, c .ends)))))
       (λ (z : W .loops .stop d < N .reach d a). omega arith)
       (le-or (N .reach d a) (W .loops .stop d))
 

@@ -79,8 +79,8 @@ module _ (W : World) (laws : LoopLaws (W .loops)) (T : Tables) (d : ℕ) (is-do 
     whole =
         ⊎-elim
         (λ (z : T .left l (suc l) ≤ 0). (
-            let y : T .left l (suc l) ≡ 0 = omega arith in
-            idle-part W T l (T .lay l (suc l)) (claim .empty y) (none y)))
+        let y : T .left l (suc l) ≡ 0 = omega arith in
+        idle-part W T l (T .lay l (suc l)) (claim .empty y) (none y)))
         (λ (z : 0 < T .left l (suc l)). laid-part W T l (suc l) (T .lay l (suc l)) (laid (suc l) (omega arith) (at .short) z))
         (le-or (T .left l (suc l)) 0)
 

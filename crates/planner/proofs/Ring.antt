@@ -24,20 +24,20 @@ module _ (W : World) (N : Lines) (laws : Lawful W N) (d q : ℕ) (is-do : W .loo
   pub limit-low : d < N .limit d q
   limit-low =
       ⊎-elim
-        (λ (z : N .limit d q ≡ W .loops .stop d). omega arith)
-        (λ (z : Behind W d q (N .limit d q)). laws .of-lines .back-end d (z .a) (N .limit d q) is-do (z .back))
-        (laws .of-lines .limit-is d q is-do low high)
+      (λ (z : N .limit d q ≡ W .loops .stop d). omega arith)
+      (λ (z : Behind W d q (N .limit d q)). laws .of-lines .back-end d (z .a) (N .limit d q) is-do (z .back))
+      (laws .of-lines .limit-is d q is-do low high)
 
   pub limit-high : N .limit d q ≤ W .loops .stop d
   limit-high =
       ⊎-elim
-        (λ (z : N .limit d q ≡ W .loops .stop d). omega arith)
-        (λ (z : Behind W d q (N .limit d q)). laws .of-lines .back-high d (z .a) (N .limit d q) is-do (z .back))
-        (laws .of-lines .limit-is d q is-do low high)
+      (λ (z : N .limit d q ≡ W .loops .stop d). omega arith)
+      (λ (z : Behind W d q (N .limit d q)). laws .of-lines .back-high d (z .a) (N .limit d q) is-do (z .back))
+      (laws .of-lines .limit-is d q is-do low high)
 
   pub ring-cut : (x : ℕ → Bool) → Hit x (suc d) (N .limit d q) → Hit x q (W .loops .stop d) → (a t : ℕ) → W .Back d a t → Hit x (suc d) t ⊎ Hit x a (W .loops .stop d)
   ring-cut x front back a t k =
       ⊎-elim
-        (λ (z : a ≤ q). inr (hit-wider a (W .loops .stop d) z (omega arith) back))
-        (λ (z : q < a). inl (hit-wider (suc d) t (omega arith) (laws .of-lines .limit-least d q a t is-do low high z k) front))
-        (le-or a q)
+      (λ (z : a ≤ q). inr (hit-wider a (W .loops .stop d) z (omega arith) back))
+      (λ (z : q < a). inl (hit-wider (suc d) t (omega arith) (laws .of-lines .limit-least d q a t is-do low high z k) front))
+      (le-or a q)
