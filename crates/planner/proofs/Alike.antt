@@ -51,7 +51,7 @@ module _ (left left′ : ℕ → ℕ) (lay lay′ : ℕ → ℕ → Bool) (L p :
       record {
         c-is = e .c-is;
         f-is = rw (same-left (suc L) (omega arith) short, e .f-is);
-        w-is = λ g. rw (same-lay (suc L) g (omega arith) short, e .w-is g)
+        w-is = λ g. rw (same-lay (suc L) g (omega arith) short, e .w-is g);
       }
 
   inner-same : (b : ℕ) → L < b → b ≤ p → Same (inner left lay b s) (inner left′ lay′ b t)
@@ -64,7 +64,7 @@ module _ (left left′ : ℕ → ℕ) (lay lay′ : ℕ → ℕ → Bool) (L p :
       record {
         c-is = ap suc (e .c-is);
         f-is = rw (same-left (suc L) (omega arith) short);
-        w-is = λ g. rw (same-lay (suc L) g (omega arith) short, e .w-is g)
+        w-is = λ g. rw (same-lay (suc L) g (omega arith) short, e .w-is g);
       }
 
   child-at-same : (b : ℕ) → (0 < b → L < b) → Same (childAt left lay L p s b) (childAt left′ lay′ L p t b)
@@ -75,6 +75,7 @@ module _ (left left′ : ℕ → ℕ) (lay lay′ : ℕ → ℕ → Bool) (L p :
       tests : L < b → (v : Bool) → leb b p ≡ v → (v && ltb 0 (left b)) ≡ (v && ltb 0 (left′ b))
       tests i true y = rw (same-left b i (leb-true b p y))
       tests i false y = refl
+
       more : (b ≡ 0 → ⊥) → Same (pick (leb b p && ltb 0 (left b)) (inner left lay b s) (outer left lay L p s)) (pick (leb b p && ltb 0 (left′ b)) (inner left′ lay′ b t) (outer left′ lay′ L p t))
       more z =
           let i : L < b = h (omega (arith, z)) in
@@ -112,8 +113,10 @@ module _ (B B′ : Loops) (laws : LoopLaws B) (N N′ : Lines) (T T′ : Tables)
     where
       high : p < B .stop d
       high = b .high
+
       own : B .own (suc p) ≡ d
       own = b .owner (omega arith)
+
       go : (u : Bool) → B .isEnd p ≡ u → (v : Bool) → B′ .isEnd p ≡ v → Stepped need need′ p s t
       go u y v z = at u v (sym y ∙ (alike .end-is p low high ∙ z)) y z
         where
@@ -130,7 +133,7 @@ module _ (B B′ : Loops) (laws : LoopLaws B) (N N′ : Lines) (T T′ : Tables)
                 bound = rw y record { low = omega (arith, c .below); high = omega arith; owner = λ h. c .owner };
                 below = rw y (omega arith);
                 next-is = rw (y, z) o;
-                same = rw (y, z, ← o) r
+                same = rw (y, z, ← o) r;
               }
           at false false k y z =
               let o : d < p → B .own p ≡ d = λ h. ⊎-elim (λ (z : p ≡ d). absurd (omega arith)) (λ (z : Plain B d p). z .owner) (laws .plain d p is-do low high own y) in
@@ -138,7 +141,7 @@ module _ (B B′ : Loops) (laws : LoopLaws B) (N N′ : Lines) (T T′ : Tables)
                 bound = rw y record { low = low; high = omega arith; owner = o };
                 below = rw y (omega arith);
                 next-is = rw (y, z);
-                same = rw (y, z) (plain-same need need′ p s t (n (suc p) (omega arith) high) e)
+                same = rw (y, z) (plain-same need need′ p s t (n (suc p) (omega arith) high) e);
               }
 
   walk-alike : (need need′ : ℕ → ℕ) → ((a : ℕ) → d < a → a ≤ B .stop d → need a ≡ need′ a) → (k p : ℕ) (s t : State) → Boundary B d p → Same s t → Same (walk B T need d k p s) (walk B′ T′ need′ d k p t)

@@ -22,6 +22,7 @@ least-same v u d (suc e) h n = go (le-or e d) (least-same v u d e)
   where
     here : v (suc e) ≡ u (suc e)
     here = n (suc e) h (omega arith)
+
     go : (e ≤ d) ⊎ (d < e) → (d < e → ((q : ℕ) → d < q → q ≤ e → v q ≡ u q) → least v d e ≡ least u d e) → pick (leb e d || leb (v (suc e)) (least v d e)) (v (suc e)) (least v d e) ≡ pick (leb e d || leb (u (suc e)) (least u d e)) (u (suc e)) (least u d e)
     go (inl z) r = rw (le-leb e d z) here
     go (inr z) r = rw (here, r z (λ q i j. n q i (omega arith)))
@@ -46,9 +47,11 @@ module _ (B B′ : Loops) (laws : LoopLaws B) (N N′ : Lines) (T T′ : Tables)
           let c : Child B d (B .stop l) l = record { is-do = z; below = y; ends = refl; owner = eqb-true (B .own l) d e } in
           rw (alike .left-is l (suc l) c h (omega arith) (laws .long l z))
       owned y z false e = refl
+
       is : d < l → (v : Bool) → B .isDo l ≡ v → (v && (eqb (B .own l) d && ltb 0 (T .left l (suc l)))) ≡ (v && (eqb (B .own l) d && ltb 0 (T′ .left l (suc l))))
       is y true z = owned y z (eqb (B .own l) d) refl
       is y false z = refl
+
       above : (v : Bool) → ltb d l ≡ v → (v && (B .isDo l && (eqb (B .own l) d && ltb 0 (T .left l (suc l))))) ≡ (v && (B′ .isDo l && (eqb (B′ .own l) d && ltb 0 (T′ .left l (suc l)))))
       above true y =
           let j : d < l = ltb-true d l y in
@@ -91,8 +94,10 @@ module _ (B B′ : Loops) (laws : LoopLaws B) (N N′ : Lines) (T T′ : Tables)
     where
       r : Front
       r = best (value B N T d) (costOf B N T d) (B .stop d) (suc (B .stop d)) q
+
       i : Fronts (value B N T d) (costOf B N T d) (B .stop d) q r
       i = best-is (value B N T d) (costOf B N T d) (B .stop d) (suc (B .stop d)) q (omega arith) (λ k l m. value-front B laws N T d k is-do)
+
       go : (t : Bool) → 0 < pick t r (front 0 0) .f → (d < pick t r (front 0 0) .at) × (pick t r (front 0 0) .at ≤ B .stop d)
       go true z = (omega (arith, i .low z), i .high z)
       go false z = absurd (omega arith)

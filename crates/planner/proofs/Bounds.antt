@@ -34,7 +34,7 @@ last-gap x a zero h =
       low = h .low;
       high = h .high;
       holds = h .holds;
-      last = λ g i j k. omega arith
+      last = λ g i j k. omega arith;
     }
 last-gap x a (suc b) h = go (x (suc b)) refl (last-gap x a b)
   where
@@ -42,11 +42,11 @@ last-gap x a (suc b) h = go (x (suc b)) refl (last-gap x a b)
     go true e r = record { gap = suc b; low = omega (arith, h .low, h .high); high = omega arith; holds = e; last = λ g i j k. omega arith }
     go false e r =
         let m : h .gap ≤ b = ⊎-elim
-          (λ (z : h .gap ≤ b). z)
-          (λ (z : b < h .gap). (
-          let y : h .gap ≡ suc b = omega (arith, h .high) in
-          never-both (h .holds) (rw y e)))
-          (le-or (h .gap) b) in
+        (λ (z : h .gap ≤ b). z)
+        (λ (z : b < h .gap). (
+        let y : h .gap ≡ suc b = omega (arith, h .high) in
+        never-both (h .holds) (rw y e)))
+        (le-or (h .gap) b) in
         let k : Last x a b = r record { gap = h .gap; low = h .low; high = m; holds = h .holds } in
         record {
           gap = k .gap;
@@ -54,11 +54,11 @@ last-gap x a (suc b) h = go (x (suc b)) refl (last-gap x a b)
           high = omega (arith, k .high);
           holds = k .holds;
           last = λ g i j l. ⊎-elim
-            (λ (z : g ≤ b). k .last g i z l)
-            (λ (z : b < g). (
-            let y : g ≡ suc b = omega arith in
-            never-both l (rw y e)))
-            (le-or g b)
+              (λ (z : g ≤ b). k .last g i z l)
+              (λ (z : b < g). (
+              let y : g ≡ suc b = omega arith in
+              never-both l (rw y e)))
+              (le-or g b);
         }
 
 -- the relation of a value to x at d
@@ -76,6 +76,7 @@ close-bound B x d t s b high h = go (leb (s .f) t) refl
   where
     strict : t < s .f → s .c < count B x d
     strict z = lt-by (λ y. omega (arith, b .tight (omega (arith, b .le)) (h .gap) (h .low) (omega (arith, h .high)) (h .holds), h .high))
+
     go : (u : Bool) → leb (s .f) t ≡ u → Bound B x d (pick u s (put d s))
     go true e = b
     go false e = record { le = strict (leb-false (s .f) t e); tight = λ z g i j k. i }
@@ -101,19 +102,20 @@ module _ (W : World) (N : Lines) (laws : Lawful W N) (T : Tables) (table : IsTab
     where
       at-stop : N .limit d (k .gap) ≡ W .loops .stop d → Hit x (suc d) (N .limit d (k .gap))
       at-stop z = record { gap = k .gap; low = k .low; high = omega (arith, k .high); holds = k .holds }
+
       behind : Behind W d (k .gap) (N .limit d (k .gap)) → Hit x (suc d) (N .limit d (k .gap))
       behind z =
           ⊎-elim
-            (λ (h : Hit x (suc d) (N .limit d (k .gap))). h)
-            (λ (h : Hit x (z .a) (W .loops .stop d)). absurd (k .last (h .gap) (omega (arith, h .low, z .above)) (h .high) (h .holds)))
-            (s .sound .backs d (z .a) (N .limit d (k .gap)) self (z .back))
+          (λ (h : Hit x (suc d) (N .limit d (k .gap))). h)
+          (λ (h : Hit x (z .a) (W .loops .stop d)). absurd (k .last (h .gap) (omega (arith, h .low, z .above)) (h .high) (h .holds)))
+          (s .sound .backs d (z .a) (N .limit d (k .gap)) self (z .back))
 
   limit-high : (q : ℕ) → d < q → q ≤ W .loops .stop d → N .limit d q ≤ W .loops .stop d
   limit-high q a b =
       ⊎-elim
-        (λ (z : N .limit d q ≡ W .loops .stop d). omega arith)
-        (λ (z : Behind W d q (N .limit d q)). laws .of-lines .back-high d (z .a) (N .limit d q) is-do (z .back))
-        (laws .of-lines .limit-is d q is-do a b)
+      (λ (z : N .limit d q ≡ W .loops .stop d). omega arith)
+      (λ (z : Behind W d q (N .limit d q)). laws .of-lines .back-high d (z .a) (N .limit d q) is-do (z .back))
+      (laws .of-lines .limit-is d q is-do a b)
 
   value-bound : (x : ℕ → Bool) → Settled W (T .cost) x d → (k : Last x (suc d) (W .loops .stop d)) → Bound (W .loops) x d (value (W .loops) N T d (k .gap))
   unfolding value
@@ -129,13 +131,15 @@ module _ (W : World) (N : Lines) (laws : Lawful W N) (T : Tables) (table : IsTab
     where
       wide : (a b : ℕ) → d < a → b ≤ W .loops .stop d → Hit x a b → Hit x (suc d) (W .loops .stop d)
       wide a b i j h = record { gap = h .gap; low = omega (arith, h .low); high = omega (arith, h .high); holds = h .holds }
+
       home : Home W d → Hit x (suc d) (W .loops .stop d)
       home (by-line a b z) = wide a b (laws .of-lines .line-low d a b is-do z) (laws .of-lines .line-high d a b is-do z) (s .sound .lines d a b self z)
       home (by-back a t z) =
           ⊎-elim
-            (wide (suc d) t (omega arith) (laws .of-lines .back-high d a t is-do z))
-            (wide a (W .loops .stop d) (laws .of-lines .back-low d a t is-do z) (omega arith))
-            (s .sound .backs d a t self z)
+          (wide (suc d) t (omega arith) (laws .of-lines .back-high d a t is-do z))
+          (wide a (W .loops .stop d) (laws .of-lines .back-low d a t is-do z) (omega arith))
+          (s .sound .backs d a t self z)
+
       holder : Holder (W .loops) T d → Hit x (suc d) (W .loops .stop d)
       holder z =
           let i : Inside (W .loops) d (z .loop) = record { is-do = z .is-do; from = omega (arith, z .above); below = z .below } in
@@ -149,18 +153,18 @@ module _ (W : World) (N : Lines) (laws : Lawful W N) (T : Tables) (table : IsTab
   pub lower : (x : ℕ → Bool) → Settled W (T .cost) x d → T .cost d ≤ count (W .loops) x d
   lower x s =
       ⊎-elim
-        (λ (e : someOf (W .loops) N T d ≡ true). (
-        let k : Last x (suc d) (W .loops .stop d) = last-gap x (suc d) (W .loops .stop d) (has-gap x s e) in
-        omega (arith, row-cost (W .loops) (laws .of-loops) N T table d is-do e, least-le (λ q. value (W .loops) N T d q .c) d (W .loops .stop d) (k .gap) (k .low) (k .high), value-bound x s k .le)))
-        (λ (e : someOf (W .loops) N T d ≡ false). omega (arith, row-idle (W .loops) (laws .of-loops) N T table d is-do (suc d) (omega arith) long e .0))
-        (test (someOf (W .loops) N T d))
+      (λ (e : someOf (W .loops) N T d ≡ true). (
+      let k : Last x (suc d) (W .loops .stop d) = last-gap x (suc d) (W .loops .stop d) (has-gap x s e) in
+      omega (arith, row-cost (W .loops) (laws .of-loops) N T table d is-do e, least-le (λ q. value (W .loops) N T d q .c) d (W .loops .stop d) (k .gap) (k .low) (k .high), value-bound x s k .le)))
+      (λ (e : someOf (W .loops) N T d ≡ false). omega (arith, row-idle (W .loops) (laws .of-loops) N T table d is-do (suc d) (omega arith) long e .0))
+      (test (someOf (W .loops) N T d))
 
   pub some-gap : (x : ℕ → Bool) → 0 < T .left d (suc d) → Settled W (T .cost) x d → Hit x (suc d) (W .loops .stop d)
   some-gap x h s =
       ⊎-elim
-        (has-gap x s)
-        (λ (e : someOf (W .loops) N T d ≡ false). absurd (omega (arith, row-idle (W .loops) (laws .of-loops) N T table d is-do (suc d) (omega arith) long e .1)))
-        (test (someOf (W .loops) N T d))
+      (has-gap x s)
+      (λ (e : someOf (W .loops) N T d ≡ false). absurd (omega (arith, row-idle (W .loops) (laws .of-loops) N T table d is-do (suc d) (omega arith) long e .1)))
+      (test (someOf (W .loops) N T d))
 
   -- a best placement has no gap where all loops are idle
   module _ (empty : T .left d (suc d) ≡ 0 → (l : ℕ) → Inside (W .loops) d l → Idle W T l) where
@@ -171,11 +175,11 @@ module _ (W : World) (N : Lines) (laws : Lawful W N) (T : Tables) (table : IsTab
         let i : Inside (W .loops) d l = record { is-do = o .is-do; from = o .from; below = omega (arith, o .below) } in
         let n : 0 < count (W .loops) x l = cnt-some (mineOf (W .loops) x l) (W .loops .stop l) g (omega arith) (o .above) (mine-own (W .loops) x l g refl ∙ h) in
         let c : count (W .loops) x l ≡ T .cost l = ⊎-elim
-          (λ (y : l ≤ d). (
-          let e : l ≡ d = omega (arith, o .from) in
-          rw e (b .exact)))
-          (λ (y : d < l). b .settled .inside l i y)
-          (le-or l d) in
+        (λ (y : l ≤ d). (
+        let e : l ≡ d = omega (arith, o .from) in
+        rw e (b .exact)))
+        (λ (y : d < l). b .settled .inside l i y)
+        (le-or l d) in
         omega (arith, empty z l i .free)
 
     pub leftmost : (x : ℕ → Bool) (q : ℕ) → Best W (T .cost) x d → d < q → Hit x q (W .loops .stop d) → Leads W T d q x
@@ -183,8 +187,10 @@ module _ (W : World) (N : Lines) (laws : Lawful W N) (T : Tables) (table : IsTab
       where
         inside : q ≤ W .loops .stop d
         inside = omega (arith, h .low, h .high)
+
         idle : someOf (W .loops) N T d ≡ false → Leads W T d q x
         idle e = absurd (no-gap x b (row-idle (W .loops) (laws .of-loops) N T table d is-do (suc d) (omega arith) long e .1) (h .gap) (omega (arith, h .low)) (h .high) (h .holds))
+
         busy : someOf (W .loops) N T d ≡ true → Leads W T d q x
         busy e =
             let k : Last x (suc d) (W .loops .stop d) = last-gap x (suc d) (W .loops .stop d) record { gap = h .gap; low = omega (arith, h .low); high = h .high; holds = h .holds } in
@@ -194,5 +200,5 @@ module _ (W : World) (N : Lines) (laws : Lawful W N) (T : Tables) (table : IsTab
             let r : Fronts (value (W .loops) N T d) (T .cost d) (W .loops .stop d) q (front (T .left d q) (T .choice d q)) = row-fronts (W .loops) (laws .of-loops) N T table d is-do q low inside e in
             record {
               there = r .there (k .gap) m (k .high) c;
-              least = λ g i j y. omega (arith, r .least (k .gap) m (k .high) c, v .tight (omega (arith, b .exact)) g i j y)
+              least = λ g i j y. omega (arith, r .least (k .gap) m (k .high) c, v .tight (omega (arith, b .exact)) g i j y);
             }

@@ -47,9 +47,9 @@ settled-inside W laws T x d l is-do s i h =
     record {
       settled = record {
         sound = record { lines = λ m a b j k. s .sound .lines m a b (t m j) k; backs = λ m a b j k. s .sound .backs m a b (t m j) k };
-        inside = λ m j k. s .inside m (t m j) (omega arith)
+        inside = λ m j k. s .inside m (t m j) (omega arith);
       };
-      exact = s .inside l i h
+      exact = s .inside l i h;
     }
 
 child-inside : (B : Loops) (d p l : ℕ) → AtChild B d p l → Inside B d l
@@ -63,21 +63,24 @@ module _ (W : World) (laws : LoopLaws (W .loops)) (T : Tables) (d : ℕ) (is-do 
       record {
         fits = omega (arith, at .high);
         le = ⊎-elim with-gap without (test (x (suc p)));
-        tight = λ z g a b c. omega arith
+        tight = λ z g a b c. omega arith;
       }
     where
       own : mineOf (W .loops) x d (suc p) ≡ x (suc p)
       own = mine-own (W .loops) x d (suc p) (at .owner)
+
       with-gap : x (suc p) ≡ true → suc (s .c) + cnt (mineOf (W .loops) x d) p ≤ count (W .loops) x d
       with-gap e = omega (arith, cnt-yes (mineOf (W .loops) x d) p (own ∙ e), i .le)
+
       must : x (suc p) ≡ false → s .c + cnt (mineOf (W .loops) x d) (suc p) ≡ count (W .loops) x d → Hit x (suc p) (need (suc p)) → ⊥
       must e z k =
           ⊎-elim
-            (λ (y : k .gap ≤ suc p). (
-            let v : k .gap ≡ suc p = omega (arith, k .low) in
-            never-both (k .holds) (rw v e)))
-            (λ (y : suc p < k .gap). omega (arith, i .tight z (k .gap) y (omega (arith, k .high, i .fits)) (k .holds), k .high))
-            (le-or (k .gap) (suc p))
+          (λ (y : k .gap ≤ suc p). (
+          let v : k .gap ≡ suc p = omega (arith, k .low) in
+          never-both (k .holds) (rw v e)))
+          (λ (y : suc p < k .gap). omega (arith, i .tight z (k .gap) y (omega (arith, k .high, i .fits)) (k .holds), k .high))
+          (le-or (k .gap) (suc p))
+
       without : x (suc p) ≡ false → suc (s .c) + cnt (mineOf (W .loops) x d) p ≤ count (W .loops) x d
       without e =
           let n : cnt (mineOf (W .loops) x d) (suc p) ≡ cnt (mineOf (W .loops) x d) p = cnt-skips (mineOf (W .loops) x d) p (own ∙ e) in
@@ -89,6 +92,7 @@ module _ (W : World) (laws : LoopLaws (W .loops)) (T : Tables) (d : ℕ) (is-do 
     where
       own : mineOf (W .loops) x d (suc p) ≡ x (suc p)
       own = mine-own (W .loops) x d (suc p) (at .owner)
+
       go : (x (suc p) ≡ true) ⊎ (x (suc p) ≡ false) → Inv (W .loops) x d p s
       go (inl e) =
           let n : cnt (mineOf (W .loops) x d) (suc p) ≡ suc (cnt (mineOf (W .loops) x d) p) = cnt-yes (mineOf (W .loops) x d) p (own ∙ e) in
@@ -99,11 +103,11 @@ module _ (W : World) (laws : LoopLaws (W .loops)) (T : Tables) (d : ℕ) (is-do 
             fits = i .fits;
             le = omega (arith, i .le);
             tight = λ z g a b c. ⊎-elim
-              (λ (y : g ≤ suc p). (
-              let v : g ≡ suc p = omega arith in
-              never-both c (rw v e)))
-              (λ (y : suc p < g). i .tight (omega arith) g y b c)
-              (le-or g (suc p))
+                (λ (y : g ≤ suc p). (
+                let v : g ≡ suc p = omega arith in
+                never-both c (rw v e)))
+                (λ (y : suc p < g). i .tight (omega arith) g y b c)
+                (le-or g (suc p));
           }
 
   plain-kept : (p : ℕ) (s : State) → AtPlain (W .loops) d p → Inv (W .loops) x d (suc p) s → Inv (W .loops) x d p (stepPlain need p s)
@@ -140,46 +144,46 @@ module _ (W : World) (laws : LoopLaws (W .loops)) (T : Tables) (d : ℕ) (is-do 
     level : s .c + cnt (mineOf (W .loops) x d) l ≤ count (W .loops) x d
     level =
         ⊎-elim
-          (λ (e : x (suc p) ≡ true). omega (arith, cnt-yes (mineOf (W .loops) x d) p (own ∙ e), i .le, count-below))
-          (λ (e : x (suc p) ≡ false). omega (arith, cnt-skips (mineOf (W .loops) x d) p (own ∙ e), i .le, count-below))
-          (test (x (suc p)))
+        (λ (e : x (suc p) ≡ true). omega (arith, cnt-yes (mineOf (W .loops) x d) p (own ∙ e), i .le, count-below))
+        (λ (e : x (suc p) ≡ false). omega (arith, cnt-skips (mineOf (W .loops) x d) p (own ∙ e), i .le, count-below))
+        (test (x (suc p)))
 
     -- equally many: x has no gap after the child, and the front lies before all of its gaps above
     bar : s .c + cnt (mineOf (W .loops) x d) l ≡ count (W .loops) x d → x (suc p) ≡ false
     bar z =
         ⊎-elim
-          (λ (e : x (suc p) ≡ true). absurd (omega (arith, cnt-yes (mineOf (W .loops) x d) p (own ∙ e), i .le, count-below)))
-          (λ (e : x (suc p) ≡ false). e)
-          (test (x (suc p)))
+        (λ (e : x (suc p) ≡ true). absurd (omega (arith, cnt-yes (mineOf (W .loops) x d) p (own ∙ e), i .le, count-below)))
+        (λ (e : x (suc p) ≡ false). e)
+        (test (x (suc p)))
 
     ahead : s .c + cnt (mineOf (W .loops) x d) l ≡ count (W .loops) x d → (g : ℕ) → p < g → g ≤ W .loops .stop d → x g ≡ true → s .f ≤ g
     ahead z g a b c =
         let e : x (suc p) ≡ false = bar z in
         ⊎-elim
-          (λ (y : g ≤ suc p). (
-          let v : g ≡ suc p = omega arith in
-          never-both c (rw v e)))
-          (λ (y : suc p < g). i .tight (omega (arith, cnt-skips (mineOf (W .loops) x d) p (own ∙ e), count-below)) g y b c)
-          (le-or g (suc p))
+        (λ (y : g ≤ suc p). (
+        let v : g ≡ suc p = omega arith in
+        never-both c (rw v e)))
+        (λ (y : suc p < g). i .tight (omega (arith, cnt-skips (mineOf (W .loops) x d) p (own ∙ e), count-below)) g y b c)
+        (le-or g (suc p))
 
     -- so a line that is not cut yet and starts at b is cut inside the child
     caught : (b : ℕ) → l < b → b ≤ suc p → need b < s .f → s .c + cnt (mineOf (W .loops) x d) l ≡ count (W .loops) x d → Hit x b p
     caught b h j u z =
         let k : Hit x b (need b) = hits b (omega (arith, at .child .below)) (omega (arith, at .high)) (omega (arith, i .fits)) in
         let m : k .gap ≤ p = ⊎-elim
-          (λ (y : k .gap ≤ p). y)
-          (λ (y : p < k .gap). absurd (omega (arith, ahead z (k .gap) y (omega (arith, k .high, i .fits)) (k .holds), k .high)))
-          (le-or (k .gap) p) in
+        (λ (y : k .gap ≤ p). y)
+        (λ (y : p < k .gap). absurd (omega (arith, ahead z (k .gap) y (omega (arith, k .high, i .fits)) (k .holds), k .high)))
+        (le-or (k .gap) p) in
         record { gap = k .gap; low = k .low; high = m; holds = k .holds }
 
     front-le : (f g : ℕ) → l < g → x g ≡ true → (p < g → f ≤ g) → firstOf (T .left l (suc l)) f ≤ g
     front-le f g h c k =
         ⊎-elim
-          (λ (y : g ≤ p). (
-          let v : Leads W T l (suc l) x = leads (suc l) (omega arith) record { gap = g; low = h; high = y; holds = c } in
-          first-le (T .left l (suc l)) f g (λ t. v .least g h (omega (arith, ends)) c) (λ t. absurd (omega (arith, v .there)))))
-          (λ (y : p < g). first-le (T .left l (suc l)) f g (λ t. front-high g (omega arith)) (λ t. k y))
-          (le-or g p)
+        (λ (y : g ≤ p). (
+        let v : Leads W T l (suc l) x = leads (suc l) (omega arith) record { gap = g; low = h; high = y; holds = c } in
+        first-le (T .left l (suc l)) f g (λ t. v .least g h (omega (arith, ends)) c) (λ t. absurd (omega (arith, v .there)))))
+        (λ (y : p < g). first-le (T .left l (suc l)) f g (λ t. front-high g (omega arith)) (λ t. k y))
+        (le-or g p)
 
     free-kept : Free need (s .f) l p → Inv (W .loops) x d l (free (T .left l) (T .lay l) l s)
     unfolding free
@@ -187,7 +191,7 @@ module _ (W : World) (laws : LoopLaws (W .loops)) (T : Tables) (d : ℕ) (is-do 
         record {
           fits = first-le (T .left l (suc l)) (s .f) (suc (W .loops .stop d)) (λ t. front-high (suc (W .loops .stop d)) (omega (arith, at .high))) (λ t. i .fits);
           le = level;
-          tight = λ z g a b c. front-le (s .f) g a c (λ h. ahead z g h b c)
+          tight = λ z g a b c. front-le (s .f) g a c (λ h. ahead z g h b c);
         }
 
     inner-kept : (b : ℕ) → Inner need (T .left l) (s .f) l p b → Inv (W .loops) x d l (inner (T .left l) (T .lay l) b s)
@@ -198,9 +202,9 @@ module _ (W : World) (laws : LoopLaws (W .loops)) (T : Tables) (d : ℕ) (is-do 
           fits = omega (arith, at .high);
           le = level;
           tight = λ z g a u c. ⊎-elim
-            (λ (v : g ≤ p). leads b (k .low) (caught b (k .low) (omega (arith, k .high)) (k .uncut) z) .least g a (omega (arith, ends)) c)
-            (λ (v : p < g). omega arith)
-            (le-or g p)
+              (λ (v : g ≤ p). leads b (k .low) (caught b (k .low) (omega (arith, k .high)) (k .uncut) z) .least g a (omega (arith, ends)) c)
+              (λ (v : p < g). omega arith)
+              (le-or g p);
         }
 
     outer-kept : (b : ℕ) → Outer need (T .left l) (s .f) l p b → Inv (W .loops) x d l (outer (T .left l) (T .lay l) l p s)
@@ -209,10 +213,10 @@ module _ (W : World) (laws : LoopLaws (W .loops)) (T : Tables) (d : ℕ) (is-do 
         record {
           fits = first-le (T .left l (suc l)) (suc p) (suc (W .loops .stop d)) (λ t. front-high (suc (W .loops .stop d)) (omega (arith, at .high))) (λ t. omega (arith, at .high));
           le = ⊎-elim
-            (λ (e : x (suc p) ≡ true). omega (arith, cnt-yes (mineOf (W .loops) x d) p (own ∙ e), i .le, count-below))
-            (λ (e : x (suc p) ≡ false). omega (arith, level, strict))
-            (test (x (suc p)));
-          tight = λ z g a u c. front-le (suc p) g a c (λ h. h)
+              (λ (e : x (suc p) ≡ true). omega (arith, cnt-yes (mineOf (W .loops) x d) p (own ∙ e), i .le, count-below))
+              (λ (e : x (suc p) ≡ false). omega (arith, level, strict))
+              (test (x (suc p)));
+          tight = λ z g a u c. front-le (suc p) g a c (λ h. h);
         }
       where
         strict : s .c + cnt (mineOf (W .loops) x d) l < count (W .loops) x d
@@ -226,4 +230,4 @@ module _ (W : World) (laws : LoopLaws (W .loops)) (T : Tables) (d : ℕ) (is-do 
   pub exchange : Inv (W .loops) x d d (sweep (W .loops) T need d)
   exchange =
       along (W .loops) laws T need d is-do (Inv (W .loops) x d) plain-kept child-kept
-        record { fits = omega arith; le = omega arith; tight = λ z g a b c. absurd (omega arith) }
+      record { fits = omega arith; le = omega arith; tight = λ z g a b c. absurd (omega arith) }

@@ -17,4 +17,5 @@ pub mod AttainedEmpty
 pub mod Alike
 pub mod AlikeRows
 pub mod Tables
+pub mod Theorem
 mod Trial

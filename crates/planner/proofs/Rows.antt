@@ -40,7 +40,7 @@ child-some B T d (suc l) b h = go (or-true (ltb d l && (B .isDo l && (eqb (B .ow
           above = ltb-true d l (a .0);
           below = b;
           owner = eqb-true (B .own l) d (e .0);
-          there = ltb-true 0 (T .left l (suc l)) (e .1)
+          there = ltb-true 0 (T .left l (suc l)) (e .1);
         }
 
 child-none : (B : Loops) (T : Tables) (d n l : ℕ) → childSome B T d n ≡ false → l < n → d < l → B .isDo l ≡ true → B .own l ≡ d → T .left l (suc l) ≡ 0
@@ -51,14 +51,14 @@ child-none B T d (suc n) l h a b c e = go (or-false (ltb d n && (B .isDo n && (e
     go : ((ltb d n && (B .isDo n && (eqb (B .own n) d && ltb 0 (T .left n (suc n))))) ≡ false) × (childSome B T d n ≡ false) → (childSome B T d n ≡ false → l < n → d < l → B .isDo l ≡ true → B .own l ≡ d → T .left l (suc l) ≡ 0) → T .left l (suc l) ≡ 0
     go k r =
         ⊎-elim
-          (λ (z : T .left l (suc l) ≤ 0). omega arith)
-          (λ (z : 0 < T .left l (suc l)). ⊎-elim
-          (λ (y : l ≡ n). (
-          let all : (ltb d l && (B .isDo l && (eqb (B .own l) d && ltb 0 (T .left l (suc l))))) ≡ true = and-intro (lt-ltb d l b) (and-intro c (and-intro (eq-eqb (B .own l) d e) (lt-ltb 0 (T .left l (suc l)) z))) in
-          never-both (rw y at all) (k .0)))
-          (λ (y : l ≡ n → ⊥). r (k .1) (omega (arith, y)) b c e)
-          (eq-or l n))
-          (le-or (T .left l (suc l)) 0)
+        (λ (z : T .left l (suc l) ≤ 0). omega arith)
+        (λ (z : 0 < T .left l (suc l)). ⊎-elim
+        (λ (y : l ≡ n). (
+        let all : (ltb d l && (B .isDo l && (eqb (B .own l) d && ltb 0 (T .left l (suc l))))) ≡ true = and-intro (lt-ltb d l b) (and-intro c (and-intro (eq-eqb (B .own l) d e) (lt-ltb 0 (T .left l (suc l)) z))) in
+        never-both (rw y at all) (k .0)))
+        (λ (y : l ≡ n → ⊥). r (k .1) (omega (arith, y)) b c e)
+        (eq-or l n))
+        (le-or (T .left l (suc l)) 0)
 
 -- something to cut: a dependence with home d, or a child that holds barriers; and nothing: neither
 pub some-home : (B : Loops) (N : Lines) (T : Tables) (d : ℕ) → someOf B N T d ≡ true → (N .has d ≡ true) ⊎ Holder B T d
@@ -84,12 +84,12 @@ pub sweep-front : (B : Loops) → LoopLaws B → (T : Tables) (need : ℕ → �
 unfolding put free inner outer
 sweep-front B laws T need d is-do =
     along B laws T need d is-do (λ p s. 0 < s .f)
-      (λ p s at i. plain-cases (λ s. 0 < s .f) need p s (λ h. omega arith) (λ h. i))
-      (λ p l s at i. child-cases (λ s. 0 < s .f) need (T .left l) (T .lay l) l p s
-        (λ k. first-pos (T .left l (suc l)) (s .f) i)
-        (λ b k. k .there)
-        (λ b k. first-pos (T .left l (suc l)) (suc p) (omega arith)))
-      (omega arith)
+    (λ p s at i. plain-cases (λ s. 0 < s .f) need p s (λ h. omega arith) (λ h. i))
+    (λ p l s at i. child-cases (λ s. 0 < s .f) need (T .left l) (T .lay l) l p s
+    (λ k. first-pos (T .left l (suc l)) (s .f) i)
+    (λ b k. k .there)
+    (λ b k. first-pos (T .left l (suc l)) (suc p) (omega arith)))
+    (omega arith)
 
 pub value-front : (B : Loops) → LoopLaws B → (N : Lines) (T : Tables) (d q : ℕ) → B .isDo d ≡ true → 0 < value B N T d q .f
 unfolding value close put
@@ -97,6 +97,7 @@ value-front B laws N T d q is-do = go (leb (sweep B T need d .f) (N .limit d q))
   where
     need : ℕ → ℕ
     need = needOf (N .reach d) q (B .stop d)
+
     go : (t : Bool) → 0 < pick t (sweep B T need d) (put d (sweep B T need d)) .f
     go true = sweep-front B laws T need d is-do
     go false = omega arith

@@ -36,7 +36,7 @@ row-kept B laws N S T d x is-do h a r =
       cost-is = r .cost-is ∙ cost-alike B B laws N N S T x is-do alike;
       left-is = λ q i j. r .left-is q i j ∙ left-alike B B laws N N S T x is-do alike q i j;
       choice-is = λ q i j. r .choice-is q i j ∙ choice-alike B B laws N N S T x is-do alike q i j;
-      lay-is = λ q g i j. r .lay-is q g i j ∙ lay-alike B B laws N N S T x is-do alike q g i j
+      lay-is = λ q g i j. r .lay-is q g i j ∙ lay-alike B B laws N N S T x is-do alike q g i j;
     }
   where
     alike : Alike B B N N S T x
@@ -50,7 +50,7 @@ row-kept B laws N S T d x is-do h a r =
           reach-is = λ a i j. refl;
           limit-is = λ q i j. refl;
           left-is = λ l q c i j k. ap (λ (f : ℕ → ℕ). f q) (a .left-is l (omega (arith, c .below)));
-          lay-is = λ l q g c i j k. ap (λ (f : ℕ → ℕ → Bool). f q g) (a .lay-is l (omega (arith, c .below)))
+          lay-is = λ l q g c i j k. ap (λ (f : ℕ → ℕ → Bool). f q g) (a .lay-is l (omega (arith, c .below)));
         }
 
 module _ (B : Loops) (laws : LoopLaws B) (N : Lines) where
@@ -61,7 +61,7 @@ module _ (B : Loops) (laws : LoopLaws B) (N : Lines) where
         cost-is = λ x h. rw (ne-eqb x d (λ e. omega arith));
         left-is = λ x h. rw (ne-eqb x d (λ e. omega arith));
         choice-is = λ x h. rw (ne-eqb x d (λ e. omega arith));
-        lay-is = λ x h. rw (ne-eqb x d (λ e. omega arith))
+        lay-is = λ x h. rw (ne-eqb x d (λ e. omega arith));
       }
 
   row-here : (T : Tables) (d : ℕ) → RowOf B N T (withRow B N d T) d
@@ -71,7 +71,7 @@ module _ (B : Loops) (laws : LoopLaws B) (N : Lines) where
         cost-is = rw (eq-eqb d d refl);
         left-is = λ q i j. rw (eq-eqb d d refl);
         choice-is = λ q i j. rw (eq-eqb d d refl);
-        lay-is = λ q g i j. rw (eq-eqb d d refl)
+        lay-is = λ q g i j. rw (eq-eqb d d refl);
       }
 
   -- a later row stays
@@ -82,7 +82,7 @@ module _ (B : Loops) (laws : LoopLaws B) (N : Lines) where
         cost-is = sym (a .cost-is x h) ∙ r .cost-is;
         left-is = λ q i j. ap (λ (f : ℕ → ℕ). f q) (sym (a .left-is x h)) ∙ r .left-is q i j;
         choice-is = λ q i j. ap (λ (f : ℕ → ℕ). f q) (sym (a .choice-is x h)) ∙ r .choice-is q i j;
-        lay-is = λ q g i j. ap (λ (f : ℕ → ℕ → Bool). f q g) (sym (a .lay-is x h)) ∙ r .lay-is q g i j
+        lay-is = λ q g i j. ap (λ (f : ℕ → ℕ → Bool). f q g) (sym (a .lay-is x h)) ∙ r .lay-is q g i j;
       }
 
   rows-from : (k d x : ℕ) → B .isDo x ≡ true → d ≤ x → x < d + k → RowOf B N (tableFrom B N k d) (tableFrom B N k d) x
@@ -99,11 +99,11 @@ module _ (B : Loops) (laws : LoopLaws B) (N : Lines) where
               rw y (row-here T d)
       go false e T r =
           ⊎-elim
-            (λ (z : x ≤ d). (
-            let y : x ≡ d = omega arith in
-            never-both is-do (rw y e)))
-            r
-            (le-or x d)
+          (λ (z : x ≤ d). (
+          let y : x ≡ d = omega arith in
+          never-both is-do (rw y e)))
+          r
+          (le-or x d)
 
   pub table-is : (n : ℕ) → ((d : ℕ) → B .isDo d ≡ true → d < n) → IsTable B N (tableOf B N n)
   unfolding tableOf
@@ -112,7 +112,7 @@ module _ (B : Loops) (laws : LoopLaws B) (N : Lines) where
         cost-is = λ d i. row d i .cost-is;
         left-is = λ d q i. row d i .left-is q;
         choice-is = λ d q i. row d i .choice-is q;
-        lay-is = λ d q g i. row d i .lay-is q g
+        lay-is = λ d q g i. row d i .lay-is q g;
       }
     where
       row : (d : ℕ) → B .isDo d ≡ true → RowOf B N (tableFrom B N n 0) (tableFrom B N n 0) d

@@ -15,9 +15,9 @@ unfoldable pub withRow : Loops → Lines → ℕ → Tables → Tables
 withRow B N d T =
     record {
       cost = λ x.
-        let r = costOf B N T d in
-        let s = T .cost x in
-        pick (eqb x d) r s;
+          let r = costOf B N T d in
+          let s = T .cost x in
+          pick (eqb x d) r s;
       left = λ x. pick (eqb x d) (leftOf B N T d) (T .left x);
       choice = λ x. pick (eqb x d) (choiceOf B N T d) (T .choice x);
       lay = λ x. pick (eqb x d) (layOf B N T d) (T .lay x);
