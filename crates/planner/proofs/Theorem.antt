@@ -26,7 +26,9 @@ pub record Key (W : World) (d : ℕ) (x : ℕ → Bool) : Type 0 where
   pub low : (g : ℕ) → x g ≡ true → d < g
   pub high : (g : ℕ) → x g ≡ true → g ≤ W .loops .stop d
   pub sound : Sound W x d
-  pub least : (y : ℕ → Bool) (l : ℕ) → Sound W y d → Inside (W .loops) d l → ((m : ℕ) → Inside (W .loops) l m → l < m → count (W .loops) y m ≡ count (W .loops) x m) → count (W .loops) x l ≤ count (W .loops) y l
+  pub least : (y : ℕ → Bool) (l : ℕ) → Sound W y d → Inside (W .loops) d l →
+      ((m : ℕ) → Inside (W .loops) l m → l < m → count (W .loops) y m ≡ count (W .loops) x m) →
+      count (W .loops) x l ≤ count (W .loops) y l
 
 -- what is laid for d: the cost at every loop, every dependence cut, in d's range
 pub record Done (W : World) (T : Tables) (d : ℕ) (x : ℕ → Bool) : Type 0 where
@@ -51,7 +53,9 @@ module _ (W : World) (N : Lines) (laws : Lawful W N) (T : Tables) (table : IsTab
   claim-in : (k d : ℕ) → W .loops .stop d ≤ d + k → W .loops .isDo d ≡ true → Claim W T d
   claim-in zero d h is-do = absurd (omega (arith, laws .of-loops .long d is-do))
   claim-in (suc k) d h is-do =
-      claim-from d is-do (λ l i j. claim-in k l (omega (arith, laws .of-loops .nested d l is-do (i .is-do) j (omega (arith, i .below)))) (i .is-do))
+      claim-from d is-do
+      (λ l i j. claim-in k l
+      (omega (arith, laws .of-loops .nested d l is-do (i .is-do) j (omega (arith, i .below)))) (i .is-do))
 
   pub claim : (d : ℕ) → W .loops .isDo d ≡ true → Claim W T d
   claim d is-do = claim-in (W .loops .stop d) d (omega arith) is-do
@@ -74,12 +78,17 @@ module _ (W : World) (N : Lines) (laws : Lawful W N) (T : Tables) (table : IsTab
               (le-or l d);
         }
 
-    bare-done : (x : ℕ → Bool) → ((g : ℕ) → x g ≡ true → ⊥) → ((l : ℕ) → Inside (W .loops) d l → Idle W T l) → Done W T d x
+    bare-done : (x : ℕ → Bool) → ((g : ℕ) → x g ≡ true → ⊥) → ((l : ℕ) → Inside (W .loops) d l → Idle W T l) →
+        Done W T d x
     bare-done x h idle =
         record {
           low = λ g i. absurd (h g i);
           high = λ g i. absurd (h g i);
-          sound = record { lines = λ l a b i j. absurd (idle l i .no-line a b j); backs = λ l a t i j. absurd (idle l i .no-back a t j) };
+          sound = record {
+            lines = λ l a b i j. absurd (idle l i .no-line a b j);
+            backs = λ l a t i j. absurd
+                (idle l i .no-back a t j);
+          };
           counts = λ l i. count-none (W .loops) x l (λ g u v o. h g) ∙ sym (idle l i .free);
         }
 
@@ -87,7 +96,8 @@ module _ (W : World) (N : Lines) (laws : Lawful W N) (T : Tables) (table : IsTab
     laid =
         let c : Claim W T d = claim d is-do in
         ⊎-elim
-        (λ (z : T .left d (suc d) ≤ 0). bare-done (T .lay d (suc d)) (c .blank (suc d) (omega arith) long (omega arith)) (c .empty (omega arith)))
+        (λ (z : T .left d (suc d) ≤ 0). bare-done (T .lay d (suc d))
+        (c .blank (suc d) (omega arith) long (omega arith)) (c .empty (omega arith)))
         (λ (z : 0 < T .left d (suc d)). laid-done (T .lay d (suc d)) (suc d) (c .attained (suc d) (omega arith) long z))
         (le-or (T .left d (suc d)) 0)
 
@@ -101,11 +111,16 @@ module _ (W : World) (N : Lines) (laws : Lawful W N) (T : Tables) (table : IsTab
         (le-or l d)
 
     -- a placement that is sound at d and has the costs in all the loops inside l has at least l's cost
-    pub least-at : (y : ℕ → Bool) (l : ℕ) → Sound W y d → Inside (W .loops) d l → ((m : ℕ) → Inside (W .loops) l m → l < m → count (W .loops) y m ≡ T .cost m) → T .cost l ≤ count (W .loops) y l
+    pub least-at : (y : ℕ → Bool) (l : ℕ) → Sound W y d → Inside (W .loops) d l →
+        ((m : ℕ) → Inside (W .loops) l m → l < m → count (W .loops) y m ≡ T .cost m) → T .cost l ≤ count (W .loops) y l
     least-at y l s i same = claim l (i .is-do) .lower y record { sound = within; inside = same }
       where
         within : Sound W y l
-        within = record { lines = λ m a b j. s .lines m a b (widen l m i j); backs = λ m a t j. s .backs m a t (widen l m i j) }
+        within = record {
+          lines = λ m a b j. s .lines m a b (widen l m i j);
+          backs = λ m a t j. s .backs m a t
+              (widen l m i j);
+        }
 
     pub key-is : Key W d (T .lay d (suc d))
     key-is =
@@ -119,6 +134,8 @@ module _ (W : World) (N : Lines) (laws : Lawful W N) (T : Tables) (table : IsTab
         }
 
 -- the computed key, of a nest of n points whose outermost loop is 0
-pub computed-key : (W : World) (N : Lines) → Lawful W N → (n : ℕ) → W .loops .isDo 0 ≡ true → ((d : ℕ) → W .loops .isDo d ≡ true → d < n) → Key W 0 (keyOf (W .loops) N n)
+pub computed-key : (W : World) (N : Lines) → Lawful W N → (n : ℕ) → W .loops .isDo 0 ≡ true →
+    ((d : ℕ) → W .loops .isDo d ≡ true → d < n) → Key W 0 (keyOf (W .loops) N n)
 unfolding keyOf
-computed-key W N laws n first below = key-is W N laws (tableOf (W .loops) N n) (table-is (W .loops) (laws .of-loops) N n below) 0 first
+computed-key W N laws n first below = key-is W N laws (tableOf (W .loops) N n)
+    (table-is (W .loops) (laws .of-loops) N n below) 0 first

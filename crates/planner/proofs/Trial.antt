@@ -12,7 +12,13 @@ use Rattle.planner.specs.Plan
 
 -- loops from the list of kinds, of the ENDDO of each DO, and of the loop of each gap
 abbrev loopsOf : List ℕ → List ℕ → List ℕ → Sweep.Loops
-loopsOf kinds stops owns = record { isDo = λ d. eqb (getD kinds d 0) 1; isEnd = λ p. eqb (getD kinds p 0) 2; stop = λ d. getD stops d 0; own = λ g. getD owns g 0 }
+loopsOf kinds stops owns = record {
+  isDo = λ d. eqb (getD kinds d 0) 1;
+  isEnd = λ p. eqb
+      (getD kinds p 0) 2;
+  stop = λ d. getD stops d 0;
+  own = λ g. getD owns g 0;
+}
 
 -- the gaps of a placement, the last first
 abbrev gaps : (ℕ → Bool) → ℕ → List ℕ
@@ -55,7 +61,12 @@ abbrev loops-R : Sweep.Loops
 loops-R = loopsOf (1 ∷ (3 ∷ (3 ∷ (3 ∷ (3 ∷ (3 ∷ (3 ∷ (2 ∷ [])))))))) (7 ∷ []) []
 
 abbrev lines-R : Sweep.Lines
-lines-R = record { has = λ d. true; reach = λ d a. pick (eqb a 2) 4 (pick (eqb a 4) 6 99); limit = λ d q. pick (ltb q 6) 2 7 }
+lines-R = record {
+  has = λ d. true;
+  reach = λ d a. pick (eqb a 2) 4 (pick (eqb a 4) 6 99);
+  limit = λ d q. pick
+      (ltb q 6) 2 7;
+}
 
 key-P : gaps (Plan.keyOf loops-P lines-P 14) 13 ≡ 11 ∷ (5 ∷ [])
 unfolding Plan.keyOf Plan.tableOf Plan.tableFrom Plan.withRow Plan.noTables Sweep.needOf Sweep.put Sweep.stepPlain Sweep.seek Sweep.free Sweep.inner Sweep.outer Sweep.childAt Sweep.stepChild Sweep.next Sweep.step Sweep.walk Sweep.sweep Sweep.close Sweep.value Sweep.least Sweep.better Sweep.best Sweep.childSome Sweep.someOf Sweep.costOf Sweep.frontOf Sweep.leftOf Sweep.choiceOf Sweep.layOf
