@@ -65,8 +65,7 @@ unfolding put
 put-same p s t e = record {
   c-is = ap suc (e .c-is);
   f-is = refl;
-  w-is = λ g. ap (λ (b : Bool). eqb g (suc p) || b)
-      (e .w-is g);
+  w-is = λ g. ap (λ (b : Bool). eqb g (suc p) || b) (e .w-is g);
 }
 
 plain-same : (need need′ : ℕ → ℕ) (p : ℕ) (s t : State) → need (suc p) ≡ need′ (suc p) → Same s t →

@@ -65,8 +65,7 @@ last-gap x a (suc b) h = go (x (suc b)) refl (last-gap x a b)
     go : (t : Bool) → x (suc b) ≡ t → (Hit x a b → Last x a b) → Last x a (suc b)
     go true e r = record {
       gap = suc b;
-      low = omega
-          (arith, h .low, h .high);
+      low = omega (arith, h .low, h .high);
       high = omega arith;
       holds = e;
       last = λ g i j k. omega arith;
@@ -181,8 +180,7 @@ module _ (W : World) (N : Lines) (laws : Lawful W N) (T : Tables) (table : IsTab
       wide a b i j h = record {
         gap = h .gap;
         low = omega (arith, h .low);
-        high = omega
-            (arith, h .high);
+        high = omega (arith, h .high);
         holds = h .holds;
       }
 
@@ -266,8 +264,7 @@ module _ (W : World) (N : Lines) (laws : Lawful W N) (T : Tables) (table : IsTab
             let k : Last x (suc d) (W .loops .stop d) = last-gap x (suc d)
             (W .loops .stop d) record {
               gap = h .gap;
-              low = omega
-                  (arith, h .low);
+              low = omega (arith, h .low);
               high = h .high;
               holds = h .holds;
             } in

@@ -63,8 +63,7 @@ settled-inside W laws T x d l is-do s i h =
     record {
       settled = record {
         sound = record {
-          lines = λ m a b j k. s .sound .lines m a b
-              (t m j) k;
+          lines = λ m a b j k. s .sound .lines m a b (t m j) k;
           backs = λ m a b j k. s .sound .backs m a b (t m j) k;
         };
         inside = λ m j k. s .inside m (t m j) (omega arith);
@@ -76,8 +75,7 @@ child-inside : (B : Loops) (d p l : ℕ) → AtChild B d p l → Inside B d l
 child-inside B d p l at = record {
   is-do = at .child .is-do;
   from = omega (arith, at .child .below);
-  below = omega
-      (arith, at .short, at .high);
+  below = omega (arith, at .short, at .high);
 }
 
 module _ (W : World) (laws : LoopLaws (W .loops)) (T : Tables) (d : ℕ) (is-do : W .loops .isDo d ≡ true)

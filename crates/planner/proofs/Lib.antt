@@ -18,4 +18,4 @@ pub mod Alike
 pub mod AlikeRows
 pub mod Tables
 pub mod Theorem
-mod Trial
+pub mod Papers

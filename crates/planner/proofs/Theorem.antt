@@ -86,8 +86,7 @@ module _ (W : World) (N : Lines) (laws : Lawful W N) (T : Tables) (table : IsTab
           high = λ g i. absurd (h g i);
           sound = record {
             lines = λ l a b i j. absurd (idle l i .no-line a b j);
-            backs = λ l a t i j. absurd
-                (idle l i .no-back a t j);
+            backs = λ l a t i j. absurd (idle l i .no-back a t j);
           };
           counts = λ l i. count-none (W .loops) x l (λ g u v o. h g) ∙ sym (idle l i .free);
         }
@@ -118,8 +117,7 @@ module _ (W : World) (N : Lines) (laws : Lawful W N) (T : Tables) (table : IsTab
         within : Sound W y l
         within = record {
           lines = λ m a b j. s .lines m a b (widen l m i j);
-          backs = λ m a t j. s .backs m a t
-              (widen l m i j);
+          backs = λ m a t j. s .backs m a t (widen l m i j);
         }
 
     pub key-is : Key W d (T .lay d (suc d))

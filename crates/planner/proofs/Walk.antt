@@ -122,8 +122,7 @@ module _ (P : State → Type 0) (need left : ℕ → ℕ) (lay : ℕ → ℕ →
             low = k .low y;
             high = leb-true b p (j .0);
             uncut = k .uncut y;
-            there = ltb-true 0 (left b)
-                (j .1);
+            there = ltb-true 0 (left b) (j .1);
             above = k .above;
           }
       go false false e i =
@@ -222,8 +221,7 @@ module _ (B : Loops) (laws : LoopLaws B) (T : Tables) (need : ℕ → ℕ) (d : 
   unfolding sweep
   along i = along-walk (B .stop d) (B .stop d) (start (B .stop d))
       (omega arith) record {
-        low = omega
-            (arith, laws .long d is-do);
+        low = omega (arith, laws .long d is-do);
         high = omega arith;
         owner = λ h. laws .own-stop d is-do;
       } i
