@@ -1,1 +1,6 @@
--- Laws of nests.
+-- Laws of nests: levels, loops, gaps, dependences, the ring.
+pub mod Levels
+pub mod Loops
+pub mod Gaps
+pub mod Deps
+pub mod Ring
