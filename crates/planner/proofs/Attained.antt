@@ -84,7 +84,7 @@ module _
         go false z =
             let f : suc d < s .f = omega (arith, leb-false (s .f) (N .limit d q) z, above) in
             let p : Swept W T need d d (put d s) =
-              put-swept W (laws .of-loops) T d kids need needs d s at-first (raised need s f k) in
+            put-swept W (laws .of-loops) T d kids need needs d s at-first (raised need s f k) in
             record { laid = p; within = above }
 
     valued : Within W T need d (N .limit d q) v
@@ -152,7 +152,7 @@ module _
       ⊎-elim
       (λ (z : someOf (W .loops) N T d ≡ true). z)
       (λ (z : someOf (W .loops) N T d ≡ false). (
-          absurd (omega (arith, row-idle (W .loops) (laws .of-loops) N T table d is-do q low high z .1))))
+      absurd (omega (arith, row-idle (W .loops) (laws .of-loops) N T table d is-do q low high z .1))))
       (test (someOf (W .loops) N T d))
 
   -- the placement that the table takes: the value for the choice
@@ -186,7 +186,7 @@ module _
   pub attained : (q : ℕ) → d < q → q ≤ e → 0 < T .left d q → Laid W T d q (T .lay d q)
   attained q low high h =
       let same : (g : ℕ) → T .lay d q g ≡ value (W .loops) N T d (T .choice d q) .w g =
-        λ g. row-lay (W .loops) (laws .of-loops) N T table d is-do q g low high h in
+      λ g. row-lay (W .loops) (laws .of-loops) N T table d is-do q g low high h in
       subst⁻¹ (λ x. Laid W T d q x) (fun-ext same) (chosen q low high h)
 
   pub blank : (q : ℕ) → d < q → q ≤ e → T .left d q ≡ 0 → (g : ℕ) → T .lay d q g ≡ true → ⊥

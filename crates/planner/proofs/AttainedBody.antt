@@ -46,12 +46,14 @@ count-same B x y l h =
     go g i j (inr z) = mine-other B x l g z ∙ sym (mine-other B y l g z)
 
 -- a placement with no gap of l's own counts nothing there
-pub count-none : (B : Loops) (x : ℕ → Bool) (l : ℕ) → ((g : ℕ) → B .own g ≡ l → x g ≡ true → ⊥) → count B x l ≡ 0
-count-none B x l h = cnt-none (mineOf B x l) (B .stop l) (λ g i j. go g (eq-or (B .own g) l))
+pub count-none : (B : Loops) (x : ℕ → Bool) (l : ℕ)
+    → ((g : ℕ) → 0 < g → g ≤ B .stop l → B .own g ≡ l → x g ≡ true → ⊥)
+    → count B x l ≡ 0
+count-none B x l h = cnt-none (mineOf B x l) (B .stop l) (λ g i j. go g i j (eq-or (B .own g) l))
   where
-    go : (g : ℕ) → (B .own g ≡ l) ⊎ ((B .own g ≡ l) → ⊥) → mineOf B x l g ≡ false
-    go g (inl z) = mine-own B x l g z ∙ false-by (h g z)
-    go g (inr z) = mine-other B x l g z
+    go : (g : ℕ) → 0 < g → g ≤ B .stop l → (B .own g ≡ l) ⊎ ((B .own g ≡ l) → ⊥) → mineOf B x l g ≡ false
+    go g i j (inl z) = mine-own B x l g z ∙ false-by (h g i j z)
+    go g i j (inr z) = mine-other B x l g z
 
 -- of two placements together: at a gap that the first lacks it is the second, and the other way round
 pub also-right : (x w : ℕ → Bool) (g : ℕ) → (x g ≡ true → ⊥) → also x w g ≡ w g
@@ -81,9 +83,9 @@ done-more W T l x y h i k =
       exact = count-same (W .loops) y x l i ∙ k .exact;
       lines = λ a b j. hit-more h (k .lines a b j);
       backs = λ a t j. ⊎-elim
-      (λ (z : Hit x (suc l) t). inl (hit-more h z))
-      (λ (z : Hit x a (W .loops .stop l)). inr (hit-more h z))
-      (k .backs a t j);
+          (λ (z : Hit x (suc l) t). inl (hit-more h z))
+          (λ (z : Hit x a (W .loops .stop l)). inr (hit-more h z))
+          (k .backs a t j);
     }
 
 -- what the table lays for a loop
@@ -113,7 +115,7 @@ idle-part W T l x h k =
       low = λ g i. absurd (k g i);
       high = λ g i. absurd (k g i);
       done = λ m i. record {
-        exact = count-none (W .loops) x m (λ g o. k g) ∙ sym (h m i .free);
+        exact = count-none (W .loops) x m (λ g u v o. k g) ∙ sym (h m i .free);
         lines = λ a b j. absurd (h m i .no-line a b j);
         backs = λ a t j. absurd (h m i .no-back a t j);
       };
@@ -135,7 +137,7 @@ module _ (W : World) (laws : LoopLaws (W .loops)) (T : Tables) (d : ℕ) where
   pub start-body : Body W T d (W .loops .stop d) 0 bare
   start-body =
       record {
-        mine = count-none (W .loops) bare d (λ g o k. never k);
+        mine = count-none (W .loops) bare d (λ g i j o k. never k);
         passed = λ l i h j. absurd (omega (arith, i .below));
       }
 
@@ -184,9 +186,9 @@ module _ (W : World) (laws : LoopLaws (W .loops)) (T : Tables) (d : ℕ) where
         record {
           mine = mine-put ∙ ap suc (k .mine);
           passed = λ l i j u. done-more W T l w put-gap
-          (λ g z. or-right (only (suc p) g) z)
-          (λ g a b e. also-right (only (suc p)) w g (not-there l g u a e))
-          (k .passed l i j u);
+              (λ g z. or-right (only (suc p) g) z)
+              (λ g a b e. also-right (only (suc p)) w g (not-there l g u a e))
+              (k .passed l i j u);
         }
 
   -- what is laid for a child, before all that is laid
@@ -206,9 +208,12 @@ module _ (W : World) (laws : LoopLaws (W .loops)) (T : Tables) (d : ℕ) where
     ends-by m i =
         ⊎-elim
         (λ (z : m ≤ l). (
-            let y : m ≡ l = omega (arith, i .from) in
-            rw y (omega (arith, child .ends))))
-        (λ (z : l < m). omega (arith, child .ends, laws .nested l m (child .is-do) (i .is-do) z (omega (arith, i .below))))
+        let y : m ≡ l = omega (arith, i .from) in
+        rw y (omega (arith, child .ends))))
+        (λ (z : l < m). (
+        let y : W .loops .stop m < W .loops .stop l =
+        laws .nested l m (child .is-do) (i .is-do) z (omega (arith, i .below)) in
+        omega (arith, child .ends)))
         (le-or m l)
 
     in-child : (m : ℕ) → Inside (W .loops) l m → Done W T m (also x w)

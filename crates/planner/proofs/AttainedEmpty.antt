@@ -37,7 +37,10 @@ module _ (B : Loops) (laws : LoopLaws B) (T : Tables) (d : ℕ) (is-do : B .isDo
       (λ (z : suc p ≤ l). k l i h z)
       (λ (z : l < suc p). (
       let y : l ≡ p = omega arith in
-      ⊎-elim (λ (e : p ≡ d). absurd (omega arith)) (λ (e : Plain B d p). never-both (i .is-do) (rw y (e .no-do))) (at .before)))
+      ⊎-elim
+      (λ (e : p ≡ d). absurd (omega arith))
+      (λ (e : Plain B d p). never-both (i .is-do) (rw y (e .no-do)))
+      (at .before)))
       (le-or (suc p) l)
 
   over-child : (p c : ℕ) → AtChild B d p c → InChildren (suc p) → InChildren c
@@ -107,7 +110,7 @@ module _
   all-idle h l i (inr z) =
       let c : InChild (W .loops) d l = each-in-child (W .loops) (laws .of-loops) T d is-do l i z in
       let n : T .left (c .loop) (suc (c .loop)) ≡ 0 =
-        some-none (W .loops) N T d h .no-child (c .loop) (c .is-do) (c .owner) (c .above) (c .below) in
+      some-none (W .loops) N T d h .no-child (c .loop) (c .is-do) (c .owner) (c .above) (c .below) in
       kids (c .loop) (c .is-do) (c .owner) (c .above) (c .below) .empty n l (c .inside)
 
   pub empty : T .left d (suc d) ≡ 0 → (l : ℕ) → Inside (W .loops) d l → Idle W T l

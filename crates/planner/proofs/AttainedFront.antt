@@ -57,8 +57,8 @@ module _ (W : World) (N : Lines) (laws : Lawful W N) (d : ℕ) (is-do : W .loops
   reach-long a h i =
       ⊎-elim
       (λ (z : N .reach d a ≤ e). (
-          let k : W .Line d a (N .reach d a) = laws .of-lines .reach-is d a is-do h i z in
-          laws .of-lines .line-long d a (N .reach d a) is-do k))
+      let k : W .Line d a (N .reach d a) = laws .of-lines .reach-is d a is-do h i z in
+      laws .of-lines .line-long d a (N .reach d a) is-do k))
       (λ (z : e < N .reach d a). omega arith)
       (le-or (N .reach d a) e)
 
@@ -67,8 +67,9 @@ module _ (W : World) (N : Lines) (laws : Lawful W N) (d : ℕ) (is-do : W .loops
   reach-leaves a p l c u h i =
       ⊎-elim
       (λ (z : N .reach d a ≤ e). (
-          let k : W .Line d a (N .reach d a) = laws .of-lines .reach-is d a is-do (omega (arith, c .below)) (omega arith) z in
-          omega (arith, c .ends, laws .of-lines .line-leaves d a (N .reach d a) l is-do k same h (omega (arith, c .ends)))))
+      let b : d < a = omega (arith, c .below) in
+      let k : W .Line d a (N .reach d a) = laws .of-lines .reach-is d a is-do b (omega arith) z in
+      omega (arith, c .ends, laws .of-lines .line-leaves d a (N .reach d a) l is-do k same h (omega (arith, c .ends)))))
       (λ (z : e < N .reach d a). omega arith)
       (le-or (N .reach d a) e)
     where
@@ -107,7 +108,8 @@ also-by : {A : Type 0} (x w : ℕ → Bool) (g : ℕ) → also x w g ≡ true �
 also-by x w g h a b = ⊎-elim a b (or-true (x g) (w g) h)
 
 -- a gap before all others
-pub put-front : {e p f : ℕ} {w : ℕ → Bool} → p < e → Foremost e (suc p) f w → Foremost e p (suc p) (also (only (suc p)) w)
+pub put-front : {e p f : ℕ} {w : ℕ → Bool} → p < e → Foremost e (suc p) f w
+    → Foremost e p (suc p) (also (only (suc p)) w)
 put-front {e} {p} {f} {w} u k =
     record {
       low = λ g h. by g h (λ z. omega arith) (λ z. omega (arith, k .low g z));
@@ -161,9 +163,9 @@ pub more-cuts : {need : ℕ → ℕ} {e l p : ℕ} {w y : ℕ → Bool}
 more-cuts {need} {e} {l} {p} h new k =
     record {
       cut = λ a i j u. ⊎-elim
-      (λ (z : a ≤ p). new a i z j u)
-      (λ (z : p < a). hit-more h (k .cut a z j u))
-      (le-or a p);
+          (λ (z : a ≤ p). new a i z j u)
+          (λ (z : p < a). hit-more h (k .cut a z j u))
+          (le-or a p);
     }
 
 -- the front cuts a line that starts no later than right after p and is to be cut no earlier than the front

@@ -43,7 +43,8 @@ module _
   e = W .loops .stop d
 
   -- the step at an own gap
-  pub put-swept : (p : ℕ) (s : State) → AtPlain (W .loops) d p → Swept W T need d (suc p) s → Swept W T need d p (put p s)
+  pub put-swept : (p : ℕ) (s : State) → AtPlain (W .loops) d p → Swept W T need d (suc p) s
+      → Swept W T need d p (put p s)
   unfolding put
   put-swept p s at i = record { front = put-front (at .high) (i .front); body = body; cuts = cuts }
     where
@@ -94,6 +95,9 @@ module _
     front-here : Foremost e p (s .f) (s .w)
     front-here = skip-front (i .front)
 
+    low : (g : ℕ) → s .w g ≡ true → p < g
+    low = front-here .low
+
     laid : (b : ℕ) → l < b → b ≤ p → 0 < T .left l b → Laid W T l b (T .lay l b)
     laid b h j k = claim .attained b h (omega (arith, at .child .ends)) k
 
@@ -105,10 +109,10 @@ module _
     whole =
         ⊎-elim
         (λ (z : T .left l (suc l) ≤ 0). (
-            let y : T .left l (suc l) ≡ 0 = omega arith in
-            idle-part W T l (T .lay l (suc l)) (claim .empty y) (none y)))
+        let y : T .left l (suc l) ≡ 0 = omega arith in
+        idle-part W T l (T .lay l (suc l)) (claim .empty y) (none y)))
         (λ (z : 0 < T .left l (suc l)). (
-            laid-part W T l (suc l) (T .lay l (suc l)) (laid (suc l) (omega arith) (at .short) z)))
+        laid-part W T l (suc l) (T .lay l (suc l)) (laid (suc l) (omega arith) (at .short) z)))
         (le-or (T .left l (suc l)) 0)
 
     -- the front with what is laid for the child
@@ -141,7 +145,7 @@ module _
     free-swept k =
         record {
           front = child-front (s .f) (s .w) front-here;
-          body = join-body W laws T d p l (s .c) (T .lay l (suc l)) (s .w) (at .child) whole (front-here .low) (i .body);
+          body = join-body W laws T d p l (s .c) (T .lay l (suc l)) (s .w) (at .child) whole low (i .body);
           cuts = more-cuts more (λ a h j u v. hit-more more (still-cut a j (k .above a h j) v)) (i .cuts);
         }
       where
@@ -154,7 +158,7 @@ module _
     inner-swept b k =
         record {
           front = laid-front b (s .f) (s .w) (k .low) (k .high) (k .there) front-here;
-          body = join-body W laws T d p l (s .c) (T .lay l b) (s .w) (at .child) part (front-here .low) (i .body);
+          body = join-body W laws T d p l (s .c) (T .lay l b) (s .w) (at .child) part low (i .body);
           cuts = more-cuts more new (i .cuts);
         }
       where
