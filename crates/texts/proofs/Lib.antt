@@ -1,1 +1,2 @@
 -- Laws of texts.
+pub mod ReadsBack
