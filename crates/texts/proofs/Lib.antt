@@ -1,2 +1,3 @@
 -- Laws of texts.
 pub mod ReadsBack
+pub mod Shapes
