@@ -1,3 +1,4 @@
 -- Laws of texts.
 pub mod ReadsBack
 pub mod Shapes
+pub mod NestFrames
