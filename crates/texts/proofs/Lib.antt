@@ -2,3 +2,4 @@
 pub mod ReadsBack
 pub mod Shapes
 pub mod NestFrames
+pub mod Spelled

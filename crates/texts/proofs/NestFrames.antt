@@ -1,6 +1,6 @@
 -- The frames of a nest text: the five sorts, how each is read, and that a dependence and its frame stand for each other.
--- Main statements: `sort-of`, `read-line`, `dep-sort`, `dep-of-frame`, `dep-below`, `points-text-more`, `deps-text-more`.
-use mathlib.Core.Path.{_≡_, refl, sym, ap, subst}
+-- Main statements: `sort-of`, `read-line`, `read-frame`, `dep-sort`, `dep-of-frame`, `dep-below`, `points-text-more`, `deps-text-more`.
+use mathlib.Core.Path.{_≡_, refl, sym, ap, subst, _∙_}
 use mathlib.Core.Bool.{Bool, true, false, _&&_, _||_, not}
 use mathlib.Core.Logic.{⊎-elim}
 use mathlib.Core.List.{List, [], _∷_, _++_, append-assoc, append-nil}
@@ -98,6 +98,14 @@ pub read-line
     (got (frameFault n f) k empty)
 unfolding readLines
 read-line k n f s h w = rw (line-first f s h) (rw (digits-good f h w, frame-digits f h))
+
+pub read-frame
+    : (k : ℕ) (n : Nest) (f s : List ℕ)
+    → areBytes f ≡ true
+    → leb 1 (length f) ≡ true
+    → frameFault n f ≡ 0
+    → readLines k n (linesOf (lineText f ++ s)) ≡ readLines (suc k) (withFrame n f) (linesOf s)
+read-frame k n f s h w none = read-line k n f s h w ∙ rw none
 
 -- a dependence of one of the two kinds, an independent one with no d
 pub data DepSort : Dep → Type 0 where
