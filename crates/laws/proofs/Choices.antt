@@ -1,5 +1,5 @@
 -- Choices of numbers: the first of some numbers is 0 where all are, and a choice is bounded as its parts are.
--- Main statements: `first-zero`, `zero-first`, `when-zero`, `unless-zero`, `first-le`, `when-le`.
+-- Main statements: `first-zero`, `zero-first`, `when-zero`, `unless-zero`, `first-le`, `when-le`, `pick-le`.
 use mathlib.Core.Path.{_≡_, refl}
 use mathlib.Core.Bool.{Bool, true, false, not}
 use Prim.Native.Nat.{ℕ, zero, suc, _≤_}
@@ -31,3 +31,7 @@ first-le (suc a) b m p q = p
 pub when-le : (t : Bool) (k m : ℕ) → k ≤ m → when t k ≤ m
 when-le true k m h = h
 when-le false k m h = omega arith
+
+pub pick-le : (t : Bool) (a b m : ℕ) → a ≤ m → b ≤ m → pick t a b ≤ m
+pick-le true a b m p q = p
+pick-le false a b m p q = q

@@ -3,3 +3,5 @@ pub mod ReadsBack
 pub mod Shapes
 pub mod NestFrames
 pub mod Spelled
+pub mod Refusals
+pub mod Accepted
