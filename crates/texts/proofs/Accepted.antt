@@ -20,8 +20,9 @@ use Rattle.nests.specs.Loops.{depth, isClosed}
 use Rattle.nests.specs.Valid.{namesPoints, runsRight, isDep, areDeps, isValid, depFault}
 use Rattle.lines.specs.Lines.{Line, linesOf, isGood, frameOf, lineText}
 use Rattle.lines.proofs.Spelling.{lineBytes, linesText, lines-text, good-bytes}
-use Rattle.texts.specs.NestTexts.{kindOf, isPoint, kindGood, depOf, pointFault, dependenceFault, frameFault, withFrame}
-use Rattle.texts.specs.NestTexts.{lineFault, Got, got, readLines, readNest, depFrame, pointsText, depsText, nestText}
+use Rattle.texts.specs.NestTexts.{kindOf, isPoint, kindGood, depOf, pointFault, dependenceFault, frameFault}
+use Rattle.texts.specs.NestTexts.{withFrame, lineFault, Got, got, readLines, readNest}
+use Rattle.texts.specs.NestTexts.{depFrame, pointsText, depsText, nestText}
 use Rattle.texts.proofs.Shapes.{Begins, begins-none, begins-first, begins-more, begins-closed}
 use Rattle.texts.proofs.NestFrames.{Sort, opens, ends, states, runs, carries, sort-of}
 use Rattle.texts.proofs.NestFrames.{points-text-more, deps-text-more}
@@ -98,11 +99,15 @@ point-goes ps [] p point b h =
       text = simp append-nil (points-text-more ps p);
     }
 
-areDeps-more : (ps : List ℕ) (ds : List Dep) (e : Dep) → areDeps ps ds ≡ true → isDep ps e ≡ true → areDeps ps (ds ++ (e ∷ [])) ≡ true
-areDeps-more ps [] e h w = and-intro w refl
-areDeps-more ps (x ∷ ds) e h w =
+deps-more
+    : (ps : List ℕ) (ds : List Dep) (e : Dep)
+    → areDeps ps ds ≡ true
+    → isDep ps e ≡ true
+    → areDeps ps (ds ++ (e ∷ [])) ≡ true
+deps-more ps [] e h w = and-intro w refl
+deps-more ps (x ∷ ds) e h w =
     let z = and-true (isDep ps x) (areDeps ps ds) h in
-    and-intro (z .0) (areDeps-more ps ds e (z .1) w)
+    and-intro (z .0) (deps-more ps ds e (z .1) w)
 
 dep-goes
     : (ps : List ℕ) (ds : List Dep) (e : Dep)
@@ -112,8 +117,9 @@ dep-goes
     → Goes (nest ps ds) (depFrame e) (nest ps (ds ++ (e ∷ [])))
 unfolding nestText
 dep-goes ps ds e sort b h =
-    let a = first-zero (when (not (isClosed ps)) 4) (firstOf (when (leb DEPENDENCES (length ds)) 5) (depFault ps e)) h in
-    let x = first-zero (when (leb DEPENDENCES (length ds)) 5) (depFault ps e) (a .1) in
+    let full = when (leb DEPENDENCES (length ds)) 5 in
+    let a = first-zero (when (not (isClosed ps)) 4) (firstOf full (depFault ps e)) h in
+    let x = first-zero full (depFault ps e) (a .1) in
     let y = first-zero (when (not (namesPoints ps e)) 6) (when (not (runsRight ps e)) 7) (x .1) in
     let room = leb-false DEPENDENCES (length ds) (when-zero (leb DEPENDENCES (length ds)) 4 (x .0)) in
     let names = unless-zero (namesPoints ps e) 5 (y .0) in
@@ -125,7 +131,7 @@ dep-goes ps ds e sort b h =
             shape = b .shape;
             few = b .few;
             many = omega arith;
-            deps = areDeps-more ps ds e (b .deps) (and-intro sort (and-intro names right));
+            deps = deps-more ps ds e (b .deps) (and-intro sort (and-intro names right));
           };
       text = rw (deps-text-more ds e) (sym (append-assoc (pointsText ps) (depsText ds) (lineText (depFrame e))));
     }
@@ -144,7 +150,8 @@ sort-goes n (carries d s t) b h = dep-goes (n .points) (n .deps) (dep CARRIED d 
 
 pub frame-goes : (n : Nest) (f : List ℕ) → Begun n → frameFault n f ≡ 0 → Goes n f (withFrame n f)
 frame-goes n f b h =
-    let a = first-zero (when (not (kindGood f)) 2) (pick (isPoint (kindOf f)) (pointFault n (kindOf f)) (dependenceFault n (depOf f))) h in
+    let later = pick (isPoint (kindOf f)) (pointFault n (kindOf f)) (dependenceFault n (depOf f)) in
+    let a = first-zero (when (not (kindGood f)) 2) later h in
     sort-goes n (sort-of f (unless-zero (kindGood f) 1 (a .0))) b (a .1)
 
 -- a text and the nest that it spells
@@ -184,7 +191,8 @@ lines-accepted k n (l ∷ ls) m b h =
         → Spells (nestText (withFrame n (frameOf (l .bytes))) ++ linesText ls) m)
         → Spells (nestText n ++ (lineBytes l ++ linesText ls)) m
     go true e q rest =
-        let a = first-zero (when (not (isGood l)) 1) (frameFault n (frameOf (l .bytes))) (eqb-true (lineFault n l) 0 e) in
+        let none = eqb-true (lineFault n l) 0 e in
+        let a = first-zero (when (not (isGood l)) 1) (frameFault n (frameOf (l .bytes))) none in
         let good = unless-zero (isGood l) 0 (a .0) in
         let g = frame-goes n (frameOf (l .bytes)) b (a .1) in
         let r = rest (g .begun) q in

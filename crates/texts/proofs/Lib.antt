@@ -5,3 +5,4 @@ pub mod NestFrames
 pub mod Spelled
 pub mod Refusals
 pub mod Accepted
+pub mod TextCases

@@ -1,5 +1,5 @@
--- The frames of a nest text: the five sorts, how each is read, and that a dependence and its frame stand for each other.
--- Main statements: `sort-of`, `read-line`, `read-frame`, `dep-sort`, `dep-of-frame`, `dep-below`, `points-text-more`, `deps-text-more`.
+-- The frames of a nest text: the five sorts, how each is read, and how a dependence and its frame stand for each other.
+-- Main statements: `sort-of`, `read-line`, `read-frame`, `dep-sort`, `dep-of-frame`, `dep-below`, `deps-text-more`.
 use mathlib.Core.Path.{_≡_, refl, sym, ap, subst, _∙_}
 use mathlib.Core.Bool.{Bool, true, false, _&&_, _||_, not}
 use mathlib.Core.Logic.{⊎-elim}
@@ -61,10 +61,13 @@ of-four (a ∷ f) e = ap {B = List ℕ} (λ r. a ∷ r) (of-three f (omega arith
 -- a frame of a right kind and length is of one of these sorts
 pub sort-of : (f : List ℕ) → kindGood f ≡ true → Sort f
 sort-of f h =
+    let one = isPoint (kindOf f) && eqb (length f) 1 in
+    let independent = eqb (kindOf f) INDEPENDENT && eqb (length f) 3 in
+    let carried = eqb (kindOf f) CARRIED && eqb (length f) 4 in
     ⊎-elim
     point
-    (λ z. ⊎-elim three four (or-true (eqb (kindOf f) INDEPENDENT && eqb (length f) 3) (eqb (kindOf f) CARRIED && eqb (length f) 4) z))
-    (or-true (isPoint (kindOf f) && eqb (length f) 1) ((eqb (kindOf f) INDEPENDENT && eqb (length f) 3) || (eqb (kindOf f) CARRIED && eqb (length f) 4)) h)
+    (λ z. ⊎-elim three four (or-true independent carried z))
+    (or-true one (independent || carried) h)
   where
     point : (isPoint (kindOf f) && eqb (length f) 1) ≡ true → Sort f
     point z =
@@ -117,8 +120,10 @@ same-dep e k d p q = rw (← p, ← q)
 
 pub dep-sort : (ps : List ℕ) (e : Dep) → isDep ps e ≡ true → DepSort e
 dep-sort ps e h =
-    let z = and-true ((eqb (e .kind) INDEPENDENT && eqb (e .d) 0) || eqb (e .kind) CARRIED) (namesPoints ps e && runsRight ps e) h in
-    ⊎-elim one two (or-true (eqb (e .kind) INDEPENDENT && eqb (e .d) 0) (eqb (e .kind) CARRIED) (z .0))
+    let independent = eqb (e .kind) INDEPENDENT && eqb (e .d) 0 in
+    let carried = eqb (e .kind) CARRIED in
+    let z = and-true (independent || carried) (namesPoints ps e && runsRight ps e) h in
+    ⊎-elim one two (or-true independent carried (z .0))
   where
     one : (eqb (e .kind) INDEPENDENT && eqb (e .d) 0) ≡ true → DepSort e
     one w =
@@ -138,10 +143,14 @@ dep-of-frame (carry d s t) = refl
 
 -- the points that a valid dependence names are points of the nest
 source-below : (ps : List ℕ) (s : ℕ) → isSource ps s ≡ true → s < length ps
-source-below ps s h = ltb-true s (length ps) (and-true (ltb s (length ps)) (eqb (getD ps s 0) STATEMENT || eqb (getD ps s 0) DO) h .0)
+source-below ps s h =
+    let sort = eqb (getD ps s 0) STATEMENT || eqb (getD ps s 0) DO in
+    ltb-true s (length ps) (and-true (ltb s (length ps)) sort h .0)
 
 target-below : (ps : List ℕ) (t : ℕ) → isTarget ps t ≡ true → t < length ps
-target-below ps t h = ltb-true t (length ps) (and-true (ltb t (length ps)) (eqb (getD ps t 0) STATEMENT || eqb (getD ps t 0) ENDDO) h .0)
+target-below ps t h =
+    let sort = eqb (getD ps t 0) STATEMENT || eqb (getD ps t 0) ENDDO in
+    ltb-true t (length ps) (and-true (ltb t (length ps)) sort h .0)
 
 do-below : (ps : List ℕ) (d : ℕ) → isDo ps d ≡ true → d < length ps
 do-below ps d h =
@@ -181,9 +190,11 @@ dep-bytes ps small (carry d s t) b =
 pub points-text-more : (ps : List ℕ) (p : ℕ) → pointsText (ps ++ (p ∷ [])) ≡ pointsText ps ++ lineText (p ∷ [])
 unfolding pointsText
 points-text-more [] p = append-nil (lineText (p ∷ []))
-points-text-more (q ∷ ps) p = rw (points-text-more ps p) (sym (append-assoc (lineText (q ∷ [])) (pointsText ps) (lineText (p ∷ []))))
+points-text-more (q ∷ ps) p =
+    rw (points-text-more ps p) (sym (append-assoc (lineText (q ∷ [])) (pointsText ps) (lineText (p ∷ []))))
 
 pub deps-text-more : (ds : List Dep) (e : Dep) → depsText (ds ++ (e ∷ [])) ≡ depsText ds ++ lineText (depFrame e)
 unfolding depsText
 deps-text-more [] e = append-nil (lineText (depFrame e))
-deps-text-more (x ∷ ds) e = rw (deps-text-more ds e) (sym (append-assoc (lineText (depFrame x)) (depsText ds) (lineText (depFrame e))))
+deps-text-more (x ∷ ds) e =
+    rw (deps-text-more ds e) (sym (append-assoc (lineText (depFrame x)) (depsText ds) (lineText (depFrame e))))

@@ -1,5 +1,5 @@
--- A key written and read again is the same key: each line of its text is read as the frame that it spells, and a gap that
--- rises and is in range has no fault.
+-- A key written and read again is the same key: each line of its text is read as the frame that it spells, and a gap
+-- that rises and is in range has no fault.
 -- Main statements: `place-line`, `keys-back`, `reads-back`.
 use mathlib.Core.Path.{_≡_, refl, sym, _∙_}
 use mathlib.Core.Bool.{Bool, true, false, _&&_, not}

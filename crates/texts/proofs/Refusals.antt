@@ -1,5 +1,5 @@
--- Refused nest texts: numbers are 1 to 7 with a line from 1 to the one after the last, and no nest is given; an accepted
--- text has number 0 and line 0.
+-- Refused nest texts: numbers are 1 to 7 with a line from 1 to the one after the last, and no nest is given; an
+-- accepted text has number 0 and line 0.
 -- Main statements: `nest-answer`, `numbers-to-7`, `place-within`, `accepted-got`, `no-text`.
 use mathlib.Core.Path.{_≡_, refl, sym, ap, _∙_}
 use mathlib.Core.Bool.{Bool, true, false, _&&_, _||_, not}
@@ -18,36 +18,29 @@ use Rattle.nests.specs.Loops.{depth, isClosed}
 use Rattle.nests.specs.Valid.{namesPoints, runsRight, depFault}
 use Rattle.lines.specs.Lines.{Line, linesOf, isGood, frameOf}
 use Rattle.lines.proofs.Spelling.{lines-few}
-use Rattle.texts.specs.NestTexts.{kindOf, isPoint, kindGood, depOf, pointFault, dependenceFault, frameFault, withFrame}
-use Rattle.texts.specs.NestTexts.{lineFault, Got, got, readLines, readNest}
+use Rattle.texts.specs.NestTexts.{kindOf, isPoint, kindGood, depOf, pointFault, dependenceFault, frameFault}
+use Rattle.texts.specs.NestTexts.{withFrame, lineFault, Got, got, readLines, readNest}
 
 -- the numbers of a line are at most 7
 dep-fault-to-7 : (ps : List ℕ) (e : Dep) → depFault ps e ≤ 7
 dep-fault-to-7 ps e =
-    first-le _ _ 7 (when-le (not (namesPoints ps e)) 6 7 (omega arith)) (when-le (not (runsRight ps e)) 7 7 (omega arith))
+    let names = when-le (not (namesPoints ps e)) 6 7 (omega arith) in
+    let right = when-le (not (runsRight ps e)) 7 7 (omega arith) in
+    first-le _ _ 7 names right
 
 point-fault-to-7 : (n : Nest) (p : ℕ) → pointFault n p ≤ 7
 point-fault-to-7 n p =
-    first-le
-    (when (leb 1 (length (n .deps))) 3)
-    _
-    7
-    (when-le (leb 1 (length (n .deps))) 3 7 (omega arith))
-    (first-le
-    _
-    _
-    7
-    (when-le (isClosed (n .points) || (eqb (length (n .points)) 0 && not (eqb p DO))) 4 7 (omega arith))
-    (when-le (leb POINTS (length (n .points)) || (eqb p DO && leb DEPTH (depth (n .points)))) 5 7 (omega arith)))
+    let ps = n .points in
+    let late = when-le (leb 1 (length (n .deps))) 3 7 (omega arith) in
+    let outside = when-le (isClosed ps || (eqb (length ps) 0 && not (eqb p DO))) 4 7 (omega arith) in
+    let beyond = when-le (leb POINTS (length ps) || (eqb p DO && leb DEPTH (depth ps))) 5 7 (omega arith) in
+    first-le _ _ 7 late (first-le _ _ 7 outside beyond)
 
 dependence-fault-to-7 : (n : Nest) (e : Dep) → dependenceFault n e ≤ 7
 dependence-fault-to-7 n e =
-    first-le
-    _
-    _
-    7
-    (when-le (not (isClosed (n .points))) 4 7 (omega arith))
-    (first-le _ _ 7 (when-le (leb DEPENDENCES (length (n .deps))) 5 7 (omega arith)) (dep-fault-to-7 (n .points) e))
+    let early = when-le (not (isClosed (n .points))) 4 7 (omega arith) in
+    let beyond = when-le (leb DEPENDENCES (length (n .deps))) 5 7 (omega arith) in
+    first-le _ _ 7 early (first-le _ _ 7 beyond (dep-fault-to-7 (n .points) e))
 
 pub line-fault-to-7 : (n : Nest) (l : Line) → lineFault n l ≤ 7
 line-fault-to-7 n l =

@@ -1,6 +1,6 @@
 -- Shapes point by point: a point fits after others exactly where the rule of closing allows it, and points that are all
 -- there have depth 0. So the points read so far can be told from what may still follow them.
--- Main statements: `closes-step`, `step-closes`, `depth-more`, `shape-closed`, `Begins`, `begins-more`, `begins-closed`.
+-- Main statements: `closes-step`, `step-closes`, `depth-more`, `shape-closed`, `begins-more`, `begins-closed`.
 use mathlib.Core.Path.{_≡_, refl, sym, ap, _∙_}
 use mathlib.Core.Bool.{Bool, true, false, _&&_}
 use mathlib.Core.List.{List, [], _∷_, _++_, append-assoc, append-nil}
@@ -23,6 +23,14 @@ pub record Fits (d p : ℕ) (r : List ℕ) : Type 0 where
   pub shallow : p ≡ DO → d < DEPTH
   pub rest : closes (deeper d p) r ≡ true
 
+-- the rule of closing after a point p inside d loops and one more, by the tests whether p is a DO and an ENDDO
+abbrev closesBy : Bool → Bool → ℕ → ℕ → List ℕ → Bool
+closesBy a b d p r =
+    pick
+    a
+    (ltb (suc d) DEPTH && closes (suc (suc d)) r)
+    (pick b (closes d r) (eqb p STATEMENT && closes (suc d) r))
+
 pub closes-step : (d p : ℕ) (r : List ℕ) → closes d (p ∷ r) ≡ true → Fits d p r
 closes-step zero p r h = never h
 closes-step (suc d) p r h = go (eqb p DO) (eqb p ENDDO) refl refl h
@@ -34,8 +42,7 @@ closes-step (suc d) p r h = go (eqb p DO) (eqb p ENDDO) refl refl h
         : (a b : Bool)
         → eqb p DO ≡ a
         → eqb p ENDDO ≡ b
-        → pick a (ltb (suc d) DEPTH && closes (suc (suc d)) r) (pick b (closes d r) (eqb p STATEMENT && closes (suc d) r))
-        ≡ true
+        → closesBy a b d p r ≡ true
         → Fits (suc d) p r
     go true b x y h =
         let z = and-true (ltb (suc d) DEPTH) (closes (suc (suc d)) r) h in
@@ -76,8 +83,7 @@ step-closes (suc d) p r h = go (eqb p DO) (eqb p ENDDO) refl refl (h .rest)
         → eqb p DO ≡ a
         → eqb p ENDDO ≡ b
         → closes (pick a (suc (suc d)) (pick b (suc d - 1) (suc d))) r ≡ true
-        → pick a (ltb (suc d) DEPTH && closes (suc (suc d)) r) (pick b (closes d r) (eqb p STATEMENT && closes (suc d) r))
-        ≡ true
+        → closesBy a b d p r ≡ true
     go true b x y w = and-intro (lt-ltb (suc d) DEPTH (h .shallow (eqb-true p DO x))) w
     go false true x y w = rw less at w
     go false false x y w =
@@ -133,7 +139,11 @@ pub begins-more
     → Begins (ps ++ (p ∷ []))
 begins-more ps p b some inside point shallow = record { whole = go }
   where
-    go : (r : List ℕ) → 1 ≤ length (ps ++ (p ∷ [])) → closes (depth (ps ++ (p ∷ []))) r ≡ true → isShape (ps ++ (p ∷ []) ++ r) ≡ true
+    go
+        : (r : List ℕ)
+        → 1 ≤ length (ps ++ (p ∷ []))
+        → closes (depth (ps ++ (p ∷ []))) r ≡ true
+        → isShape (ps ++ (p ∷ []) ++ r) ≡ true
     go r h c =
         let rest : closes (deeper (depth ps) p) r ≡ true = rw (depth-more ps p) at c in
         let fits : Fits (depth ps) p r = record { inside = inside; point = point; shallow = shallow; rest = rest } in

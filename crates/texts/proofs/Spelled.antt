@@ -1,5 +1,5 @@
--- A valid nest's spelling is accepted with that nest: along its points the depth tells that no rule is broken, and each of
--- its dependences has no fault.
+-- A valid nest's spelling is accepted with that nest: along its points the depth tells that no rule is broken, and each
+-- of its dependences has no fault.
 -- Main statements: `points-read`, `deps-read`, `valid-accepted`.
 use mathlib.Core.Path.{_≡_, refl, sym, ap, _∙_}
 use mathlib.Core.Bool.{Bool, true, false, _&&_, _||_, not}
@@ -17,10 +17,10 @@ use Rattle.nests.specs.Loops.{depth, isClosed}
 use Rattle.nests.specs.Valid.{closes, isShape, namesPoints, runsRight, isDep, areDeps, isValid, depFault}
 use Rattle.lines.specs.Lines.{linesOf, lineText}
 use Rattle.lines.proofs.Spelling.{areBytes}
-use Rattle.texts.specs.NestTexts.{isPoint, pointFault, dependenceFault, frameFault, withFrame, got, readLines, readNest}
+use Rattle.texts.specs.NestTexts.{isPoint, pointFault, frameFault, withFrame, got, readLines, readNest}
 use Rattle.texts.specs.NestTexts.{depFrame, pointsText, depsText, nestText}
 use Rattle.texts.proofs.Shapes.{Fits, closes-step, depth-more, shape-closed}
-use Rattle.texts.proofs.NestFrames.{read-frame, DepSort, run, carry, dep-sort, dep-of-frame, dep-below, dep-bytes}
+use Rattle.texts.proofs.NestFrames.{read-frame, DepSort, run, carry, dep-sort, dep-below, dep-bytes}
 
 -- a point's frame has the point's fault
 pub frame-point : (n : Nest) (p : ℕ) → isPoint p ≡ true → frameFault n (p ∷ []) ≡ pointFault n p
@@ -30,7 +30,9 @@ pub with-point : (n : Nest) (p : ℕ) → isPoint p ≡ true → withFrame n (p 
 with-point n p h = rw h
 
 pub point-bytes : (p : ℕ) → isPoint p ≡ true → areBytes (p ∷ []) ≡ true
-point-bytes p h = and-intro (lt-ltb p 256 (omega (arith, leb-true p STATEMENT (and-true (leb DO p) (leb p STATEMENT) h .1)))) refl
+point-bytes p h =
+    let z = and-true (leb DO p) (leb p STATEMENT) h in
+    and-intro (lt-ltb p 256 (omega (arith, leb-true p STATEMENT (z .1)))) refl
 
 -- a point that fits after others has no fault
 pub point-fits
@@ -42,9 +44,27 @@ pub point-fits
     → pointFault (nest ps []) p ≡ 0
 point-fits ps p some few inside shallow = go (eqb p DO) refl
   where
-    go : (t : Bool) → eqb p DO ≡ t → firstOf (when (isClosed ps || (eqb (length ps) 0 && not t)) 4) (when (leb POINTS (length ps) || (t && leb DEPTH (depth ps))) 5) ≡ 0
-    go true e = rw (ne-eqb (depth ps) 0 (omega arith), le-leb 1 (length ps) some, ne-eqb (length ps) 0 (omega arith), lt-leb POINTS (length ps) few, lt-leb DEPTH (depth ps) (shallow (eqb-true p DO e)))
-    go false e = rw (ne-eqb (depth ps) 0 (omega arith), le-leb 1 (length ps) some, ne-eqb (length ps) 0 (omega arith), lt-leb POINTS (length ps) few)
+    within : eqb (depth ps) 0 ≡ false
+    within = ne-eqb (depth ps) 0 (omega arith)
+
+    later : eqb (length ps) 0 ≡ false
+    later = ne-eqb (length ps) 0 (omega arith)
+
+    more : leb 1 (length ps) ≡ true
+    more = le-leb 1 (length ps) some
+
+    room : leb POINTS (length ps) ≡ false
+    room = lt-leb POINTS (length ps) few
+
+    go
+        : (t : Bool)
+        → eqb p DO ≡ t
+        → firstOf
+        (when (isClosed ps || (eqb (length ps) 0 && not t)) 4)
+        (when (leb POINTS (length ps) || (t && leb DEPTH (depth ps))) 5)
+        ≡ 0
+    go true e = rw (within, more, later, room, lt-leb DEPTH (depth ps) (shallow (eqb-true p DO e)))
+    go false e = rw (within, more, later, room)
 
 -- the rest of a shape's points is read to its end
 pub points-read
@@ -82,8 +102,12 @@ pub dep-fits
     → namesPoints ps e ≡ true
     → runsRight ps e ≡ true
     → (frameFault (nest ps ds) (depFrame e) ≡ 0) × (withFrame (nest ps ds) (depFrame e) ≡ nest ps (ds ++ (e ∷ [])))
-dep-fits ps ds closed few (run s t) names right = (rw (closed, lt-leb DEPENDENCES (length ds) few, names, right), refl)
-dep-fits ps ds closed few (carry d s t) names right = (rw (closed, lt-leb DEPENDENCES (length ds) few, names, right), refl)
+dep-fits ps ds closed few (run s t) names right =
+    let room = lt-leb DEPENDENCES (length ds) few in
+    (rw (closed, room, names, right), refl)
+dep-fits ps ds closed few (carry d s t) names right =
+    let room = lt-leb DEPENDENCES (length ds) few in
+    (rw (closed, room, names, right), refl)
 
 frame-long : {e : Dep} → DepSort e → leb 1 (length (depFrame e)) ≡ true
 frame-long (run s t) = refl
@@ -140,7 +164,10 @@ keeps-valid n k =
     (le-leb (length (n .points)) POINTS (k .few))
     (and-intro (le-leb (length (n .deps)) DEPENDENCES (k .many)) (k .deps)))
 
-spelling-read : (ps : List ℕ) (ds : List Dep) → Keeps (nest ps ds) → readNest (nestText (nest ps ds)) ≡ got 0 0 (nest ps ds)
+spelling-read
+    : (ps : List ℕ) (ds : List Dep)
+    → Keeps (nest ps ds)
+    → readNest (nestText (nest ps ds)) ≡ got 0 0 (nest ps ds)
 unfolding readNest nestText pointsText
 spelling-read [] ds k = never (k .shape)
 spelling-read (p ∷ r) ds k =
