@@ -6,3 +6,4 @@ pub mod Spelled
 pub mod Refusals
 pub mod Accepted
 pub mod TextCases
+pub mod ProgramTexts
