@@ -7,3 +7,4 @@ pub mod Refusals
 pub mod Accepted
 pub mod TextCases
 pub mod ProgramTexts
+pub mod PlacedTexts
