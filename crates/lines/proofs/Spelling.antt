@@ -2,7 +2,7 @@
 -- frame. Digits and their values are inverse to each other, so are bytes and their two digits; the rest is recursion.
 -- Main statements: `line-first`, `digits-good`, `frame-digits`; `good-line`, `lines-text`, `good-text`, `frames-back`.
 use mathlib.Core.Path.{_≡_, refl, sym, ap, _∙_}
-use mathlib.Core.Bool.{Bool, true, false, _&&_, _||_}
+use mathlib.Core.Bool.{Bool, true, false, _&&_}
 use mathlib.Core.Logic.{⊎-elim}
 use mathlib.Core.List.{List, [], _∷_, _++_, append-assoc}
 use Prim.Native.Nat.{ℕ, suc, _+_, _-_, _*_, _/_, _%_, _≤_, _<_}

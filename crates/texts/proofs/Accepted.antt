@@ -6,13 +6,13 @@ use mathlib.Core.Path.{_≡_, refl, sym, ap, _∙_}
 use mathlib.Core.Bool.{Bool, true, false, _&&_, _||_, not}
 use mathlib.Core.Logic.{_↔_}
 use mathlib.Core.List.{List, [], _∷_, _++_, append-assoc, append-nil}
-use Prim.Native.Nat.{ℕ, zero, suc, _+_, _≤_, _<_}
+use Prim.Native.Nat.{ℕ, suc, _≤_, _<_}
 use native.Mathlib.Omega.{arith}
-use lib.Dec.{eqb, ltb, leb}
+use lib.Dec.{eqb, leb}
 use lib.ListN.{length, length-append}
-use borrow.Author.Tests.{leb-true, leb-false, le-leb, eqb-true, eqb-false, eq-eqb, not-false}
+use borrow.Author.Tests.{leb-false, le-leb, eqb-true, eqb-false, eq-eqb, not-false}
 use Rattle.laws.specs.Choice.{pick, when, firstOf}
-use Rattle.laws.proofs.Tests.{never, never-both, lt-by, and-intro, and-true, or-false}
+use Rattle.laws.proofs.Tests.{never-both, lt-by, and-intro, and-true, or-false}
 use Rattle.laws.proofs.Choices.{first-zero, when-zero, unless-zero}
 use Rattle.nests.specs.Kinds.{DO, INDEPENDENT, CARRIED, POINTS, DEPTH, DEPENDENCES}
 use Rattle.nests.specs.Nests.{Dep, dep, Nest, nest, empty}

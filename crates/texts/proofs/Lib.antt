@@ -1,10 +1,10 @@
 -- Laws of texts.
-pub mod ReadsBack
 pub mod Shapes
 pub mod NestFrames
 pub mod Spelled
 pub mod Refusals
 pub mod Accepted
-pub mod TextCases
-pub mod ProgramTexts
+pub mod ReadsBack
 pub mod PlacedTexts
+pub mod ProgramTexts
+pub mod TextCases

@@ -1,20 +1,20 @@
 -- The frames of a nest text: the five sorts, how each is read, and how a dependence and its frame stand for each other.
 -- Main statements: `sort-of`, `read-line`, `read-frame`, `dep-sort`, `dep-of-frame`, `dep-below`, `deps-text-more`.
 use mathlib.Core.Path.{_≡_, refl, sym, ap, subst, _∙_}
-use mathlib.Core.Bool.{Bool, true, false, _&&_, _||_, not}
+use mathlib.Core.Bool.{true, _&&_, _||_}
 use mathlib.Core.Logic.{⊎-elim}
 use mathlib.Core.List.{List, [], _∷_, _++_, append-assoc, append-nil}
-use Prim.Native.Nat.{ℕ, zero, suc, _≤_, _<_}
+use Prim.Native.Nat.{ℕ, suc, _≤_, _<_}
 use native.Mathlib.Omega.{arith}
 use lib.Dec.{eqb, ltb, leb}
 use lib.ListN.{length, getD, List·getD-eq-default}
-use borrow.Author.Tests.{ltb-true, leb-true, eqb-true, eqb-false, lt-ltb}
+use borrow.Author.Tests.{ltb-true, leb-true, eqb-true, lt-ltb}
 use Rattle.laws.specs.Choice.{pick}
 use Rattle.laws.proofs.Tests.{eq-or, lt-by, and-intro, and-true, or-true}
 use Rattle.nests.specs.Kinds.{DO, ENDDO, STATEMENT, INDEPENDENT, CARRIED}
 use Rattle.nests.specs.Nests.{Dep, dep, Nest, empty}
 use Rattle.nests.specs.Loops.{isDo}
-use Rattle.nests.specs.Valid.{isSource, isTarget, namesPoints, runsRight, isDep, areDeps}
+use Rattle.nests.specs.Valid.{isSource, isTarget, namesPoints, runsRight, isDep}
 use Rattle.lines.specs.Lines.{linesOf, lineText}
 use Rattle.lines.proofs.Spelling.{areBytes, line-first, digits-good, frame-digits}
 use Rattle.texts.specs.NestTexts.{kindOf, isPoint, kindGood, depOf, frameFault, withFrame, got, readLines}

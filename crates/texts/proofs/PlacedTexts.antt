@@ -7,7 +7,7 @@ use mathlib.Core.Logic.{_↔_, ⊎-elim}
 use mathlib.Core.List.{List, [], _∷_, _++_, append-assoc, append-nil}
 use Prim.Native.Nat.{ℕ, suc, _+_, _≤_}
 use native.Mathlib.Omega.{arith}
-use lib.Dec.{eqb, ltb, leb}
+use lib.Dec.{eqb, ltb}
 use lib.ListN.{length, getD}
 use borrow.Author.Tests.{eqb-true, eqb-false}
 use Rattle.laws.specs.Choice.{pick, when}
@@ -15,7 +15,7 @@ use Rattle.laws.proofs.Tests.{and-intro, and-true, eq-or}
 use Rattle.laws.proofs.Choices.{first-zero, unless-zero, first-le, when-le}
 use Rattle.nests.specs.Kinds.{POINTS}
 use Rattle.lines.specs.Lines.{Line, linesOf, isGood, frameOf, lineText}
-use Rattle.lines.proofs.Spelling.{lineBytes, linesText, lines-text, lines-few, good-bytes}
+use Rattle.lines.proofs.Spelling.{linesText, lines-text, lines-few, good-bytes}
 use Rattle.placements.specs.Placements.{areGapsFrom}
 use Rattle.texts.specs.PlacementTexts.{BARRIER, barrierFault, placedFault, Placed, placed, placeLines}
 use Rattle.texts.specs.PlacementTexts.{readPlacement, keyText}

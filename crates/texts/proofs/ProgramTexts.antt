@@ -1,9 +1,10 @@
--- What the program writes, case by case: a valid nest's spelling is never too long for it, so it gets its key and counts.
+-- What the program writes, case by case: a valid nest's spelling is never too long for it, so its key and counts are
+-- written.
 -- Main statements: `spelling-short`, `program-accepted`, `program-refused`, `program-long`, `refusal-bytes`.
-use mathlib.Core.Path.{_≡_, refl, _∙_}
+use mathlib.Core.Path.{_≡_, refl}
 use mathlib.Core.Bool.{Bool, true, false}
 use mathlib.Core.List.{List, [], _∷_, _++_}
-use Prim.Native.Nat.{ℕ, suc, _*_, _/_, _%_, _≤_, _<_}
+use Prim.Native.Nat.{ℕ, _*_, _/_, _%_, _≤_, _<_}
 use native.Mathlib.Omega.{arith}
 use lib.Dec.{eqb}
 use lib.ListN.{length, length-append}
@@ -12,14 +13,14 @@ use Rattle.laws.specs.Choice.{pick}
 use Rattle.laws.proofs.Tests.{and-intro}
 use Rattle.nests.specs.Kinds.{INDEPENDENT, CARRIED}
 use Rattle.nests.specs.Nests.{Dep, Nest}
-use Rattle.nests.specs.Valid.{areDeps, isDep, isValid}
+use Rattle.nests.specs.Valid.{isValid}
 use Rattle.lines.specs.Lines.{lineText}
 use Rattle.lines.proofs.Spelling.{areBytes}
-use Rattle.texts.specs.NestTexts.{Got, got, readNest, depFrame, pointsText, depsText, nestText}
+use Rattle.texts.specs.NestTexts.{readNest, depFrame, pointsText, depsText, nestText}
 use Rattle.texts.specs.PlacementTexts.{keyText}
-use Rattle.texts.specs.Program.{REFUSAL, LONGEST, refusalText, countsText, answerText, programText}
+use Rattle.texts.specs.Program.{REFUSAL, LONGEST, refusalText, countsText, programText}
 use Rattle.texts.proofs.Refusals.{numbers-to-7, place-within}
-use Rattle.texts.proofs.Spelled.{Keeps, valid-keeps, valid-accepted}
+use Rattle.texts.proofs.Spelled.{valid-keeps, valid-accepted}
 
 points-length : (ps : List ℕ) → length (pointsText ps) ≡ 3 * length ps
 unfolding pointsText
@@ -52,7 +53,10 @@ spelling-short n h =
     omega (arith, k .few, k .many, length-append (pointsText (n .points)) (depsText (n .deps)))
 
 -- a valid nest: its key, then its counts
-pub program-accepted : (n : Nest) (key : List ℕ) → isValid n ≡ true → programText (nestText n) key ≡ keyText key ++ countsText n key
+pub program-accepted
+    : (n : Nest) (key : List ℕ)
+    → isValid n ≡ true
+    → programText (nestText n) key ≡ keyText key ++ countsText n key
 unfolding programText
 program-accepted n key h = rw (le-ltb LONGEST (length (nestText n)) (spelling-short n h), valid-accepted n h)
 

@@ -1,21 +1,20 @@
 -- A key written and read again is the same key: each line of its text is read as the frame that it spells, and a gap
 -- that rises and is in range has no fault.
 -- Main statements: `place-line`, `keys-back`, `reads-back`.
-use mathlib.Core.Path.{_≡_, refl, sym, _∙_}
-use mathlib.Core.Bool.{Bool, true, false, _&&_, not}
+use mathlib.Core.Path.{_≡_, refl, _∙_}
+use mathlib.Core.Bool.{true, _&&_}
 use mathlib.Core.List.{List, [], _∷_, _++_, append-assoc, append-nil}
-use Prim.Native.Nat.{ℕ, suc, _≤_, _<_}
+use Prim.Native.Nat.{ℕ, suc, _≤_}
 use native.Mathlib.Omega.{arith}
 use lib.Dec.{eqb, ltb, leb}
 use lib.ListN.{length, getD}
 use borrow.Author.Tests.{ltb-true, leb-true, lt-ltb}
 use Rattle.laws.specs.Choice.{pick}
 use Rattle.laws.proofs.Tests.{and-intro, and-true}
-use Rattle.nests.specs.Nests.{Nest}
 use Rattle.lines.specs.Lines.{linesOf, lineText}
 use Rattle.lines.proofs.Spelling.{areBytes, line-first, digits-good, frame-digits}
 use Rattle.placements.specs.Placements.{areGapsFrom}
-use Rattle.texts.specs.PlacementTexts.{BARRIER, barrierFault, Placed, placed, placeLines, readPlacement, keyText}
+use Rattle.texts.specs.PlacementTexts.{BARRIER, barrierFault, placed, placeLines, readPlacement, keyText}
 use Rattle.texts.specs.PlacementTexts.{Reads-back}
 
 -- one line of a placement text

@@ -1,7 +1,7 @@
 -- Refused nest texts: numbers are 1 to 7 with a line from 1 to the one after the last, and no nest is given; an
 -- accepted text has number 0 and line 0.
 -- Main statements: `nest-answer`, `numbers-to-7`, `place-within`, `accepted-got`, `no-text`.
-use mathlib.Core.Path.{_≡_, refl, sym, ap, _∙_}
+use mathlib.Core.Path.{_≡_, refl}
 use mathlib.Core.Bool.{Bool, true, false, _&&_, _||_, not}
 use mathlib.Core.List.{List, [], _∷_}
 use Prim.Native.Nat.{ℕ, suc, _+_, _≤_}
@@ -9,7 +9,7 @@ use native.Mathlib.Omega.{arith}
 use lib.Dec.{eqb, leb}
 use lib.ListN.{length}
 use borrow.Author.Tests.{eqb-false}
-use Rattle.laws.specs.Choice.{pick, when, firstOf}
+use Rattle.laws.specs.Choice.{pick}
 use Rattle.laws.proofs.Tests.{eq-by}
 use Rattle.laws.proofs.Choices.{first-le, when-le, pick-le}
 use Rattle.nests.specs.Kinds.{DO, POINTS, DEPTH, DEPENDENCES}
@@ -18,7 +18,7 @@ use Rattle.nests.specs.Loops.{depth, isClosed}
 use Rattle.nests.specs.Valid.{namesPoints, runsRight, depFault}
 use Rattle.lines.specs.Lines.{Line, linesOf, isGood, frameOf}
 use Rattle.lines.proofs.Spelling.{lines-few}
-use Rattle.texts.specs.NestTexts.{kindOf, isPoint, kindGood, depOf, pointFault, dependenceFault, frameFault}
+use Rattle.texts.specs.NestTexts.{kindOf, isPoint, kindGood, depOf, pointFault, dependenceFault}
 use Rattle.texts.specs.NestTexts.{withFrame, lineFault, Got, got, readLines, readNest}
 
 -- the numbers of a line are at most 7

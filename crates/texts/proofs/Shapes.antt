@@ -1,7 +1,7 @@
 -- Shapes point by point: a point fits after others exactly where the rule of closing allows it, and points that are all
 -- there have depth 0. So the points read so far can be told from what may still follow them.
 -- Main statements: `closes-step`, `step-closes`, `depth-more`, `shape-closed`, `begins-more`, `begins-closed`.
-use mathlib.Core.Path.{_≡_, refl, sym, ap, _∙_}
+use mathlib.Core.Path.{_≡_, refl}
 use mathlib.Core.Bool.{Bool, true, false, _&&_}
 use mathlib.Core.List.{List, [], _∷_, _++_, append-assoc, append-nil}
 use Prim.Native.Nat.{ℕ, zero, suc, _-_, _≤_, _<_}
@@ -9,7 +9,7 @@ use native.Mathlib.Omega.{arith}
 use lib.Dec.{eqb, ltb, leb}
 use lib.ListN.{length}
 use borrow.Author.Tests.{ltb-true, leb-true, eqb-true, eqb-false, lt-ltb, le-leb, eq-eqb}
-use Rattle.laws.specs.Choice.{pick, between}
+use Rattle.laws.specs.Choice.{pick}
 use Rattle.laws.proofs.Tests.{never, and-intro, and-true}
 use Rattle.nests.specs.Kinds.{DO, ENDDO, STATEMENT, DEPTH}
 use Rattle.nests.specs.Loops.{deeper, depthFrom, depth, isClosed}

@@ -1,25 +1,25 @@
 -- A valid nest's spelling is accepted with that nest: along its points the depth tells that no rule is broken, and each
 -- of its dependences has no fault.
 -- Main statements: `points-read`, `deps-read`, `valid-accepted`.
-use mathlib.Core.Path.{_≡_, refl, sym, ap, _∙_}
+use mathlib.Core.Path.{_≡_, refl, _∙_}
 use mathlib.Core.Bool.{Bool, true, false, _&&_, _||_, not}
 use mathlib.Core.List.{List, [], _∷_, _++_, append-assoc, append-nil}
-use Prim.Native.Nat.{ℕ, zero, suc, _+_, _≤_, _<_}
+use Prim.Native.Nat.{ℕ, suc, _+_, _≤_, _<_}
 use native.Mathlib.Omega.{arith}
-use lib.Dec.{eqb, ltb, leb}
-use lib.ListN.{length, getD, length-append}
+use lib.Dec.{eqb, leb}
+use lib.ListN.{length, length-append}
 use borrow.Author.Tests.{leb-true, eqb-true, lt-ltb, lt-leb, le-leb, ne-eqb}
-use Rattle.laws.specs.Choice.{pick, when, firstOf}
-use Rattle.laws.proofs.Tests.{test, never, and-intro, and-true}
+use Rattle.laws.specs.Choice.{when, firstOf}
+use Rattle.laws.proofs.Tests.{never, and-intro, and-true}
 use Rattle.nests.specs.Kinds.{DO, STATEMENT, INDEPENDENT, CARRIED, POINTS, DEPTH, DEPENDENCES}
 use Rattle.nests.specs.Nests.{Dep, Nest, nest, empty}
 use Rattle.nests.specs.Loops.{depth, isClosed}
-use Rattle.nests.specs.Valid.{closes, isShape, namesPoints, runsRight, isDep, areDeps, isValid, depFault}
-use Rattle.lines.specs.Lines.{linesOf, lineText}
+use Rattle.nests.specs.Valid.{closes, isShape, namesPoints, runsRight, isDep, areDeps, isValid}
+use Rattle.lines.specs.Lines.{linesOf}
 use Rattle.lines.proofs.Spelling.{areBytes}
 use Rattle.texts.specs.NestTexts.{isPoint, pointFault, frameFault, withFrame, got, readLines, readNest}
 use Rattle.texts.specs.NestTexts.{depFrame, pointsText, depsText, nestText}
-use Rattle.texts.proofs.Shapes.{Fits, closes-step, depth-more, shape-closed}
+use Rattle.texts.proofs.Shapes.{closes-step, depth-more, shape-closed}
 use Rattle.texts.proofs.NestFrames.{read-frame, DepSort, run, carry, dep-sort, dep-below, dep-bytes}
 
 -- a point's frame has the point's fault
@@ -88,7 +88,7 @@ points-read k ps (p ∷ r) s some few h =
     let line : suc k + length r ≡ k + suc (length r) = omega arith in
     first ∙ rw (with-point (nest ps []) p (f .point)) (rest ∙ rw (line, append-assoc))
 
-names-right : (ps : List ℕ) (e : Dep) → isDep ps e ≡ true → (namesPoints ps e ≡ true) × (runsRight ps e ≡ true)
+pub names-right : (ps : List ℕ) (e : Dep) → isDep ps e ≡ true → (namesPoints ps e ≡ true) × (runsRight ps e ≡ true)
 names-right ps e h =
     let sort = (eqb (e .kind) INDEPENDENT && eqb (e .d) 0) || eqb (e .kind) CARRIED in
     and-true (namesPoints ps e) (runsRight ps e) (and-true sort (namesPoints ps e && runsRight ps e) h .1)

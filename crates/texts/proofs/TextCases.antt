@@ -1,16 +1,19 @@
 -- 01, "Papers with known results", as texts: P, Q, R and the short papers are read, frame by frame as given there, and
 -- what the program writes for P is computed. Nothing is used but the definitions.
--- Main statements: `P-read`, `Q-read`, `R-read`, `case-1-written`, `case-9-read`, `case-10-read`, `case-11-read`.
+-- Main statements: `P-read`, `Q-read`, `R-read`, `case-1-written`, cases 9 to 11, the limits of case 12, case 13.
 use mathlib.Core.Path.{_≡_, refl}
 use mathlib.Core.List.{List, [], _∷_, _++_}
 use Prim.Native.Nat.{ℕ}
+use lib.ListN.{length, replicate}
 use Rattle.nests.specs.Kinds.{INDEPENDENT, CARRIED}
 use Rattle.nests.specs.Nests.{dep, Nest, nest, empty}
 use Rattle.lines.specs.Lines.{linesOf, frameOf}
 use Rattle.lines.proofs.Spelling.{framesText}
-use Rattle.texts.specs.NestTexts.{got, readLines, readNest}
-use Rattle.texts.specs.PlacementTexts.{keyText}
+use Rattle.texts.specs.NestTexts.{got, readLines, readNest, pointsText, depsText, nestText}
+use Rattle.texts.specs.PlacementTexts.{placed, placeLines, readPlacement, keyText}
 use Rattle.texts.specs.Program.{countsFrom, programText}
+use Rattle.texts.proofs.Refusals.{no-text}
+use Rattle.texts.proofs.Spelled.{valid-accepted}
 
 -- P is 01 01 03 03 03 03 02 01 03 03 03 03 02 02 with 110205, 12010403, 11080b, 12070a09, 12000a02, 110409
 abbrev pub P-lines : List ℕ
@@ -91,7 +94,51 @@ pub case-10-read : readNest (framesText ((0x01 ∷ []) ∷ (0x02 ∷ []) ∷ [])
 unfolding readNest readLines linesOf frameOf
 case-10-read = refl
 
--- case 11: the empty nest text has number 4, line 1, and the program says so
+-- case 11: the empty nest text has number 4, line 1
 pub case-11-read : readNest [] ≡ got 4 1 empty
-unfolding readNest readLines linesOf
-case-11-read = refl
+case-11-read = no-text
+
+-- case 12: 256 points and 512 dependences are accepted; a 257th point with a loop still open, or a 513th dependence, has
+-- number 5, and a point right after a closed nest number 4
+abbrev pub full : Nest
+full = nest (1 ∷ replicate 254 3 ++ (2 ∷ [])) (replicate 512 (dep INDEPENDENT 0 1 2))
+
+pub full-read : readNest (nestText full) ≡ got 0 0 full
+full-read = valid-accepted full refl
+
+pub point-257 : readNest (nestText (nest (1 ∷ replicate 256 3) [])) ≡ got 5 257 empty
+unfolding readNest readLines linesOf frameOf nestText pointsText depsText
+point-257 = refl
+
+pub dependence-513
+    : readNest (nestText (nest (1 ∷ 3 ∷ 3 ∷ 2 ∷ []) (replicate 513 (dep INDEPENDENT 0 1 2)))) ≡ got 5 517 empty
+unfolding readNest readLines linesOf frameOf nestText pointsText depsText
+dependence-513 = refl
+
+pub point-after : readNest (nestText (nest (1 ∷ 2 ∷ 3 ∷ []) [])) ≡ got 4 3 empty
+unfolding readNest readLines linesOf frameOf nestText pointsText depsText
+point-after = refl
+
+-- loops 8 deep are accepted, 9 deep have number 5
+abbrev pub deep : Nest
+deep = nest (replicate 8 1 ++ replicate 8 2) []
+
+pub deep-8 : readNest (nestText deep) ≡ got 0 0 deep
+deep-8 = valid-accepted deep refl
+
+pub deep-9 : readNest (nestText (nest (replicate 9 1 ++ replicate 9 2) [])) ≡ got 5 9 empty
+unfolding readNest readLines linesOf frameOf nestText pointsText depsText
+deep-9 = refl
+
+-- case 13: gap 13 of P is accepted, 14 has number 8; the key of P needs 10 bytes
+pub gap-13 : readPlacement (length (P .points)) (keyText (13 ∷ [])) ≡ placed 0 0 (13 ∷ [])
+unfolding readPlacement placeLines keyText linesOf frameOf
+gap-13 = refl
+
+pub gap-14 : readPlacement (length (P .points)) (keyText (14 ∷ [])) ≡ placed 8 1 []
+unfolding readPlacement placeLines keyText linesOf frameOf
+gap-14 = refl
+
+pub key-bytes : length (keyText (5 ∷ 11 ∷ [])) ≡ 10
+unfolding keyText
+key-bytes = refl
