@@ -1,1 +1,2 @@
 -- Laws of lines.
+pub mod Spelling
