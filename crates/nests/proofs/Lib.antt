@@ -1,1 +1,3 @@
--- Laws of nests.
+-- Laws of nests: levels, loops, gaps, dependences, the ring.
+pub mod Levels
+pub mod Loops
