@@ -1,2 +1,3 @@
 -- Laws on tests, numbers and lists that any project could use.
 pub mod Tests
+pub mod Members
