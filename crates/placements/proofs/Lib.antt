@@ -1,1 +1,2 @@
 -- Laws of placements.
+pub mod LoopLists
