@@ -1,2 +1,4 @@
 -- Laws of placements.
+pub mod Inside
 pub mod LoopLists
+pub mod LoopOrder

@@ -7,18 +7,19 @@ use mathlib.Core.List.{List, [], _∷_, _++_}
 use mathlib.Core.Logic.{⊎-elim}
 use Prim.Native.Nat.{ℕ, zero, suc, _+_, _≤_, _<_}
 use native.Mathlib.Omega.{arith}
-use lib.Dec.{eqb, ltb}
+use lib.Dec.{eqb}
 use lib.ListN.{length, getD}
-use borrow.Author.Tests.{eqb-true, eqb-false, eq-eqb, ltb-true}
+use borrow.Author.Tests.{eqb-true, eqb-false, eq-eqb}
 use Rattle.laws.specs.Choice.{pick, isIn}
-use Rattle.laws.proofs.Tests.{never, and-true}
+use Rattle.laws.proofs.Tests.{never}
 use Rattle.laws.proofs.Members.{in-here, in-later, in-cons, gather, From, in-gathered, gathered-in, SplitAt, gathered-before}
 use Rattle.nests.specs.Nests.{Nest}
 use Rattle.nests.specs.Loops.{isDo, isEnd, endOf, ownerOf, inLoop}
 use Rattle.nests.specs.Valid.{isShape}
 use Rattle.nests.proofs.Levels.{point-in, end-not-first}
-use Rattle.nests.proofs.Loops.{end-is-end, end-there, end-has-do, owner-of-end, owner-is-do, nested}
+use Rattle.nests.proofs.Loops.{end-is-end, end-there, end-has-do, owner-of-end, owner-is-do}
 use Rattle.placements.specs.Placements.{loopCount, loopsFrom, loopsOf, differFrom, differ}
+use Rattle.placements.proofs.Inside.{inside-ends}
 
 loops-gathered : (f e : ℕ) (ps : List ℕ) → loopsFrom f e ps ≡ gather (isEnd ps) (ownerOf ps) f e
 loops-gathered zero e ps = refl
@@ -54,12 +55,7 @@ module _ (n : Nest) (shape : isShape (n .points) ≡ true) where
   pub inside-first :
       (xs ys : List ℕ) (d x : ℕ) → loopsOf n ≡ xs ++ (d ∷ ys) → isDo (n .points) d ≡ true → isDo (n .points) x ≡ true →
       inLoop (n .points) d x ≡ true → isIn x xs ≡ true
-  inside-first xs ys d x e k h i =
-      let ps = n .points in
-      let z = and-true (ltb d x) (ltb x (endOf ps d)) i in
-      let l = ltb-true d x (z .0) in
-      let m = ltb-true x (endOf ps d) (z .1) in
-      earlier-end-first xs ys d x e h (nested ps shape d x k h l (omega arith))
+  inside-first xs ys d x e k h i = earlier-end-first xs ys d x e h (inside-ends (n .points) shape d x k h i)
 
 -- the first of some loops at which two counts differ
 record FirstOf (n : Nest) (a b xs : List ℕ) (d : ℕ) : Type 0 where
