@@ -2,3 +2,4 @@
 pub mod Inside
 pub mod LoopLists
 pub mod LoopOrder
+pub mod Keys
