@@ -17,15 +17,12 @@ use Rattle.nests.specs.Loops.{isDo, ownerOf, inLoop}
 use Rattle.nests.specs.Valid.{isShape}
 use Rattle.nests.proofs.Levels.{starts-with-do}
 use Rattle.nests.proofs.Loops.{owner-is-do}
-use Rattle.placements.specs.Placements.{uncut, areGapsFrom, areGaps, isCorrect, loopCount, loopsOf, asGood}
+use Rattle.placements.specs.Placements.{areGapsFrom, areGaps, isCorrect, loopCount, loopsOf, asGood}
 use Rattle.placements.specs.Keys.{IsKey, By-loops}
+use Rattle.placements.proofs.Cuts.{correct-gaps}
 use Rattle.placements.proofs.Inside.{inside-lies}
 use Rattle.placements.proofs.LoopLists.{loop-listed}
 use Rattle.placements.proofs.LoopOrder.{SameCounts, SameInside, asGood-elim, asGood-moved, asGood-both}
-
--- correct, taken apart
-pub correct-gaps : (n : Nest) (gs : List ℕ) → isCorrect n gs ≡ true → areGaps n gs ≡ true
-correct-gaps n gs h = and-true (areGaps n gs) (eqb (uncut n gs) 0) h .0
 
 -- each is as good as the other
 pub keys-agree : (n : Nest) → isShape (n .points) ≡ true → (j k : List ℕ) → IsKey n j → IsKey n k → SameCounts n j k

@@ -1,4 +1,5 @@
 -- Laws of placements.
+pub mod Cuts
 pub mod Inside
 pub mod LoopLists
 pub mod LoopOrder
