@@ -4,3 +4,4 @@ pub mod Inside
 pub mod LoopLists
 pub mod LoopOrder
 pub mod Keys
+pub mod Verdicts
