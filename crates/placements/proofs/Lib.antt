@@ -3,5 +3,6 @@ pub mod Cuts
 pub mod Inside
 pub mod LoopLists
 pub mod LoopOrder
+pub mod TreeOrder
 pub mod Keys
 pub mod Verdicts
