@@ -1,5 +1,5 @@
 -- Keys: all keys of a nest have the same counts, and a key is least loop by loop (demand 3).
--- Main statements: `keys-agree`, `same-counts-key`, `by-loops`.
+-- Main statements: `keys-agree`, `keys-same-tree`, `key-least-tree`, `same-counts-key`, `by-loops`.
 use mathlib.Core.Path.{_≡_, refl, sym, _∙_}
 use mathlib.Core.Bool.{Bool, true, false, _&&_}
 use mathlib.Core.List.{List, [], _∷_}
@@ -18,15 +18,27 @@ use Rattle.nests.specs.Valid.{isShape}
 use Rattle.nests.proofs.Levels.{starts-with-do}
 use Rattle.nests.proofs.Loops.{owner-is-do}
 use Rattle.placements.specs.Placements.{areGapsFrom, areGaps, isCorrect, loopCount, loopsOf, asGood}
+use Rattle.placements.specs.Trees.{treeOf, asGoodTree}
 use Rattle.placements.specs.Keys.{IsKey, By-loops}
 use Rattle.placements.proofs.Cuts.{correct-gaps}
 use Rattle.placements.proofs.Inside.{inside-lies}
 use Rattle.placements.proofs.LoopLists.{loop-listed}
 use Rattle.placements.proofs.LoopOrder.{SameCounts, SameInside, asGood-elim, asGood-moved, asGood-both}
+use Rattle.placements.proofs.TreeOrder.{tree-order, equal-trees}
 
 -- each is as good as the other
 pub keys-agree : (n : Nest) → isShape (n .points) ≡ true → (j k : List ℕ) → IsKey n j → IsKey n k → SameCounts n j k
 keys-agree n shape j k p q = asGood-both n shape j k (p .least k (q .correct)) (q .least j (p .correct))
+
+-- so all keys have one tree, the least of the correct placements' trees
+pub keys-same-tree :
+    (n : Nest) → isShape (n .points) ≡ true → (j k : List ℕ) → IsKey n j → IsKey n k → treeOf n j ≡ treeOf n k
+keys-same-tree n shape j k p q = equal-trees n shape j k .1 (keys-agree n shape j k p q)
+
+pub key-least-tree :
+    (n : Nest) → isShape (n .points) ≡ true → (k gs : List ℕ) → IsKey n k → isCorrect n gs ≡ true →
+    asGoodTree (treeOf n k) (treeOf n gs) ≡ true
+key-least-tree n shape k gs p c = tree-order n shape k gs .0 (p .least gs c)
 
 -- a correct placement with a key's counts is a key
 pub same-counts-key :

@@ -1,5 +1,5 @@
 -- The order of placements, loop by loop: as good or better is a statement of every loop, and both ways it is equal counts.
--- Main statements: `asGood-elim`, `asGood-intro`, `asGood-of-same`, `asGood-moved`, `asGood-both`.
+-- Main statements: `asGood-elim`, `asGood-intro`, `asGood-moved`, `asGood-refl`, `asGood-trans`, `asGood-both`.
 use mathlib.Core.Path.{_≡_, refl, sym, _∙_}
 use mathlib.Core.Bool.{Bool, true, false, _&&_, _||_, not}
 use mathlib.Core.List.{List, [], _∷_}
@@ -15,7 +15,7 @@ use Rattle.nests.specs.Nests.{Nest}
 use Rattle.nests.specs.Loops.{isDo, inLoop}
 use Rattle.nests.specs.Valid.{isShape}
 use Rattle.placements.specs.Placements.{loopCount, loopsOf, insideSame, betterFrom, asGood}
-use Rattle.placements.proofs.Inside.{from-inside}
+use Rattle.placements.proofs.Inside.{inside-inside, from-inside}
 use Rattle.placements.proofs.LoopLists.{loop-listed, listed-loop}
 
 -- the same count at every loop; at every loop inside d
@@ -116,6 +116,31 @@ pub asGood-moved :
 asGood-moved n shape a b c s e =
     asGood-intro n shape b c
     (λ d h k. omega (arith, s d h, asGood-elim n shape a c e d h (λ x q i. s x q ∙ k x q i)))
+
+-- an order: each is as good as itself, and as good as what a placement that it is as good as is as good as
+pub asGood-refl : (n : Nest) → isShape (n .points) ≡ true → (a : List ℕ) → asGood n a a ≡ true
+asGood-refl n shape a = asGood-of-same n shape a a (λ x h. refl)
+
+pub asGood-trans :
+    (n : Nest) → isShape (n .points) ≡ true → (a b c : List ℕ) → asGood n a b ≡ true → asGood n b c ≡ true → asGood n a c ≡ true
+asGood-trans n shape a b c p q = asGood-intro n shape a c between
+  where
+    between : (d : ℕ) → isDo (n .points) d ≡ true → SameInside n a c d → loopCount n a d ≤ loopCount n c d
+    between d h s =
+        omega (arith,
+        asGood-elim n shape a b p d h first,
+        asGood-elim n shape b c q d h (λ x k i. sym (first x k i) ∙ s x k i))
+      where
+        -- b stands between a and c, so inside d it has their counts
+        first : SameInside n a b d
+        first x k = from-inside (n .points) shape (λ (y : ℕ). inLoop (n .points) d y ≡ true → loopCount n a y ≡ loopCount n b y)
+            (λ y m r i.
+                let in-y : SameInside n a b y = λ z w j. r z w j (inside-inside (n .points) shape d y z h m i j) in
+                omega (arith,
+                s y m i,
+                asGood-elim n shape a b p y m in-y,
+                asGood-elim n shape b c q y m (λ z w j. sym (in-y z w j) ∙ s z w (inside-inside (n .points) shape d y z h m i j))))
+            x k
 
 -- each as good as the other: the same counts, from the inner loops outwards
 pub asGood-both :

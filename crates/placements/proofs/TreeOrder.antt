@@ -1,7 +1,7 @@
 -- The order loop by loop is the tree order of 001, definition 1.
 -- A tree is the loop's count over the trees of the loops directly inside it; each loop inside a loop is one of these or inside
 -- one of these. So two trees are equal where all counts agree, and the order unrolls to a statement of every loop.
--- Main statements: `tree-order`, `same-tree`.
+-- Main statements: `tree-order`, `equal-trees`.
 use mathlib.Core.Path.{_≡_, refl, sym, ap, _∙_}
 use mathlib.Core.Bool.{Bool, true, false, _&&_, _||_, not}
 use mathlib.Core.List.{List, [], _∷_, _++_}
@@ -23,6 +23,33 @@ use Rattle.placements.specs.Placements.{loopCount, asGood}
 use Rattle.placements.specs.Trees.{Tree, node, Forest, bare, beside, sameTree, sameForest, asGoodTree, asGoodForest, isRightIn, rightInFrom, loopsRightIn, forestOf, treeFrom, treeOf}
 use Rattle.placements.proofs.Inside.{Around, RightIn, right-in-lies, right-in-around, inside-lies, inside-ends, inside-inside, inside-outermost}
 use Rattle.placements.proofs.LoopOrder.{SameCounts, SameInside, asGood-elim, asGood-intro}
+
+-- the test of trees says that they are equal
+mutual
+  pub same-tree-equal : (t u : Tree) → sameTree t u ≡ true → t ≡ u
+  same-tree-equal (node c ts) (node k us) h =
+      let z = and-true (eqb c k) (sameForest ts us) h in
+      let p : c ≡ k = eqb-true c k (z .0) in
+      let q : ts ≡ us = same-forest-equal ts us (z .1) in
+      cc
+
+  pub same-forest-equal : (ts us : Forest) → sameForest ts us ≡ true → ts ≡ us
+  same-forest-equal bare bare h = refl
+  same-forest-equal bare (beside u us) h = never h
+  same-forest-equal (beside t ts) bare h = never h
+  same-forest-equal (beside t ts) (beside u us) h =
+      let z = and-true (sameTree t u) (sameForest ts us) h in
+      let p : t ≡ u = same-tree-equal t u (z .0) in
+      let q : ts ≡ us = same-forest-equal ts us (z .1) in
+      cc
+
+mutual
+  same-tree-self : (t : Tree) → sameTree t t ≡ true
+  same-tree-self (node c ts) = and-intro (eq-eqb c c refl) (same-forest-self ts)
+
+  same-forest-self : (ts : Forest) → sameForest ts ts ≡ true
+  same-forest-self bare = refl
+  same-forest-self (beside t ts) = and-intro (same-tree-self t) (same-forest-self ts)
 
 -- the loops directly inside d
 right-in-gathered : (f x : ℕ) (ps : List ℕ) (d : ℕ) → rightInFrom f x ps d ≡ gather (isRightIn ps d) (λ i. i) f x
@@ -216,8 +243,9 @@ module _ (n : Nest) (shape : isShape (n .points) ≡ true) (a b : List ℕ) wher
           good-down (length (n .points)) 0 first outer-end e d (h, inside-outermost (n .points) shape d h)))
 
   -- equal trees are equal counts
-  pub same-tree : SameCounts n a b ↔ (sameTree (treeOf n a) (treeOf n b) ≡ true)
-  same-tree =
+  pub equal-trees : (treeOf n a ≡ treeOf n b) ↔ SameCounts n a b
+  equal-trees =
       let first = starts-with-do (n .points) shape in
-      (λ s. same-up (length (n .points)) 0 first outer-end (λ y m. s y (m .0)),
-      λ e x h. same-down (length (n .points)) 0 first outer-end e x (h, inside-outermost (n .points) shape x h))
+      (λ e x h. same-down (length (n .points)) 0 first outer-end (rw (← e) (same-tree-self (treeOf n a))) x
+          (h, inside-outermost (n .points) shape x h),
+      λ s. same-tree-equal (treeOf n a) (treeOf n b) (same-up (length (n .points)) 0 first outer-end (λ y m. s y (m .0))))
