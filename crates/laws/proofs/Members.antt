@@ -1,7 +1,7 @@
 -- Members of lists, and lists gathered over a run of numbers.
--- Main statements: `in-here`, `in-later`, `in-cons`, `in-gathered`, `gathered-in`, `gathered-before`.
+-- Main statements: `in-here`, `in-later`, `in-cons`, `in-gathered`, `gathered-in`, `gathered-before`, `every-below`.
 use mathlib.Core.Path.{_≡_, refl}
-use mathlib.Core.Bool.{Bool, true, false}
+use mathlib.Core.Bool.{Bool, true, false, _&&_}
 use mathlib.Core.List.{List, [], _∷_, _++_}
 use mathlib.Core.Logic.{_⊎_, inl, inr, ⊎-elim}
 use Prim.Native.Nat.{ℕ, zero, suc, _+_, _≤_, _<_}
@@ -9,7 +9,7 @@ use native.Mathlib.Omega.{arith}
 use lib.Dec.{eqb}
 use borrow.Author.Tests.{eqb-true, eq-eqb}
 use Rattle.laws.specs.Choice.{pick, isIn}
-use Rattle.laws.proofs.Tests.{never, never-both, or-left, or-right, or-true, eq-or}
+use Rattle.laws.proofs.Tests.{never, never-both, and-true, or-left, or-right, or-true, eq-or}
 
 pub in-here : (x : ℕ) (xs : List ℕ) → isIn x (x ∷ xs) ≡ true
 in-here x xs = or-left (isIn x xs) (eq-eqb x x refl)
@@ -133,3 +133,17 @@ module _ (passes : ℕ → Bool) (value : ℕ → ℕ) (v : ℕ) (ys : List ℕ)
           (λ x h. in-later x z zs h)
           (r zs (cc))
       go false p zs q r = split-later f i zs zs (λ h. never-both h p) (λ x h. h) (r zs q)
+
+-- a test that holds of every number below k, computed
+abbrev pub everyBelow : (ℕ → Bool) → ℕ → Bool
+everyBelow passes zero = true
+everyBelow passes (suc k) = passes k && everyBelow passes k
+
+pub every-below : (passes : ℕ → Bool) (k : ℕ) → everyBelow passes k ≡ true → (i : ℕ) → i < k → passes i ≡ true
+every-below passes zero h i l = absurd (omega arith)
+every-below passes (suc k) h i l =
+    let z = and-true (passes k) (everyBelow passes k) h in
+    ⊎-elim
+    (λ (e : i ≡ k). rw e (z .0))
+    (λ (e : i ≡ k → ⊥). every-below passes k (z .1) i (omega arith))
+    (eq-or i k)

@@ -8,3 +8,4 @@ pub mod Keys
 pub mod Verdicts
 pub mod Papers
 pub mod Cases
+pub mod Planners
