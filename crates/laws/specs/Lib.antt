@@ -1,2 +1,3 @@
 -- Choices between values that every other definition uses.
 pub mod Choice
+pub mod Members

@@ -3,4 +3,5 @@ pub mod Kinds
 pub mod Nests
 pub mod Loops
 pub mod Gaps
+pub mod Ring
 pub mod Valid
