@@ -3,3 +3,4 @@ pub mod Tests
 pub mod Ranges
 pub mod Bits
 pub mod Choices
+pub mod Members
