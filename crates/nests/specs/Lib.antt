@@ -3,4 +3,6 @@ pub mod Kinds
 pub mod Nests
 pub mod Loops
 pub mod Gaps
+pub mod Ring
 pub mod Valid
+pub mod Stored

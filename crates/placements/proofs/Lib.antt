@@ -1,1 +1,11 @@
 -- Laws of placements.
+pub mod Cuts
+pub mod Inside
+pub mod LoopLists
+pub mod LoopOrder
+pub mod TreeOrder
+pub mod Keys
+pub mod Verdicts
+pub mod Papers
+pub mod Cases
+pub mod Planners

@@ -1,4 +1,5 @@
--- Placements: cuts, counts, cost trees, keys.
+-- Placements: cuts, counts, cost trees, keys, verdicts.
 pub mod Placements
 pub mod Trees
 pub mod Keys
+pub mod Verdicts

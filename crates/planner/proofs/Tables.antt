@@ -30,7 +30,8 @@ record After (S T : Tables) (d : ℕ) : Type 0 where
   pub lay-is : (x : ℕ) → d < x → S .lay x ≡ T .lay x
 
 -- then a row of x from d on that is made from S is made from T
-row-kept : (B : Loops) → LoopLaws B → (N : Lines) (S T : Tables) (d x : ℕ) → B .isDo x ≡ true → d ≤ x → After S T d → RowOf B N S T x → RowOf B N T T x
+row-kept : (B : Loops) → LoopLaws B → (N : Lines) (S T : Tables) (d x : ℕ) → B .isDo x ≡ true → d ≤ x → After S T d →
+    RowOf B N S T x → RowOf B N T T x
 row-kept B laws N S T d x is-do h a r =
     record {
       cost-is = r .cost-is ∙ cost-alike B B laws N N S T x is-do alike;
@@ -88,10 +89,13 @@ module _ (B : Loops) (laws : LoopLaws B) (N : Lines) where
   rows-from : (k d x : ℕ) → B .isDo x ≡ true → d ≤ x → x < d + k → RowOf B N (tableFrom B N k d) (tableFrom B N k d) x
   unfolding tableFrom
   rows-from zero d x is-do low high = absurd (omega arith)
-  rows-from (suc k) d x is-do low high = go (B .isDo d) refl (tableFrom B N k (suc d)) (λ h. rows-from k (suc d) x is-do h (omega arith))
+  rows-from (suc k) d x is-do low high = go (B .isDo d) refl (tableFrom B N k (suc d))
+      (λ h. rows-from k (suc d) x is-do h (omega arith))
     where
-      go : (t : Bool) → B .isDo d ≡ t → (T : Tables) → (d < x → RowOf B N T T x) → RowOf B N (pick t (withRow B N d T) T) (pick t (withRow B N d T) T) x
-      go true e T r = row-kept B laws N T (withRow B N d T) d x is-do low (row-after T d) (⊎-elim at (λ (z : d < x). row-later T d x z (r z)) (le-or x d))
+      go : (t : Bool) → B .isDo d ≡ t → (T : Tables) → (d < x → RowOf B N T T x) →
+          RowOf B N (pick t (withRow B N d T) T) (pick t (withRow B N d T) T) x
+      go true e T r = row-kept B laws N T (withRow B N d T) d x is-do low (row-after T d)
+          (⊎-elim at (λ (z : d < x). row-later T d x z (r z)) (le-or x d))
         where
           at : x ≤ d → RowOf B N T (withRow B N d T) x
           at z =

@@ -1,1 +1,10 @@
 -- Laws of texts.
+pub mod Shapes
+pub mod NestFrames
+pub mod Spelled
+pub mod Refusals
+pub mod Accepted
+pub mod ReadsBack
+pub mod PlacedTexts
+pub mod ProgramTexts
+pub mod TextCases
