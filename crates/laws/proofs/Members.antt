@@ -18,7 +18,11 @@ pub in-later : (x y : ℕ) (xs : List ℕ) → isIn x xs ≡ true → isIn x (y 
 in-later x y xs h = or-right (eqb x y) h
 
 pub in-cons : (x y : ℕ) (xs : List ℕ) → isIn x (y ∷ xs) ≡ true → (x ≡ y) ⊎ (isIn x xs ≡ true)
-in-cons x y xs h = ⊎-elim (λ (z : eqb x y ≡ true). inl (eqb-true x y z)) (λ (z : isIn x xs ≡ true). inr z) (or-true (eqb x y) (isIn x xs) h)
+in-cons x y xs h =
+    ⊎-elim
+    (λ (z : eqb x y ≡ true). inl (eqb-true x y z))
+    (λ (z : isIn x xs ≡ true). inr z)
+    (or-true (eqb x y) (isIn x xs) h)
 
 -- the values of the f numbers from i on that pass the test, in rising order of the numbers
 abbrev pub gather : (ℕ → Bool) → (ℕ → ℕ) → ℕ → ℕ → List ℕ
@@ -84,13 +88,13 @@ module _ (passes : ℕ → Bool) (value : ℕ → ℕ) (v : ℕ) (ys : List ℕ)
   split-now : (f i : ℕ) → passes i ≡ true → value i ≡ v → SplitAt passes value (suc f) i v []
   split-now f i p e =
       record {
-      at = i;
-      low = omega arith;
-      high = omega arith;
-      passed = p;
-      is = e;
-      earlier = λ j l h q. absurd (omega arith)
-  }
+        at = i;
+        low = omega arith;
+        high = omega arith;
+        passed = p;
+        is = e;
+        earlier = λ j l h q. absurd (omega arith);
+      }
 
   split-later :
       (f i : ℕ) (xs zs : List ℕ) → (passes i ≡ true → isIn (value i) zs ≡ true) →
@@ -98,13 +102,13 @@ module _ (passes : ℕ → Bool) (value : ℕ → ℕ) (v : ℕ) (ys : List ℕ)
       SplitAt passes value (suc f) i v zs
   split-later f i xs zs first more s =
       record {
-      at = s .at;
-      low = omega arith;
-      high = omega arith;
-      passed = s .passed;
-      is = s .is;
-      earlier = earlier
-  }
+        at = s .at;
+        low = omega arith;
+        high = omega arith;
+        passed = s .passed;
+        is = s .is;
+        earlier = earlier;
+      }
     where
       earlier : (j : ℕ) → i ≤ j → j < s .at → passes j ≡ true → isIn (value j) zs ≡ true
       earlier j l h q = ⊎-elim

@@ -49,14 +49,14 @@ pub record Case : Type 0 where
 abbrev row : ℕ → Nest → List ℕ → List ℕ → List ℕ → Verdict → Bool → Case
 row i n k c gs v b =
     record {
-    number = i;
-    paper = n;
-    key = k;
-    counts = c;
-    marked = gs;
-    verdict = v;
-    also = b
-}
+      number = i;
+      paper = n;
+      key = k;
+      counts = c;
+      marked = gs;
+      verdict = v;
+      also = b;
+    }
 
 abbrev pub holds : Case → Bool
 holds c =

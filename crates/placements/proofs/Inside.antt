@@ -98,5 +98,5 @@ module _ (ps : List ℕ) (shape : isShape ps ≡ true) where
           holds = ⊎-elim
               (λ (z : y ≡ x). inl z)
               (λ (z : y ≡ x → ⊥).
-                  inr (inside-by ps x y (omega (arith, r .after)) (omega (arith, r .within, end-after ps shape y m))))
+              inr (inside-by ps x y (omega (arith, r .after)) (omega (arith, r .within, end-after ps shape y m))))
               (eq-or y x)

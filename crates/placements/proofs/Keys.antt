@@ -78,10 +78,12 @@ module _ (n : Nest) (shape : isShape (n .points) ≡ true) (one : length (loopsO
 
   one-loop-least : (key gs : List ℕ) → IsKey n key → isCorrect n gs ≡ true → length key ≤ length gs
   one-loop-least key gs k c =
-      omega (arith,
-      one-loop-count key (correct-gaps n key (k .correct)),
-      one-loop-count gs (correct-gaps n gs c),
-      asGood-elim n shape key gs (k .least gs c) 0 (starts-with-do (n .points) shape) none)
+      omega (
+        arith,
+        one-loop-count key (correct-gaps n key (k .correct)),
+        one-loop-count gs (correct-gaps n gs c),
+        asGood-elim n shape key gs (k .least gs c) 0 (starts-with-do (n .points) shape) none,
+      )
     where
       none : SameInside n key gs 0
       none x h i = absurd (omega (arith, only-loop x h, inside-lies (n .points) 0 x i))
@@ -90,6 +92,6 @@ module _ (n : Nest) (shape : isShape (n .points) ≡ true) (one : length (loopsO
 pub by-loops : (n : Nest) → isShape (n .points) ≡ true → (key : List ℕ) → IsKey n key → By-loops n key
 by-loops n shape key k =
     record {
-    each = λ gs d c h s. asGood-elim n shape key gs (k .least gs c) d h (λ x m i. sym (s x m i));
-    one-loop = λ gs one c. one-loop-least n shape one key gs k c
-}
+      each = λ gs d c h s. asGood-elim n shape key gs (k .least gs c) d h (λ x m i. sym (s x m i));
+      one-loop = λ gs one c. one-loop-least n shape one key gs k c;
+    }

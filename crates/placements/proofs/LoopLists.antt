@@ -46,7 +46,7 @@ module _ (n : Nest) (shape : isShape (n .points) ≡ true) where
   earlier-end-first xs ys d x e h l =
       let ps = n .points in
       let s : SplitAt (isEnd ps) (ownerOf ps) (length ps) 0 d xs =
-          gathered-before (isEnd ps) (ownerOf ps) d ys (length ps) 0 xs (sym (loops-gathered (length ps) 0 ps) ∙ e) in
+      gathered-before (isEnd ps) (ownerOf ps) d ys (length ps) 0 xs (sym (loops-gathered (length ps) 0 ps) ∙ e) in
       let at-is : endOf ps d ≡ s .at = sym (ap (endOf ps) (s .is)) ∙ end-has-do ps shape (s .at) (s .passed) in
       let z = s .earlier (endOf ps x) (omega arith) (omega arith) (end-is-end ps shape x h) in
       rw (owner-of-end ps shape x h) at z
@@ -98,12 +98,12 @@ module _ (n : Nest) (a b : List ℕ) where
           more : FirstOf n a b xs d → FirstOf n a b (x ∷ xs) d
           more f =
               record {
-              before = x ∷ f .before;
-              after = f .after;
-              split = ap (λ (l : List ℕ). x ∷ l) (f .split);
-              differs = f .differs;
-              same = same
-          }
+                before = x ∷ f .before;
+                after = f .after;
+                split = ap (λ (l : List ℕ). x ∷ l) (f .split);
+                differs = f .differs;
+                same = same;
+              }
             where
               same : (y : ℕ) → isIn y (x ∷ f .before) ≡ true → loopCount n a y ≡ loopCount n b y
               same y h = ⊎-elim
@@ -113,12 +113,12 @@ module _ (n : Nest) (a b : List ℕ) where
       go false p q r =
           let z : x ≡ d = omega arith in
           record {
-          before = [];
-          after = xs;
-          split = rw z;
-          differs = rw (← z) (eqb-false (loopCount n a x) (loopCount n b x) p);
-          same = λ y h. never h
-      }
+            before = [];
+            after = xs;
+            split = rw z;
+            differs = rw (← z) (eqb-false (loopCount n a x) (loopCount n b x) p);
+            same = λ y h. never h;
+          }
 
 -- what `differ` tells: a loop where the counts differ, with the first ENDDO of all such
 pub record Differ (n : Nest) (a b : List ℕ) (d : ℕ) : Type 0 where
@@ -144,11 +144,11 @@ module _ (n : Nest) (shape : isShape (n .points) ≡ true) (a b : List ℕ) wher
       go : FirstOf n a b (loopsOf n) d → Differ n a b d
       go f =
           record {
-          loop = loop;
-          differs = f .differs;
-          earlier = λ x h l. f .same x (earlier-end-first n shape (f .before) (f .after) d x (f .split) h l);
-          inside = λ x h i. f .same x (inside-first n shape (f .before) (f .after) d x (f .split) loop h i)
-      }
+            loop = loop;
+            differs = f .differs;
+            earlier = λ x h l. f .same x (earlier-end-first n shape (f .before) (f .after) d x (f .split) h l);
+            inside = λ x h i. f .same x (inside-first n shape (f .before) (f .after) d x (f .split) loop h i);
+          }
         where
           loop : isDo (n .points) d ≡ true
           loop = listed-loop n shape d (rw (f .split) (in-split (f .before) (f .after)))
