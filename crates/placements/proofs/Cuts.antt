@@ -34,7 +34,8 @@ cut-has-gap ps e (g ∷ gs) h = ⊎-elim
     later : CutBy ps e gs → CutBy ps e (g ∷ gs)
     later c = record { gap = c .gap; placed = in-later (c .gap) g gs (c .placed); its = c .its }
 
-pub gap-cuts : (ps : List ℕ) (e : Dep) (gs : List ℕ) (g : ℕ) → isIn g gs ≡ true → hasGap ps e g ≡ true → cuts ps e gs ≡ true
+pub gap-cuts :
+    (ps : List ℕ) (e : Dep) (gs : List ℕ) (g : ℕ) → isIn g gs ≡ true → hasGap ps e g ≡ true → cuts ps e gs ≡ true
 gap-cuts ps e [] g h k = never h
 gap-cuts ps e (x ∷ xs) g h k = ⊎-elim
     (λ (z : g ≡ x). or-left (cuts ps e xs) (rw z at k))
@@ -68,14 +69,16 @@ module _ (ps gs : List ℕ) where
 
 module _ (ps gs : List ℕ) (e₀ : Dep) where
   lowest-cons :
-      (e : Dep) (es : List Dep) (k : ℕ) → cuts ps e gs ≡ true → LowestUncut ps es gs e₀ k → LowestUncut ps (e ∷ es) gs e₀ (suc k)
+      (e : Dep) (es : List Dep) (k : ℕ) → cuts ps e gs ≡ true → LowestUncut ps es gs e₀ k →
+      LowestUncut ps (e ∷ es) gs e₀ (suc k)
   lowest-cons e es k h r = record { there = omega arith; not-cut = r .not-cut; lower = lower }
     where
       lower : (j : ℕ) → j < suc k → cuts ps (getD (e ∷ es) j e₀) gs ≡ true
       lower zero l = h
       lower (suc j) l = r .lower j (omega arith)
 
-  from-lowest : (es : List Dep) (i v : ℕ) → uncutFrom i ps es gs ≡ suc v → (k : ℕ) × (v ≡ i + k) × LowestUncut ps es gs e₀ k
+  from-lowest :
+      (es : List Dep) (i v : ℕ) → uncutFrom i ps es gs ≡ suc v → (k : ℕ) × (v ≡ i + k) × LowestUncut ps es gs e₀ k
   from-lowest [] i v h = absurd (omega arith)
   from-lowest (e ∷ es) i v h = go (cuts ps e gs) refl h (from-lowest es (suc i) v)
     where
@@ -84,7 +87,8 @@ module _ (ps gs : List ℕ) (e₀ : Dep) where
           (uncutFrom (suc i) ps es gs ≡ suc v → (k : ℕ) × (v ≡ suc i + k) × LowestUncut ps es gs e₀ k) →
           (k : ℕ) × (v ≡ i + k) × LowestUncut ps (e ∷ es) gs e₀ k
       go true p q r = let z = r q in (suc (z .0), omega (arith, z .1), lowest-cons e es (z .0) p (z .2))
-      go false p q r = (0, omega arith, record { there = omega arith; not-cut = p; lower = λ j l. absurd (omega arith) })
+      go false p q r =
+          (0, omega arith, record { there = omega arith; not-cut = p; lower = λ j l. absurd (omega arith) })
 
   lowest-from : (es : List Dep) (i k : ℕ) → LowestUncut ps es gs e₀ k → uncutFrom i ps es gs ≡ suc (i + k)
   lowest-from [] i k r = absurd (omega (arith, r .there))
@@ -93,7 +97,12 @@ module _ (ps gs : List ℕ) (e₀ : Dep) where
       rw (r .lower 0 (omega arith)) (omega (arith, lowest-from es (suc i) k rest))
     where
       rest : LowestUncut ps es gs e₀ k
-      rest = record { there = omega (arith, r .there); not-cut = r .not-cut; lower = λ j l. r .lower (suc j) (omega arith) }
+      rest =
+          record {
+            there = omega (arith, r .there);
+            not-cut = r .not-cut;
+            lower = λ j l. r .lower (suc j) (omega arith);
+          }
 
 -- of a nest and a placement
 module _ (n : Nest) (gs : List ℕ) where

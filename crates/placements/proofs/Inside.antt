@@ -50,7 +50,8 @@ module _ (ps : List ℕ) (shape : isShape ps ≡ true) where
       nested ps shape d x h k (z .0) (omega (arith, z .1))
 
   pub inside-inside :
-      (d x y : ℕ) → isDo ps d ≡ true → isDo ps x ≡ true → inLoop ps d x ≡ true → inLoop ps x y ≡ true → inLoop ps d y ≡ true
+      (d x y : ℕ) → isDo ps d ≡ true → isDo ps x ≡ true → inLoop ps d x ≡ true → inLoop ps x y ≡ true →
+      inLoop ps d y ≡ true
   inside-inside d x y h k i j =
       let z = inside-lies ps d x i in
       let w = inside-lies ps x y j in
@@ -60,7 +61,9 @@ module _ (ps : List ℕ) (shape : isShape ps ≡ true) where
   pub inside-outermost : (x : ℕ) → isDo ps x ≡ true → (x ≡ 0) ⊎ (inLoop ps 0 x ≡ true)
   inside-outermost x h = ⊎-elim
       (λ (z : x ≡ 0). inl z)
-      (λ (z : x ≡ 0 → ⊥). inr (inside-by ps 0 x (omega arith) (omega (arith, end-after ps shape x h, end-in-outermost ps shape x h))))
+      (λ (z : x ≡ 0 → ⊥).
+      let l : x < endOf ps 0 = omega (arith, end-after ps shape x h, end-in-outermost ps shape x h) in
+      inr (inside-by ps 0 x (omega arith) l))
       (eq-or x 0)
 
   -- what holds of a loop wherever it holds of all loops inside it holds of every loop
