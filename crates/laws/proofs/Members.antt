@@ -1,5 +1,6 @@
 -- Members of lists, and lists gathered over a run of numbers.
--- Main statements: `in-here`, `in-later`, `in-cons`, `in-gathered`, `gathered-in`, `gathered-before`, `every-below`.
+-- Main statements: `in-here`, `in-later`, `in-cons`, `each-of`, `every-by`, `in-gathered`, `gathered-in`,
+-- `gathered-before`, `every-below`.
 use mathlib.Core.Path.{_≡_, refl}
 use mathlib.Core.Bool.{Bool, true, false, _&&_}
 use mathlib.Core.List.{List, [], _∷_, _++_}
@@ -9,7 +10,7 @@ use native.Mathlib.Omega.{arith}
 use lib.Dec.{eqb}
 use borrow.Author.Tests.{eqb-true, eq-eqb}
 use Rattle.laws.specs.Choice.{pick, isIn}
-use Rattle.laws.proofs.Tests.{never, never-both, and-true, or-left, or-right, or-true, eq-or}
+use Rattle.laws.proofs.Tests.{never, never-both, and-intro, and-true, or-left, or-right, or-true, eq-or}
 
 pub in-here : (x : ℕ) (xs : List ℕ) → isIn x (x ∷ xs) ≡ true
 in-here x xs = or-left (isIn x xs) (eq-eqb x x refl)
@@ -23,6 +24,22 @@ in-cons x y xs h =
     (λ (z : eqb x y ≡ true). inl (eqb-true x y z))
     (λ (z : isIn x xs ≡ true). inr z)
     (or-true (eqb x y) (isIn x xs) h)
+
+-- a test that holds of every member, computed
+abbrev pub everyIn : (ℕ → Bool) → List ℕ → Bool
+everyIn passes [] = true
+everyIn passes (x ∷ xs) = passes x && everyIn passes xs
+
+module _ (passes : ℕ → Bool) where
+  pub each-of : (xs : List ℕ) → everyIn passes xs ≡ true → (x : ℕ) → isIn x xs ≡ true → passes x ≡ true
+  each-of [] e x h = never h
+  each-of (y ∷ ys) e x h =
+      let z = and-true (passes y) (everyIn passes ys) e in
+      ⊎-elim (λ (q : x ≡ y). rw q (z .0)) (λ (q : isIn x ys ≡ true). each-of ys (z .1) x q) (in-cons x y ys h)
+
+  pub every-by : (xs : List ℕ) → ((x : ℕ) → isIn x xs ≡ true → passes x ≡ true) → everyIn passes xs ≡ true
+  every-by [] h = refl
+  every-by (y ∷ ys) h = and-intro (h y (in-here y ys)) (every-by ys (λ x k. h x (in-later x y ys k)))
 
 -- the values of the f numbers from i on that pass the test, in rising order of the numbers
 abbrev pub gather : (ℕ → Bool) → (ℕ → ℕ) → ℕ → ℕ → List ℕ

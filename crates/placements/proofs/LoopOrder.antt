@@ -1,17 +1,14 @@
--- The order of placements, loop by loop: as good or better says something of every loop, and both ways it is equal counts.
+-- The order of placements, loop by loop: as good or better speaks of every loop, and both ways it is equal counts.
 -- Main statements: `asGood-elim`, `asGood-intro`, `asGood-moved`, `asGood-refl`, `asGood-trans`, `asGood-both`.
-use mathlib.Core.Path.{_≡_, refl, sym, _∙_}
-use mathlib.Core.Bool.{Bool, true, _||_, not}
+use mathlib.Core.Path.{_≡_, refl, sym, ap, _∙_}
+use mathlib.Core.Bool.{Bool, true, _&&_, _||_, not}
 use mathlib.Core.List.{List, [], _∷_}
-use mathlib.Core.Logic.{⊎-elim}
 use Prim.Native.Nat.{ℕ, _≤_}
 use native.Mathlib.Omega.{arith}
 use lib.Dec.{eqb, leb}
 use borrow.Author.Tests.{eqb-true, eq-eqb, leb-true, le-leb}
-use Rattle.laws.specs.Choice.{isIn}
-use Rattle.laws.proofs.Tests.{never, and-intro, and-true}
 use Rattle.laws.proofs.Implies.{implied, implies-by}
-use Rattle.laws.proofs.Members.{in-here, in-later, in-cons}
+use Rattle.laws.proofs.Members.{everyIn, each-of, every-by}
 use Rattle.nests.specs.Nests.{Nest}
 use Rattle.nests.specs.Loops.{isDo, inLoop}
 use Rattle.nests.specs.Valid.{isShape}
@@ -38,51 +35,30 @@ module _ (n : Nest) (a b : List ℕ) where
   abbrev same-in : ℕ → Bool
   same-in d = insideSame n a b d (loopsOf n)
 
-  inside-same :
-      (d : ℕ) (xs : List ℕ) → insideSame n a b d xs ≡ true →
-      (x : ℕ) → isIn x xs ≡ true → inLoop (n .points) d x ≡ true → loopCount n a x ≡ loopCount n b x
-  inside-same d [] e x h i = never h
-  inside-same d (y ∷ ys) e x h i =
-      let z = and-true (not (inLoop (n .points) d y) || same-at y) (insideSame n a b d ys) e in
-      let here : inLoop (n .points) d y ≡ true → loopCount n a y ≡ loopCount n b y =
-          λ j. eqb-true (loopCount n a y) (loopCount n b y) (implied (inLoop (n .points) d y) (same-at y) (z .0) j) in
-      ⊎-elim
-      (λ (q : x ≡ y). rw q (here (rw q at i)))
-      (λ (q : isIn x ys ≡ true). inside-same d ys (z .1) x q i)
-      (in-cons x y ys h)
-
-  same-inside :
+  inside-every :
       (d : ℕ) (xs : List ℕ) →
-      ((x : ℕ) → isIn x xs ≡ true → inLoop (n .points) d x ≡ true → loopCount n a x ≡ loopCount n b x) →
-      insideSame n a b d xs ≡ true
-  same-inside d [] h = refl
-  same-inside d (y ∷ ys) h =
-      and-intro
-      (implies-by (inLoop (n .points) d y) (same-at y)
-      (λ i. eq-eqb (loopCount n a y) (loopCount n b y) (h y (in-here y ys) i)))
-      (same-inside d ys (λ x k i. h x (in-later x y ys k) i))
+      insideSame n a b d xs ≡ everyIn (λ (x : ℕ). not (inLoop (n .points) d x) || same-at x) xs
+  inside-every d [] = refl
+  inside-every d (x ∷ xs) = ap (λ (t : Bool). (not (inLoop (n .points) d x) || same-at x) && t) (inside-every d xs)
 
-  better-each :
-      (ds : List ℕ) → betterFrom n a b ds ≡ true →
-      (d : ℕ) → isIn d ds ≡ true → same-in d ≡ true → loopCount n a d ≤ loopCount n b d
-  better-each [] e d h s = never h
-  better-each (y ∷ ys) e d h s =
-      let z = and-true (not (same-in y) || least-at y) (betterFrom n a b ys) e in
-      let here : same-in y ≡ true → loopCount n a y ≤ loopCount n b y =
-          λ i. leb-true (loopCount n a y) (loopCount n b y) (implied (same-in y) (least-at y) (z .0) i) in
-      ⊎-elim
-      (λ (q : d ≡ y). rw q (here (rw q at s)))
-      (λ (q : isIn d ys ≡ true). better-each ys (z .1) d q s)
-      (in-cons d y ys h)
+  better-every : (ds : List ℕ) → betterFrom n a b ds ≡ everyIn (λ (d : ℕ). not (same-in d) || least-at d) ds
+  better-every [] = refl
+  better-every (d ∷ ds) = ap (λ (t : Bool). (not (same-in d) || least-at d) && t) (better-every ds)
 
-  each-better :
-      (ds : List ℕ) → ((d : ℕ) → isIn d ds ≡ true → same-in d ≡ true → loopCount n a d ≤ loopCount n b d) →
-      betterFrom n a b ds ≡ true
-  each-better [] h = refl
-  each-better (y ∷ ys) h =
-      and-intro
-      (implies-by (same-in y) (least-at y) (λ s. le-leb (loopCount n a y) (loopCount n b y) (h y (in-here y ys) s)))
-      (each-better ys (λ d k s. h d (in-later d y ys k) s))
+module _ (n : Nest) (shape : isShape (n .points) ≡ true) (a b : List ℕ) (d : ℕ) where
+  same-in-is : same-in n a b d ≡ true → SameInside n a b d
+  same-in-is e x h i =
+      let test-of : ℕ → Bool = λ y. not (inLoop (n .points) d y) || same-at n a b y in
+      let z : test-of x ≡ true =
+          each-of test-of (loopsOf n) (rw (inside-every n a b d (loopsOf n)) at e) x (loop-listed n shape x h) in
+      eqb-true (loopCount n a x) (loopCount n b x) (implied (inLoop (n .points) d x) (same-at n a b x) z i)
+
+  same-in-by : SameInside n a b d → same-in n a b d ≡ true
+  same-in-by s =
+      rw (inside-every n a b d (loopsOf n))
+      (every-by (λ (y : ℕ). not (inLoop (n .points) d y) || same-at n a b y) (loopsOf n)
+      (λ x k. implies-by (inLoop (n .points) d x) (same-at n a b x)
+      (λ i. eq-eqb (loopCount n a x) (loopCount n b x) (s x (listed-loop n shape x k) i))))
 
 module _ (n : Nest) (shape : isShape (n .points) ≡ true) (a b : List ℕ) where
   -- 01, "Which placement is better", loop by loop, as a statement of every loop
@@ -90,15 +66,20 @@ module _ (n : Nest) (shape : isShape (n .points) ≡ true) (a b : List ℕ) wher
       asGood n a b ≡ true →
       (d : ℕ) → isDo (n .points) d ≡ true → SameInside n a b d → loopCount n a d ≤ loopCount n b d
   asGood-elim e d h s =
-      better-each n a b (loopsOf n) e d (loop-listed n shape d h)
-      (same-inside n a b d (loopsOf n) (λ x k i. s x (listed-loop n shape x k) i))
+      let better : (not (same-in n a b d) || least-at n a b d) ≡ true =
+          each-of (λ (x : ℕ). not (same-in n a b x) || least-at n a b x) (loopsOf n)
+          (rw (better-every n a b (loopsOf n)) at e) d (loop-listed n shape d h) in
+      leb-true (loopCount n a d) (loopCount n b d)
+      (implied (same-in n a b d) (least-at n a b d) better (same-in-by n shape a b d s))
 
   pub asGood-intro :
       ((d : ℕ) → isDo (n .points) d ≡ true → SameInside n a b d → loopCount n a d ≤ loopCount n b d) →
       asGood n a b ≡ true
   asGood-intro h =
-      each-better n a b (loopsOf n)
-      (λ d k s. h d (listed-loop n shape d k) (λ x q i. inside-same n a b d (loopsOf n) s x (loop-listed n shape x q) i))
+      rw (better-every n a b (loopsOf n))
+      (every-by (λ (x : ℕ). not (same-in n a b x) || least-at n a b x) (loopsOf n)
+      (λ d k. implies-by (same-in n a b d) (least-at n a b d)
+      (λ s. le-leb (loopCount n a d) (loopCount n b d) (h d (listed-loop n shape d k) (same-in-is n shape a b d s)))))
 
 module _ (n : Nest) (shape : isShape (n .points) ≡ true) where
   -- the order sees only the counts
