@@ -1,6 +1,6 @@
--- The starred cases of document 01, "Papers with known results", as one table of the definitions and one theorem over it.
--- That the placements named as keys are keys is the planner's theorem; here they are correct, have the counts that the paper
--- gives, and serve the marker.
+-- The starred cases of document 01, "Papers with known results": one table of the definitions and one theorem over it.
+-- That the placements named as keys are keys is the planner's theorem; here they are correct, have the counts that the
+-- paper gives, and serve the marker.
 -- Main statements: `worked-cases`, `tree-of-P`, `tree-of-Q`.
 use mathlib.Core.Path.{_≡_, refl}
 use mathlib.Core.Bool.{Bool, true, false, _&&_}
@@ -12,7 +12,8 @@ use Rattle.laws.specs.Choice.{pick}
 use Rattle.nests.specs.Nests.{Nest}
 use Rattle.nests.specs.Loops.{isDo}
 use Rattle.nests.specs.Valid.{isValid}
-use Rattle.nests.proofs.Cases.{forward, carried, paper-P, paper-Q, paper-R, paper-turn, paper-bare, paper-ring, sameList, share}
+use Rattle.nests.proofs.Cases.{forward, carried, paper-P, paper-Q, paper-R, paper-turn, paper-bare, paper-ring}
+use Rattle.nests.proofs.Cases.{sameList, share}
 use Rattle.placements.specs.Placements.{isCorrect, loopCount}
 use Rattle.placements.specs.Trees.{node, bare, beside, treeOf}
 use Rattle.placements.specs.Verdicts.{Verdict, Uncut, Dearer, Best, markOf}

@@ -37,7 +37,8 @@ end-listed n e l h =
     (gathered-in (isEnd ps) (ownerOf ps) (length ps) 0 e (omega arith) (omega arith) h)
 
 listed-end :
-    (n : Nest) (d : ℕ) → isIn d (loopsOf n) ≡ true → From (isEnd (n .points)) (ownerOf (n .points)) (length (n .points)) 0 d
+    (n : Nest) (d : ℕ) → isIn d (loopsOf n) ≡ true →
+    From (isEnd (n .points)) (ownerOf (n .points)) (length (n .points)) 0 d
 listed-end n d h =
     let ps = n .points in
     in-gathered (isEnd ps) (ownerOf ps) (length ps) 0 d (rw (loops-gathered (length ps) 0 ps) at h)

@@ -1,6 +1,6 @@
 -- The order loop by loop is the tree order of 001, definition 1.
 -- A tree is the loop's count over the trees of the loops directly inside it; each loop inside a loop is one of these or
--- inside one of these. So two trees are equal where all counts agree, and the order unrolls to a statement of every loop.
+-- inside one of these. So two trees are equal where all counts agree, and the order unrolls to a fact of every loop.
 -- Main statements: `tree-order`, `equal-trees`.
 use mathlib.Core.Path.{_≡_, refl, sym, ap, _∙_}
 use mathlib.Core.Bool.{Bool, true, false, _&&_, _||_, not}
@@ -153,28 +153,36 @@ module _ (n : Nest) (shape : isShape (n .points) ≡ true) (a b : List ℕ) wher
   Under C d = (y : ℕ) → isDo (n .points) y ≡ true → inLoop (n .points) d y ≡ true → C y
 
   module _ (h d : ℕ) (i : High (n .points) (suc h) d) where
-    same-under : ((x : ℕ) → High (n .points) h x → sameAt h x ≡ true → Within Same x) → sameUnder h d ≡ true → Under Same d
+    same-under :
+        ((x : ℕ) → High (n .points) h x → sameAt h x ≡ true → Within Same x) →
+        sameUnder h d ≡ true → Under Same d
     same-under r e =
         let z = rw (same-every (treeFrom h n a) (treeFrom h n b) (loopsRightIn (n .points) d)) at e in
         each-inside (n .points) shape d (i .0) Same
         (λ x k. r x (listed-lower (n .points) shape d (i .0) h (i .1) x k)
         (each-of (sameAt h) (loopsRightIn (n .points) d) z x k))
 
-    under-same : ((x : ℕ) → High (n .points) h x → Within Same x → sameAt h x ≡ true) → Under Same d → sameUnder h d ≡ true
+    under-same :
+        ((x : ℕ) → High (n .points) h x → Within Same x → sameAt h x ≡ true) →
+        Under Same d → sameUnder h d ≡ true
     under-same r s =
         rw (same-every (treeFrom h n a) (treeFrom h n b) (loopsRightIn (n .points) d))
         (every-by (sameAt h) (loopsRightIn (n .points) d)
         (λ x k. r x (listed-lower (n .points) shape d (i .0) h (i .1) x k)
         (inside-each (n .points) shape d (i .0) Same s x k)))
 
-    good-under : ((x : ℕ) → High (n .points) h x → goodAt h x ≡ true → Within Good x) → goodUnder h d ≡ true → Under Good d
+    good-under :
+        ((x : ℕ) → High (n .points) h x → goodAt h x ≡ true → Within Good x) →
+        goodUnder h d ≡ true → Under Good d
     good-under r e =
         let z = rw (good-every (treeFrom h n a) (treeFrom h n b) (loopsRightIn (n .points) d)) at e in
         each-inside (n .points) shape d (i .0) Good
         (λ x k. r x (listed-lower (n .points) shape d (i .0) h (i .1) x k)
         (each-of (goodAt h) (loopsRightIn (n .points) d) z x k))
 
-    under-good : ((x : ℕ) → High (n .points) h x → Within Good x → goodAt h x ≡ true) → Under Good d → goodUnder h d ≡ true
+    under-good :
+        ((x : ℕ) → High (n .points) h x → Within Good x → goodAt h x ≡ true) →
+        Under Good d → goodUnder h d ≡ true
     under-good r s =
         rw (good-every (treeFrom h n a) (treeFrom h n b) (loopsRightIn (n .points) d))
         (every-by (goodAt h) (loopsRightIn (n .points) d)
