@@ -17,6 +17,7 @@ pub fn self_check() -> bool {
         checks.that(&format!("{wanted:?} for {}", shown(&text)), read_nest(&text).err() == wanted);
     }
     check_cases(&mut checks);
+    check_explained(&mut checks);
     check_wrong_answers(&mut checks);
     (0..400).for_each(|case| check_random(&mut checks, &mut Random::new(7, case)));
     finish(checks.passed, checks.failed)
@@ -47,6 +48,33 @@ fn check_cases(checks: &mut Checks) {
     checks.that("case 13, gap 13", read_placement(14, b"210d\n") == Ok(vec![13]));
     checks.that("case 13, gap 14", read_placement(14, b"210e\n") == Err(Refusal { number: 8, line: 1 }));
     checks.that("gaps must rise", read_placement(14, b"2105\n2105\n") == Err(Refusal { number: 8, line: 2 }));
+}
+
+/// What docs/WHY.md says of Q, P, R and the nest where two barriers beat one.
+fn check_explained(checks: &mut Checks) {
+    let nest = |text: &str| read_nest(&words(text)).unwrap();
+    let around = |nest: &Nest, gap: usize| nest.loops().iter().filter(|&&d| d < gap && gap <= nest.end[d]).count();
+    let calls = |nest: &Nest, gap: usize| 10usize.pow(around(nest, gap) as u32);
+    let dearer = |of, theirs, ours| Mark::Dearer { of, theirs, ours };
+    let (p, q, r, s) = (nest(P), nest(Q), nest(R), nest("01 03 01 03 03 03 02 03 02 110104 110307"));
+    let pairs: Vec<Vec<usize>> = correct_placements(&q).into_iter().map(gap_list).filter(|p| p.len() < 3).collect();
+    let table = [(2, 6, [1, 0, 1]), (3, 6, [0, 1, 1]), (4, 7, [0, 1, 1]),
+        (4, 5, [0, 0, 2]), (4, 6, [0, 0, 2]), (5, 6, [0, 0, 2])];
+    checks.that("Q has these pairs and no single barrier", pairs.len() == table.len());
+    for (a, b, [zero, two, three]) in &table {
+        let counts = q.counts(&[*a, *b]);
+        checks.that(&format!("Q with {a}, {b}: correct"), pairs.contains(&vec![*a, *b]));
+        checks.that(&format!("Q with {a}, {b}: counts"), [counts[0], counts[2], counts[3]] == [*zero, *two, *three]);
+        let wanted = if *three == 2 { dearer(3, 2, 1) } else if *two == 1 { dearer(2, 1, 0) } else { Mark::Best };
+        checks.that(&format!("Q with {a}, {b}: mark"), mark(&q, &[2, 6], &[*a, *b]) == wanted);
+    }
+    checks.that("calls in Q", [2, 7, 4, 6].map(|g| calls(&q, g)) == [10, 100, 1000, 1000]);
+    checks.that("two beat one", search(&s) == [[2, 7]] && mark(&s, &[2, 7], &[4]) == dearer(2, 1, 0));
+    checks.that("calls there", [2, 7, 4].map(|g| calls(&s, g)) == [10, 10, 100]);
+    checks.that("P with 5, 9", mark(&p, &[5, 11], &[5, 9]) == Mark::Uncut(4));
+    let costs = [[4, 5, 11], [5, 10, 11]].map(|gaps| tree(&p, 0, &p.counts(&gaps)));
+    checks.that("neither as good as the other", !as_good(&costs[0], &costs[1]) && !as_good(&costs[1], &costs[0]));
+    checks.that("R's keys", search(&r) == [[1, 4], [2, 4], [2, 5], [2, 6], [3, 6], [4, 6], [4, 7]]);
 }
 
 /// Each wrong answer must be noticed, and the right one beside it admitted.
