@@ -1,3 +1,4 @@
 -- Choices between values that every other definition uses.
 pub mod Choice
 pub mod Members
+pub mod Bits

@@ -13,12 +13,16 @@ use borrow.Author.Tests.{ltb-true, eqb-true}
 use Rattle.laws.specs.Choice.{pick}
 use Rattle.laws.proofs.Tests.{never, le-or, and-true}
 use Rattle.nests.specs.Kinds.{DO, ENDDO, STATEMENT, DEPTH}
-use Rattle.nests.specs.Loops.{isDo, isEnd, deeper, depthFrom}
+use Rattle.nests.specs.Loops.{isDo, isEnd, deeper, depthFrom, depth}
 use Rattle.nests.specs.Valid.{closes, isShape}
 
 -- the depth after the first i points
 unfoldable pub lev : List ℕ → ℕ → ℕ
 lev ps i = depthFrom 0 (take i ps)
+
+pub lev-depth : (ps : List ℕ) (i : ℕ) → lev ps i ≡ depth (take i ps)
+unfolding lev
+lev-depth ps i = refl
 
 -- one point more, from any depth
 depth-step : (d : ℕ) (ps : List ℕ) (i : ℕ) →

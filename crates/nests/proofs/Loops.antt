@@ -1,7 +1,7 @@
 -- Loops by levels: a loop's ENDDO is where the level first falls back to the level of its DO; a gap belongs to the last
 -- point before it with a lower level. From here on nothing unfolds `endOf` or `ownerFrom`.
--- Main statements: `do-has-end`, `range-above`, `range-back`, `end-is`, `owner-among`, `nested`, `nested-or-disjoint`,
--- `end-has-do`, `owner-of-end`, `outermost`.
+-- Main statements: `end-after`, `end-there`, `end-is-end`, `range-above`, `range-back`, `end-is`, `outermost`, `nested`,
+-- `nested-or-disjoint`, `owner-law`, `owner-inside`, `owner-lower`, `end-has-do`, `owner-of-end`.
 use mathlib.Core.Path.{_≡_, refl, ap}
 use mathlib.Core.Bool.{Bool, true, false, _&&_}
 use mathlib.Core.List.{List}
@@ -316,6 +316,13 @@ module _ (ps : List ℕ) (shape : isShape ps ≡ true) where
 
   pub owner-holds : (g : ℕ) → 0 < g → g < length ps → g ≤ endOf ps (ownerOf ps g)
   owner-holds g a b = owner-law g a b .holds
+
+  -- the DO of an ENDDO
+  pub end-owner-is-do : (e : ℕ) → isEnd ps e ≡ true → isDo ps (ownerOf ps e) ≡ true
+  end-owner-is-do e h = owner-is-do e (end-not-first ps shape e h) (point-in ps e 1 h)
+
+  pub end-owner-before : (e : ℕ) → isEnd ps e ≡ true → ownerOf ps e < e
+  end-owner-before e h = owner-below e (end-not-first ps shape e h) (point-in ps e 1 h)
 
   -- any loop whose range holds g is the gap's loop or lies around it
   pub owner-inside : (d g : ℕ) → isDo ps d ≡ true → d < g → g ≤ endOf ps d → d ≤ ownerOf ps g

@@ -5,3 +5,4 @@ pub mod Loops
 pub mod Gaps
 pub mod Ring
 pub mod Valid
+pub mod Stored

@@ -1,1 +1,242 @@
-// Nests.
+// Nests: their points and dependences by value, and the tests of a dependence.
+ghost use mathlib.Core.Path.{_≡_};
+ghost use mathlib.Core.Bool.{true};
+ghost use Prim.Native.Nat.{ℕ, _+_, _^_, _<_, _≤_};
+ghost use lib.ListN.{length, getD};
+ghost use Rattle.nests.specs.Kinds.{POINTS, DEPENDENCES};
+ghost use Rattle.nests.specs.Loops.{deeper, endOf, ownerOf, isDo};
+ghost use Rattle.nests.specs.Valid.{isShape, isSource, isTarget, depFault};
+ghost use Rattle.nests.specs.Stored.{depIn, IsCounted, IsEmpty, PointAdded, DependenceAdded};
+
+// The kinds of points.
+pub const DO: u8 = 1;
+
+pub const ENDDO: u8 = 2;
+
+pub const STATEMENT: u8 = 3;
+
+// The kinds of dependences.
+pub const INDEPENDENT: u8 = 17;
+
+pub const CARRIED: u8 = 18;
+
+// A dependence from point s to point t, independent or carried by the loop of DO d.
+pub struct Dependence {
+    pub kind: u8,
+    pub d: u8,
+    pub s: u8,
+    pub t: u8,
+}
+
+// A nest: the first `count` points and the first `many` dependences.
+pub struct Nest {
+    pub count: usize,
+    pub points: [u8; Nest::POINTS],
+    pub many: usize,
+    pub deps: [Dependence; Nest::DEPENDENCES],
+}
+
+impl Nest {
+    pub const POINTS: usize = 256;
+
+    pub const DEPTH: usize = 8;
+
+    pub const DEPENDENCES: usize = 512;
+
+    // A nest with no point.
+    pub fn empty() -> Nest
+        ensures { λ r. ⌜ IsEmpty r ⌝ }
+    {
+        Nest {
+            count: 0,
+            points: [0; Nest::POINTS],
+            many: 0,
+            deps: [Dependence {
+                kind: 0,
+                d: 0,
+                s: 0,
+                t: 0,
+            }; Nest::DEPENDENCES],
+        }
+    }
+
+    // The nest with one point more.
+    pub fn with_point(self, kind: u8) -> Nest
+        requires { ⌜ IsCounted self ⌝ }
+        requires { ⌜ self .count < POINTS ⌝ }
+        ensures { λ r. ⌜ PointAdded self kind r ⌝ }
+    {
+        let mut n = self;
+        let at = n.count;
+        n.points[at] = kind;
+        n.count = at + 1;
+        n
+    }
+
+    // The nest with one dependence more.
+    pub fn with_dependence(self, e: Dependence) -> Nest
+        requires { ⌜ IsCounted self ⌝ }
+        requires { ⌜ self .many < DEPENDENCES ⌝ }
+        ensures { λ r. ⌜ DependenceAdded self e r ⌝ }
+    {
+        let mut n = self;
+        let at = n.many;
+        n.deps[at] = e;
+        n.many = at + 1;
+        n
+    }
+}
+
+// The depth after one more point.
+pub fn deeper(depth: usize, kind: u8) -> usize
+    requires { ⌜ depth + 1 < 2 ^ 64 ⌝ }
+    ensures { λ r. ⌜ r ≡ deeper depth kind ⌝ }
+{
+    if kind == DO {
+        return depth + 1;
+    }
+    if kind == ENDDO {
+        if 0 < depth {
+            return depth - 1;
+        }
+        return 0;
+    }
+    depth
+}
+
+// The point of the ENDDO of the loop whose DO is d.
+pub fn end_of(points: &[u8], d: usize) -> usize
+    ensures { λ r. ⌜ r ≡ endOf (now (points .entry)) d ⌝ }
+{
+    let mut depth: usize = 0;
+    let mut i = d;
+    while i < points.len() {
+        let p = points[i];
+        if p == ENDDO {
+            if depth == 1 {
+                return i;
+            }
+        }
+        depth = deeper(depth, p);
+        i += 1;
+    }
+    i
+}
+
+// The ENDDO of every DO, by the DO's point.
+pub fn ends_of(points: &[u8]) -> [usize; Nest::POINTS]
+    requires { ⌜ length (now points) ≤ POINTS ⌝ }
+    ensures { λ r. ⌜ ((d : ℕ) → isDo (now (points .entry)) d ≡ true → getD r d 0 ≡ endOf (now (points .entry)) d) ⌝ }
+{
+    let mut ends = [0; Nest::POINTS];
+    let mut d = 0;
+    while d < points.len() {
+        if points[d] == DO {
+            ends[d] = end_of(points, d);
+            d += 1;
+        } else {
+            d += 1;
+        }
+    }
+    ends
+}
+
+// The loop that gap g belongs to.
+pub fn loop_of(points: &[u8], g: usize) -> usize
+    requires { ⌜ isShape (now points) ≡ true ⌝ }
+    requires { ⌜ (0 < g) × (g < length (now points)) ⌝ }
+    ensures { λ r. ⌜ r ≡ ownerOf (now (points .entry)) g ⌝ }
+{
+    let mut depth: usize = 0;
+    let mut i = g;
+    while 0 < i {
+        let p = points[i - 1];
+        if p == DO {
+            if depth == 0 {
+                return i - 1;
+            }
+            depth -= 1;
+            i -= 1;
+        } else if p == ENDDO {
+            depth += 1;
+            i -= 1;
+        } else {
+            i -= 1;
+        }
+    }
+    0
+}
+
+// The point is a DO.
+pub fn is_do(points: &[u8], i: usize) -> bool
+    ensures { λ r. ⌜ r ≡ isDo (now (points .entry)) i ⌝ }
+{
+    if i < points.len() {
+        return points[i] == DO;
+    }
+    false
+}
+
+// The point may be the source of a dependence: a statement or a DO.
+pub fn is_source(points: &[u8], s: usize) -> bool
+    ensures { λ r. ⌜ r ≡ isSource (now (points .entry)) s ⌝ }
+{
+    if s < points.len() {
+        let p = points[s];
+        if p == STATEMENT {
+            return true;
+        }
+        return p == DO;
+    }
+    false
+}
+
+// The point may be the target of a dependence: a statement or an ENDDO.
+pub fn is_target(points: &[u8], t: usize) -> bool
+    ensures { λ r. ⌜ r ≡ isTarget (now (points .entry)) t ⌝ }
+{
+    if t < points.len() {
+        let p = points[t];
+        if p == STATEMENT {
+            return true;
+        }
+        return p == ENDDO;
+    }
+    false
+}
+
+// The refusal of a dependence, 6 or 7, or 0 for none.
+pub fn dep_fault(points: &[u8], e: Dependence) -> u8
+    ensures { λ r. ⌜ r ≡ depFault (now (points .entry)) (depIn e) ⌝ }
+{
+    let s = e.s as usize;
+    let t = e.t as usize;
+    let d = e.d as usize;
+    let source = is_source(points, s);
+    if source {
+        let target = is_target(points, t);
+        if target {
+            if e.kind == CARRIED {
+                let starts = is_do(points, d);
+                if starts {
+                    if s < t {
+                        return 7;
+                    }
+                    let end = end_of(points, d);
+                    if d < t {
+                        if s < end {
+                            return 0;
+                        }
+                    }
+                    return 7;
+                }
+                return 6;
+            }
+            if s < t {
+                return 0;
+            }
+            return 7;
+        }
+    }
+    6
+}

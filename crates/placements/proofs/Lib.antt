@@ -8,3 +8,6 @@ pub mod Keys
 pub mod Verdicts
 pub mod Cases
 pub mod Planners
+pub mod Words
+pub mod Rising
+pub mod Lowest

@@ -1,5 +1,6 @@
 -- The planner's theorem, from the bottom to the top: the nest and the claim; walks; what a table's row says; what every
--- settled placement owes (Exchange, Bounds); what is laid (Ring, Attained); computed tables; the theorem.
+-- settled placement owes (Exchange, Bounds); what is laid (Ring, Attained); computed tables; the theorem;
+-- and the same of a nest's own points and dependences (Instance, Cuts, NestKey).
 pub mod World
 pub mod Counts
 pub mod Claim
@@ -21,3 +22,4 @@ pub mod Theorem
 pub mod Papers
 pub mod Instance
 pub mod Cuts
+pub mod NestKey

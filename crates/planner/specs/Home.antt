@@ -1,5 +1,6 @@
 -- The dependences of a nest, by the loop that has to cut them.
--- Main definitions: `homeOf`, `reachOf`, `limitOf`, `hasAt`; and the nest as the sweeps see it, `loopsIn`, `linesIn`.
+-- Main definitions: `homeOf`, `reachOf`, `limitOf`, `hasAt`; the nest as the sweeps see it, `loopsIn` and `linesIn`;
+-- `keyIn`.
 use mathlib.Core.Bool.{Bool, false, _&&_, _||_, not}
 use mathlib.Core.List.{List, [], _∷_}
 use Prim.Native.Nat.{ℕ, suc, min}
@@ -10,6 +11,7 @@ use Rattle.nests.specs.Kinds.{INDEPENDENT}
 use Rattle.nests.specs.Nests.{Dep}
 use Rattle.nests.specs.Loops.{isDo, isEnd, endOf, ownerFrom, ownerOf}
 use Rattle.planner.specs.Sweep.{Loops, Lines}
+use Rattle.planner.specs.Plan.{keyOf}
 
 -- the innermost loop whose range holds all the gaps of a dependence
 abbrev pub homeOf : List ℕ → Dep → ℕ
@@ -49,3 +51,7 @@ loopsIn ps = record { isDo = isDo ps; isEnd = isEnd ps; stop = endOf ps; own = o
 
 abbrev pub linesIn : List ℕ → List Dep → Lines
 linesIn ps ds = record { has = hasAt ps ds; reach = reachOf ps ds; limit = limitOf ps ds }
+
+-- the key of a nest
+unfoldable pub keyIn : List ℕ → List Dep → ℕ → Bool
+keyIn ps ds = keyOf (loopsIn ps) (linesIn ps ds) (length ps)

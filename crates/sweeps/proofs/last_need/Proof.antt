@@ -1,45 +1,53 @@
+use mathlib.Core.Path.{_≡_, refl, sym, _∙_}
+use Prim.Native.Nat.{ℕ, _≤_}
+use native.Mathlib.Omega.{arith}
+use borrow.Author.Needs.{needs}
+use Rattle.planner.specs.Sweep.{seek}
+use Rattle.sweeps.specs.Listed.{at}
+use Rattle.sweeps.proofs.Seek.{seek-here, seek-on, seek-none}
 use Rattle.sweeps.proofs.last_need.Statement.{statement}
 use Rattle.sweeps.proofs.last_need.Tie as tie
 use Rattle.sweeps.proofs.last_need.Reads as reads
 use Rattle.sweeps.proofs.last_need.Lts as lts
 
 abbrev Inv-loop : tie.InvT-loop
-Inv-loop need f low p a₀ a = ?
+Inv-loop need f low p a₀ a = (a ≤ p) × (seek (at need) f low a ≡ seek (at need) f low p)
 
 abbrev μ-loop : tie.MeasureT-loop
-μ-loop need f low p a₀ a = ?
+μ-loop need f low p a₀ a = a
 
--- src/lib.rt:21:5
 loop-holds : tie.Need-loop-holds Inv-loop μ-loop
-loop-holds c = ?
+loop-holds c = (search needs, refl)
 
--- src/lib.rt:22:12
 mul-if1 : tie.Need-mul-if1 Inv-loop μ-loop
-mul-if1 c = ?
+mul-if1 c = search needs
 
--- src/lib.rt:22:12
 shared-slice-read-if1 : tie.Need-shared-slice-read-if1 Inv-loop μ-loop
-shared-slice-read-if1 c = ?
+shared-slice-read-if1 c = search needs
 
--- src/lib.rt:23:13
 returns : tie.Need-returns Inv-loop μ-loop
-returns c = ?
+returns c =
+    let i = c .before .before .before .before .args in
+    let l = c .before .before .before .loop in
+    sym (seek-here (at (i .need .now)) (i .f) (i .low) (l .a) (omega arith) (c .if1 .taken)) ∙ l .inv .1
 
--- src/lib.rt:25:9
 sub-a : tie.Need-sub-a Inv-loop μ-loop
-sub-a c = ?
+sub-a c = search needs
 
--- src/lib.rt:21:5
 loop-less : tie.Need-loop-less Inv-loop μ-loop
-loop-less c = ?
+loop-less c = search needs
 
--- src/lib.rt:21:5
 loop-again : tie.Need-loop-again Inv-loop μ-loop
-loop-again c = ?
+loop-again c =
+    let i = c .before .before .before .before .args in
+    let l = c .before .before .before .loop in
+    (omega arith, seek-on (at (i .need .now)) (i .f) (i .low) (l .a) (omega arith) (c .if1 .left) ∙ l .inv .1)
 
--- src/lib.rt:16:1
 returns-2 : tie.Need-returns-2 Inv-loop μ-loop
-returns-2 c = ?
+returns-2 c =
+    let i = c .before .before .args in
+    let l = c .before .loop in
+    sym (seek-none (at (i .need .now)) (i .f) (i .low) (l .a) (omega arith)) ∙ l .inv .1
 
 pub last-need-spec : {M : Type 1} → statement M
 last-need-spec =

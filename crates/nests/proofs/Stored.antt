@@ -1,0 +1,95 @@
+-- Laws of the nest as the code stores it: what one more point or dependence makes of it, and its dependences one by one.
+-- Main statements: `point-added`, `dependence-added`, `depsIn-length`, `depsIn-at`.
+use mathlib.Core.Path.{_≡_, refl, sym, ap, _∙_}
+use mathlib.Core.List.{List, [], _∷_, _++_}
+use Prim.Native.Nat.{ℕ, zero, suc, _+_, _≤_, _<_}
+use native.Mathlib.Numerals.{add-one}
+use native.Mathlib.Omega.{arith}
+use lib.ListN.{length, take, drop, set, getD, length-append, length-take}
+use lib.Seq.{take-suc-set, length-take-le}
+use Rattle.nests.specs.declared.Dependence as DE
+use Rattle.nests.specs.declared.Nest as DN
+use Rattle.nests.specs.Kinds.{POINTS, DEPENDENCES}
+use Rattle.nests.specs.Nests.{Dep, Nest, nest}
+use Rattle.nests.specs.Stored.{depIn, depsIn, nestIn, IsCounted, PointAdded, DependenceAdded}
+
+-- the first dependences are as many as asked
+pub depsIn-length : (n : ℕ) (xs : List DE.Dependence) → n ≤ length xs → length (depsIn n xs) ≡ n
+depsIn-length zero xs h = refl
+depsIn-length (suc n) [] h = absurd (omega arith)
+depsIn-length (suc n) (x ∷ xs) h = ap suc (depsIn-length n xs (omega arith))
+
+-- a dependence put right after the first n
+pub depsIn-more
+    : (n : ℕ) (xs : List DE.Dependence) (e : DE.Dependence)
+    → n < length xs
+    → depsIn (suc n) (set xs n e) ≡ depsIn n xs ++ (depIn e ∷ [])
+depsIn-more zero [] e h = absurd (omega arith)
+depsIn-more zero (x ∷ xs) e h = refl
+depsIn-more (suc n) [] e h = absurd (omega arith)
+depsIn-more (suc n) (x ∷ xs) e h = ap (λ (l : List Dep). depIn x ∷ l) (depsIn-more n xs e (omega arith))
+
+-- the dependence at i stands in front of the rest
+pub depsIn-at
+    : (n : ℕ) (xs : List DE.Dependence) (i : ℕ) (z : DE.Dependence)
+    → i < n
+    → n ≤ length xs
+    → drop i (depsIn n xs) ≡ depIn (getD xs i z) ∷ drop (suc i) (depsIn n xs)
+depsIn-at zero xs i z h k = absurd (omega arith)
+depsIn-at (suc n) [] i z h k = absurd (omega arith)
+depsIn-at (suc n) (x ∷ xs) zero z h k = refl
+depsIn-at (suc n) (x ∷ xs) (suc i) z h k = depsIn-at n xs i z (omega arith) (omega arith)
+
+module _ (n : DN.Nest) (p : IsCounted n) where
+  abbrev pub with-point : ℕ → DN.Nest
+  with-point k = record { count = n .count + 1; points = set (n .points) (n .count) k; many = n .many; deps = n .deps }
+
+  pub point-added : (k : ℕ) → n .count < POINTS → length (n .points) ≡ POINTS → PointAdded n k (with-point k)
+  point-added k h e =
+      let pts : take (n .count + 1) (set (n .points) (n .count) k) ≡ take (n .count) (n .points) ++ (k ∷ []) =
+      rw add-one (take-suc-set (n .points) (n .count) k (omega arith)) in
+      record {
+        nest-is = ap (λ (l : List ℕ). nest l (nestIn n .deps)) pts;
+        one-more = refl;
+        same-many = refl;
+        counted =
+            record {
+              count-is =
+                  rw
+                  pts
+                  (omega
+                  (arith, length-append (take (n .count) (n .points)) (k ∷ []), length-take-le (n .count) (n .points) (omega arith)));
+              count-fits = omega arith;
+              many-is = p .many-is;
+              many-fits = p .many-fits;
+            };
+      }
+
+  abbrev pub with-dependence : DE.Dependence → DN.Nest
+  with-dependence e =
+      record { count = n .count; points = n .points; many = n .many + 1; deps = set (n .deps) (n .many) e }
+
+  pub dependence-added
+      : (e : DE.Dependence)
+      → n .many < DEPENDENCES
+      → length (n .deps) ≡ DEPENDENCES
+      → DependenceAdded n e (with-dependence e)
+  dependence-added e h l =
+      let ds : depsIn (n .many + 1) (set (n .deps) (n .many) e) ≡ depsIn (n .many) (n .deps) ++ (depIn e ∷ []) =
+      rw add-one (depsIn-more (n .many) (n .deps) e (omega arith)) in
+      record {
+        nest-is = ap (λ (es : List Dep). nest (nestIn n .points) es) ds;
+        same-count = refl;
+        one-more = refl;
+        counted =
+            record {
+              count-is = p .count-is;
+              count-fits = p .count-fits;
+              many-is =
+                  rw
+                  ds
+                  (omega
+                  (arith, length-append (depsIn (n .many) (n .deps)) (depIn e ∷ []), depsIn-length (n .many) (n .deps) (omega arith)));
+              many-fits = omega arith;
+            };
+      }
