@@ -6,6 +6,5 @@ pub mod LoopOrder
 pub mod TreeOrder
 pub mod Keys
 pub mod Verdicts
-pub mod Papers
 pub mod Cases
 pub mod Planners
