@@ -1,4 +1,7 @@
 -- Laws of placements.
+pub mod Words
+pub mod Rising
+pub mod Lowest
 pub mod Cuts
 pub mod Inside
 pub mod LoopLists
