@@ -23,3 +23,4 @@ pub mod Papers
 pub mod Instance
 pub mod Cuts
 pub mod NestKey
+pub mod FirstExchange
