@@ -24,3 +24,5 @@ pub mod Instance
 pub mod Cuts
 pub mod NestKey
 pub mod FirstExchange
+pub mod FirstPlaces
+pub mod FirstSweep
