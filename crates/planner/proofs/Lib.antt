@@ -26,3 +26,5 @@ pub mod NestKey
 pub mod FirstExchange
 pub mod FirstPlaces
 pub mod FirstSweep
+pub mod FirstChoice
+pub mod FirstLoop
