@@ -28,3 +28,4 @@ pub mod FirstPlaces
 pub mod FirstSweep
 pub mod FirstChoice
 pub mod FirstLoop
+pub mod KeyFirst
