@@ -43,6 +43,15 @@ paper-turn = nest (1 ∷ 3 ∷ 2 ∷ []) (carried 0 1 1 ∷ [])
 abbrev pub paper-bare : Nest
 paper-bare = nest (1 ∷ 2 ∷ []) []
 
+-- 01 03 02 with 110102, 12000101: the smallest ring on which cutting at the first interval end and going on greedily takes
+-- one barrier too many
+abbrev pub paper-ring : Nest
+paper-ring = nest (1 ∷ 3 ∷ 2 ∷ []) (forward 1 2 ∷ carried 0 1 1 ∷ [])
+
+-- 01 01 03 02 02 with 12010202: one barrier inside is enough
+abbrev pub paper-inner : Nest
+paper-inner = nest (1 ∷ 1 ∷ 3 ∷ 2 ∷ 2 ∷ []) (carried 1 2 2 ∷ [])
+
 -- numbers listed for each number below a bound, and compared
 abbrev pub sameList : List ℕ → List ℕ → Bool
 sameList [] [] = true

@@ -14,11 +14,11 @@ use Rattle.laws.proofs.Tests.{never, never-both, and-true}
 use Rattle.laws.proofs.Members.{every-below}
 use Rattle.nests.specs.Nests.{Nest}
 use Rattle.nests.specs.Valid.{isValid}
+use Rattle.nests.proofs.Cases.{paper-P, paper-Q, paper-R, paper-turn, paper-bare, paper-ring, paper-inner}
 use Rattle.placements.specs.Placements.{areGapsFrom, isCorrect, asGood}
 use Rattle.placements.specs.Keys.{IsKey}
 use Rattle.placements.proofs.Cuts.{correct-gaps}
 use Rattle.placements.proofs.Keys.{by-loops}
-use Rattle.placements.proofs.Papers.{paper-P, paper-Q, paper-R, paper-turn, paper-bare, paper-ring, paper-inner}
 
 -- a planner keeps demand 3 where it names a key of every paper
 abbrev pub Plans : (Nest → List ℕ) → Type 0

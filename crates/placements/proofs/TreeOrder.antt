@@ -64,7 +64,7 @@ right-in-listed ps d x h =
 listed-right-in : (ps : List ℕ) (d x : ℕ) → isIn x (loopsRightIn ps d) ≡ true → isRightIn ps d x ≡ true
 listed-right-in ps d x h =
     let r : From (isRightIn ps d) (λ i. i) (length ps) 0 x =
-        in-gathered (isRightIn ps d) (λ i. i) (length ps) 0 x (rw (right-in-gathered (length ps) 0 ps d) at h) in
+    in-gathered (isRightIn ps d) (λ i. i) (length ps) 0 x (rw (right-in-gathered (length ps) 0 ps d) at h) in
     rw (← r .is) (r .passed)
 
 -- forests over one list are compared tree by tree
@@ -148,8 +148,8 @@ module _ (n : Nest) (shape : isShape (n .points) ≡ true) (a b : List ℕ) wher
       let ps = n .points in
       let z = and-true (eqb (loopCount n a d) (loopCount n b d)) (sameForest (forest h a d) (forest h b d)) e in
       let down : (x : ℕ) → isIn x (loopsRightIn ps d) ≡ true → (y : ℕ) → In ps x y → Same y =
-          λ x k. same-down h x (listed-loop ps shape d i x k) (listed-lower ps shape d i h l x k)
-              (same-each (treeFrom h n a) (treeFrom h n b) (loopsRightIn ps d) (z .1) x k) in
+      λ x k. same-down h x (listed-loop ps shape d i x k) (listed-lower ps shape d i h l x k)
+      (same-each (treeFrom h n a) (treeFrom h n b) (loopsRightIn ps d) (z .1) x k) in
       λ y m. ⊎-elim
       (λ (q : y ≡ d). rw q (eqb-true (loopCount n a d) (loopCount n b d) (z .0)))
       (λ (q : inLoop ps d y ≡ true). each-inside ps shape d i Same down y (m .0) q)
@@ -165,7 +165,7 @@ module _ (n : Nest) (shape : isShape (n .points) ≡ true) (a b : List ℕ) wher
       (eq-eqb (loopCount n a d) (loopCount n b d) (s d (i, inl refl)))
       (each-same (treeFrom h n a) (treeFrom h n b) (loopsRightIn ps d)
       (λ x k. same-up h x (listed-loop ps shape d i x k) (listed-lower ps shape d i h l x k)
-          (inside-each ps shape d i Same (λ y m q. s y (m, inr q)) x k)))
+      (inside-each ps shape d i Same (λ y m q. s y (m, inr q)) x k)))
 
   -- equal forests right under d: the same counts inside d
   forest-down :
@@ -175,7 +175,7 @@ module _ (n : Nest) (shape : isShape (n .points) ≡ true) (a b : List ℕ) wher
       let ps = n .points in
       each-inside ps shape d i Same
       (λ x k. same-down h x (listed-loop ps shape d i x k) (listed-lower ps shape d i h l x k)
-          (same-each (treeFrom h n a) (treeFrom h n b) (loopsRightIn ps d) e x k))
+      (same-each (treeFrom h n a) (treeFrom h n b) (loopsRightIn ps d) e x k))
 
   forest-up :
       (h d : ℕ) → isDo (n .points) d ≡ true → endOf (n .points) d ≤ d + suc h →
@@ -195,8 +195,8 @@ module _ (n : Nest) (shape : isShape (n .points) ≡ true) (a b : List ℕ) wher
       let root = not (sameForest (forest h a d) (forest h b d)) || leb (loopCount n a d) (loopCount n b d) in
       let z = and-true (asGoodForest (forest h a d) (forest h b d)) root e in
       let down : (x : ℕ) → isIn x (loopsRightIn ps d) ≡ true → (y : ℕ) → In ps x y → Good y =
-          λ x k. good-down h x (listed-loop ps shape d i x k) (listed-lower ps shape d i h l x k)
-              (good-each (treeFrom h n a) (treeFrom h n b) (loopsRightIn ps d) (z .0) x k) in
+      λ x k. good-down h x (listed-loop ps shape d i x k) (listed-lower ps shape d i h l x k)
+      (good-each (treeFrom h n a) (treeFrom h n b) (loopsRightIn ps d) (z .0) x k) in
       λ y m. ⊎-elim
       (λ (q : y ≡ d). rw q (at-root (z .1)))
       (λ (q : inLoop ps d y ≡ true). each-inside ps shape d i Good down y (m .0) q)
@@ -206,7 +206,7 @@ module _ (n : Nest) (shape : isShape (n .points) ≡ true) (a b : List ℕ) wher
           (not (sameForest (forest h a d) (forest h b d)) || leb (loopCount n a d) (loopCount n b d)) ≡ true → Good d
       at-root t s = ⊎-elim
           (λ (q : not (sameForest (forest h a d) (forest h b d)) ≡ true).
-              never-both (forest-up h d i l s) (not-true (sameForest (forest h a d) (forest h b d)) q))
+          never-both (forest-up h d i l s) (not-true (sameForest (forest h a d) (forest h b d)) q))
           (λ (q : leb (loopCount n a d) (loopCount n b d) ≡ true). leb-true (loopCount n a d) (loopCount n b d) q)
           (or-true (not (sameForest (forest h a d) (forest h b d))) (leb (loopCount n a d) (loopCount n b d)) t)
 
@@ -219,14 +219,14 @@ module _ (n : Nest) (shape : isShape (n .points) ≡ true) (a b : List ℕ) wher
       and-intro
       (each-good (treeFrom h n a) (treeFrom h n b) (loopsRightIn ps d)
       (λ x k. good-up h x (listed-loop ps shape d i x k) (listed-lower ps shape d i h l x k)
-          (inside-each ps shape d i Good (λ y m q. s y (m, inr q)) x k)))
+      (inside-each ps shape d i Good (λ y m q. s y (m, inr q)) x k)))
       at-root
     where
       at-root : (not (sameForest (forest h a d) (forest h b d)) || leb (loopCount n a d) (loopCount n b d)) ≡ true
       at-root = ⊎-elim
           (λ (q : sameForest (forest h a d) (forest h b d) ≡ true).
-              or-right (not (sameForest (forest h a d) (forest h b d)))
-              (le-leb (loopCount n a d) (loopCount n b d) (s d (i, inl refl) (forest-down h d i l q))))
+          or-right (not (sameForest (forest h a d) (forest h b d)))
+          (le-leb (loopCount n a d) (loopCount n b d) (s d (i, inl refl) (forest-down h d i l q))))
           (λ (q : sameForest (forest h a d) (forest h b d) ≡ false). or-left (leb (loopCount n a d) (loopCount n b d)) (not-by q))
           (test (sameForest (forest h a d) (forest h b d)))
 
@@ -237,15 +237,17 @@ module _ (n : Nest) (shape : isShape (n .points) ≡ true) (a b : List ℕ) wher
   -- 001, definition 1, is the order loop by loop
   pub tree-order : (asGood n a b ≡ true) ↔ (asGoodTree (treeOf n a) (treeOf n b) ≡ true)
   tree-order =
-      let first = starts-with-do (n .points) shape in
-      (λ e. good-up (length (n .points)) 0 first outer-end (λ y m. asGood-elim n shape a b e y (m .0)),
-      λ e. asGood-intro n shape a b (λ d h.
-          good-down (length (n .points)) 0 first outer-end e d (h, inside-outermost (n .points) shape d h)))
+      let first = starts-with-do (n .points) shape in (
+        λ e. good-up (length (n .points)) 0 first outer-end (λ y m. asGood-elim n shape a b e y (m .0)),
+        λ e. asGood-intro n shape a b (λ d h.
+            good-down (length (n .points)) 0 first outer-end e d (h, inside-outermost (n .points) shape d h)),
+      )
 
   -- equal trees are equal counts
   pub equal-trees : (treeOf n a ≡ treeOf n b) ↔ SameCounts n a b
   equal-trees =
-      let first = starts-with-do (n .points) shape in
-      (λ e x h. same-down (length (n .points)) 0 first outer-end (rw (← e) (same-tree-self (treeOf n a))) x
-          (h, inside-outermost (n .points) shape x h),
-      λ s. same-tree-equal (treeOf n a) (treeOf n b) (same-up (length (n .points)) 0 first outer-end (λ y m. s y (m .0))))
+      let first = starts-with-do (n .points) shape in (
+        λ e x h. same-down (length (n .points)) 0 first outer-end (rw (← e) (same-tree-self (treeOf n a))) x
+            (h, inside-outermost (n .points) shape x h),
+        λ s. same-tree-equal (treeOf n a) (treeOf n b) (same-up (length (n .points)) 0 first outer-end (λ y m. s y (m .0))),
+      )

@@ -99,10 +99,10 @@ module _ (n : Nest) (shape : isShape (n .points) ≡ true) (key gs : List ℕ) (
           IsDearer n key gs loop theirs ours
       go b c d =
           record {
-          correct = c;
-          is-loop = d .loop;
-          theirs-is = b .theirs-is;
-          ours-is = b .ours-is;
-          dearer = omega (arith, b .theirs-is, b .ours-is, asGood-elim n shape key gs (k .least gs c) loop (d .loop) (d .inside), d .differs);
-          earlier = d .earlier
-      }
+            correct = c;
+            is-loop = d .loop;
+            theirs-is = b .theirs-is;
+            ours-is = b .ours-is;
+            dearer = omega (arith, b .theirs-is, b .ours-is, asGood-elim n shape key gs (k .least gs c) loop (d .loop) (d .inside), d .differs);
+            earlier = d .earlier;
+          }

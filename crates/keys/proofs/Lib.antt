@@ -1,0 +1,5 @@
+-- The planner's theorem in the paper's words: KeyIsKey, then demand 3, and what leads to them.
+pub mod KeyIsKey
+pub mod Demand3
+pub mod KeyGaps
+pub mod Predicates

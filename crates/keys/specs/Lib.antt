@@ -1,0 +1,3 @@
+-- The key of a nest, and demand 3.
+pub mod KeyOf
+pub mod Demand3
