@@ -9,3 +9,6 @@ pub mod Verdicts
 pub mod Papers
 pub mod Cases
 pub mod Planners
+pub mod Words
+pub mod Rising
+pub mod Lowest
