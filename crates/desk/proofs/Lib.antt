@@ -1,0 +1,2 @@
+-- Laws of desks.
+pub mod Held
