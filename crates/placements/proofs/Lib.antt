@@ -6,7 +6,6 @@ pub mod LoopOrder
 pub mod TreeOrder
 pub mod Keys
 pub mod Verdicts
-pub mod Papers
 pub mod Cases
 pub mod Planners
 pub mod Words
