@@ -11,3 +11,4 @@ pub mod Planners
 pub mod Words
 pub mod Rising
 pub mod Lowest
+pub mod CutTest
