@@ -1,2 +1,3 @@
 -- Laws of desks.
 pub mod Held
+pub mod Loads

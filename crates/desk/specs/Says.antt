@@ -115,7 +115,7 @@ pub record ListSays (d : DD.Desk) (es : List Dep) (r : DA.Answer) : Type 0 where
   pub place-is : r .line ≡ checkFault (deskIn d) es .place
   pub value-is
       : r .value ≡
-        pick
-        (eqb (checkFault (deskIn d) es .number) 0)
-        (listUncut 1 (deskIn d .nest-is .points) es (deskIn d .key))
-        0
+      pick
+      (eqb (checkFault (deskIn d) es .number) 0)
+      (listUncut 1 (deskIn d .nest-is .points) es (deskIn d .key))
+      0

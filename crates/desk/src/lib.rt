@@ -1,7 +1,7 @@
 // The marking desk: one nest and at most one key. A desk comes only from these calls; each takes it by value.
 ghost use mathlib.Core.Path.{_≡_};
 ghost use Rattle.desk.specs.Desks.{IsMade};
-ghost use Rattle.desk.specs.Says.{EmptySays};
+ghost use Rattle.desk.specs.Says.{EmptySays, LoadSays};
 use nests::Nest;
 use placements::Placement;
 
@@ -63,6 +63,32 @@ impl Desk {
             planned: false,
             key: Placement::empty(),
         }
+    }
+}
+
+// Reads a nest text; accepted, it replaces the nest and drops the key. Numbers 1 to 7 with their line.
+pub fn load_nest(desk: Desk, text: &[u8]) -> Reply
+    ensures { λ r. ⌜ LoadSays desk (now (text .entry)) r ⌝ }
+{
+    let reading = texts::read_nest(text);
+    let number = reading.number;
+    if number != 0 {
+        return Reply {
+            number: number,
+            line: reading.line,
+            desk: desk,
+        };
+    }
+    let nest = reading.nest;
+    Reply {
+        number: 0,
+        line: reading.line,
+        desk: Desk {
+            loaded: true,
+            nest: nest,
+            planned: false,
+            key: Placement::empty(),
+        },
     }
 }
 
