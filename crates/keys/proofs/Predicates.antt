@@ -155,11 +155,12 @@ module _ (n : Nest) (x : ℕ → Bool) (ks : List ℕ) (shape : isShape (n .poin
 
       at-most : (d : ℕ) → isDo (n .points) d ≡ true → SameInside n ks gs d → loopCount n ks d ≤ loopCount n gs d
       at-most d h s =
-          omega
-          (arith,
+          omega (
+            arith,
             counted d h,
             count-of d h,
-            key .least (memberOf gs) d (λ e a. list-cuts (n .points) e gs (correct-cuts n gs c e a)) h inside)
+            key .least (memberOf gs) d (λ e a. list-cuts (n .points) e gs (correct-cuts n gs c e a)) h inside,
+          )
         where
           inside
               : (l : ℕ)

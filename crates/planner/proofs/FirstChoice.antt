@@ -135,11 +135,18 @@ module _
 
       exact : value (W .loops) N T d (k .gap) .c ≡ T .cost d
       exact =
-          omega (arith, v .le, best .exact,
-          row-cost (W .loops) (laws .of-loops) N T table d is-do (busy q low inside there),
-          least-le (λ q. value (W .loops) N T d q .c) d e (k .gap) (k .low) (k .high))
+          omega (
+            arith,
+            v .le,
+            best .exact,
+            row-cost (W .loops) (laws .of-loops) N T table d is-do (busy q low inside there),
+            least-le (λ q. value (W .loops) N T d q .c) d e (k .gap) (k .low) (k .high),
+          )
 
       same : value (W .loops) N T d (k .gap) .f ≡ T .left d q
       same =
-          omega (arith, r .least (k .gap) late (k .high) exact,
-          v .tight (omega (arith, exact, best .exact)) (T .left d q) above within holds)
+          omega (
+            arith,
+            r .least (k .gap) late (k .high) exact,
+            v .tight (omega (arith, exact, best .exact)) (T .left d q) above within holds,
+          )

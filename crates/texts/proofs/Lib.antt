@@ -13,3 +13,4 @@ pub mod Frames
 pub mod Loading
 pub mod Barriers
 pub mod Placing
+pub mod Written

@@ -5,9 +5,13 @@ ghost use lib.ListN.{length, take};
 ghost use Rattle.nests.specs.Stored.{nestIn, IsCounted};
 ghost use Rattle.texts.specs.Reads.{IsRead, RefusedAs, EndedAs, closedBy, misplacedBy, tooManyBy, PointFault};
 ghost use Rattle.texts.specs.Reads.{DependenceFault, FrameFault, IsDependence, HasRoom, FrameAdded};
+ghost use Rattle.lines.specs.Writing.{over};
+ghost use Rattle.placements.specs.Words.{gapsIn};
+ghost use Rattle.texts.specs.PlacementTexts.{keyText};
 ghost use Rattle.texts.specs.Reads.{IsPlaced, UnplacedAs, BarrierFault};
 use lines::Frame;
 use lines::Read;
+use lines::put_frame;
 use lines::read_line;
 use nests::CARRIED;
 use nests::DO;
@@ -284,4 +288,33 @@ fn dependence_of(f: Frame) -> Dependence
             t: f.c,
         }
     }
+}
+
+// The length of a placement's text.
+pub fn text_length(p: Placement) -> usize
+    ensures { λ r. ⌜ r ≡ length (keyText (gapsIn (p .words))) ⌝ }
+{
+    let mut n: usize = 0;
+    let mut g = p.lowest_from(0);
+    while g < Placement::GAPS {
+        n += 5;
+        g = p.lowest_from(g + 1);
+    }
+    n
+}
+
+// Writes a placement as text, a barrier a line, from the start of a buffer that has room for it; gives the text's length.
+pub fn write_text(p: Placement, out: &mut [u8]) -> usize
+    requires { ⌜ length (keyText (gapsIn (p .words))) ≤ length (now out) ⌝ }
+    ensures { λ r. ⌜ r ≡ length (keyText (gapsIn (p .words))) ⌝ }
+    ensures { λ r. ⌜ now (out .exit) ≡ over (keyText (gapsIn (p .words))) (now (out .entry)) ⌝ }
+{
+    let mut at: usize = 0;
+    let mut g = p.lowest_from(0);
+    while g < Placement::GAPS {
+        let frame = [BARRIER, (g % 256) as u8];
+        at += put_frame(&mut out[at..], &frame);
+        g = p.lowest_from(g + 1);
+    }
+    at
 }
