@@ -3,3 +3,6 @@ pub mod Words
 pub mod Rising
 pub mod Lowest
 pub mod Cuts
+pub mod Mask
+pub mod Masked
+pub mod Comparing
