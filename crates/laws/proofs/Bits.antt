@@ -155,15 +155,19 @@ tally-same f g (suc k) i h =
     (ap (λ (n : ℕ). one (g i) + n) (tally-same f g k (suc i) (λ j l m. h j (omega arith) (omega arith))))
 
 -- the same test at places moved by c
-pub tally-moved : (f g : ℕ → Bool) (c k i : ℕ) → ((j : ℕ) → f j ≡ g (c + j)) → tally f k i ≡ tally g k (c + i)
+pub tally-moved
+    : (f g : ℕ → Bool) (c k i : ℕ)
+    → ((j : ℕ) → i ≤ j → j < i + k → f j ≡ g (c + j))
+    → tally f k i ≡ tally g k (c + i)
 unfolding tally
 tally-moved f g c zero i h = refl
 tally-moved f g c (suc k) i h =
     rw
-    (h i)
+    (h i (omega arith) (omega arith))
     (ap
     (λ (n : ℕ). one (g (c + i)) + n)
-    (let z : c + suc i ≡ suc (c + i) = omega arith in rw (← z) (tally-moved f g c k (suc i) h)))
+    (let z : c + suc i ≡ suc (c + i) = omega arith in
+    rw (← z) (tally-moved f g c k (suc i) (λ j a b. h j (omega arith) (omega arith)))))
 
 -- one range after another
 pub tally-add : (f : ℕ → Bool) (k m i : ℕ) → tally f (k + m) i ≡ tally f k i + tally f m (i + k)
@@ -177,6 +181,15 @@ tally-add f (suc k) m i =
     let b : i + suc k ≡ suc i + k = omega arith in
     rw (a, b) (omega (arith, tally-add f k m (suc i)))
 
+pub tally-le : (f : ℕ → Bool) (k i : ℕ) → tally f k i ≤ k
+unfolding tally
+tally-le f zero i = omega arith
+tally-le f (suc k) i = go (f i) (tally-le f k (suc i))
+  where
+    go : (t : Bool) → tally f k (suc i) ≤ k → one t + tally f k (suc i) ≤ suc k
+    go true h = omega arith
+    go false h = omega arith
+
 -- a word's ones are the bits that are set
 pub ones-tally : (k v : ℕ) → v < 2 ^ k → ones v ≡ tally (bit v) k 0
 unfolding tally ones
@@ -186,7 +199,7 @@ ones-tally zero v h = rw (lt-one h) none
     none = refl
 ones-tally (suc k) v h =
     let a : v / 2 < 2 ^ k = omega (arith, pow-suc 2 k) in
-    let b : tally (bit (v / 2)) k 0 ≡ tally (bit v) k 1 = tally-moved (bit (v / 2)) (bit v) 1 k 0 (λ j. bit-shifted v 1 j) in
+    let b : tally (bit (v / 2)) k 0 ≡ tally (bit v) k 1 = tally-moved (bit (v / 2)) (bit v) 1 k 0 (λ j a b. bit-shifted v 1 j) in
     omega (arith, ones-step v, ones-tally k (v / 2) a, b, first)
   where
     first : one (bit v 0) ≡ v % 2

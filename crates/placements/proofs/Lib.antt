@@ -12,3 +12,6 @@ pub mod Verdicts
 pub mod Cases
 pub mod Planners
 pub mod CutTest
+pub mod Mask
+pub mod Masked
+pub mod Comparing

@@ -20,7 +20,7 @@ low-beyond ws lo h =
     record { fits = omega arith; held = λ l. absurd (omega arith); none = λ i a b c. absurd (omega arith) }
 
 -- a gap in the word that it stands in
-at-word : (ws : List ℕ) (i k b : ℕ) → i ≡ k * 64 + b → b < 64 → holds ws i ≡ bit (getD ws k 0) b
+pub at-word : (ws : List ℕ) (i k b : ℕ) → i ≡ k * 64 + b → b < 64 → holds ws i ≡ bit (getD ws k 0) b
 unfolding holds
 at-word ws i k b e h =
     let p : i / 64 ≡ k = omega arith in

@@ -2,11 +2,12 @@
 use nests::Dependence;
 use nests::Nest;
 ghost use mathlib.Core.Path.{_≡_};
-ghost use mathlib.Core.Bool.{Bool, true, false, _||_};
+ghost use mathlib.Core.Bool.{Bool, true, false, _||_, _&&_};
 ghost use mathlib.Core.List.{List};
 ghost use Prim.Native.Nat.{ℕ, _+_, _<_, _≤_};
 ghost use lib.Dec.{eqb};
 ghost use lib.ListN.{length, getD};
+ghost use Rattle.laws.specs.Bits.{bit, tally};
 ghost use Rattle.laws.specs.Choice.{between};
 ghost use Rattle.nests.specs.Kinds.{INDEPENDENT};
 ghost use Rattle.nests.specs.Nests.{Dep, nest};
@@ -143,4 +144,108 @@ pub fn cut_by(points: &[u8], p: Placement, e: Dependence) -> Cut
     let d = e.d as usize;
     let end = nests::end_of(points, d);
     cut_in(end, p, e)
+}
+
+// The number of the first dependence that the placement does not cut, plus 1; 0 for none.
+pub fn uncut(nest: Nest, p: Placement) -> usize
+    requires { ⌜ IsCounted nest ⌝ }
+    requires { ⌜ isValid (nestIn nest) ≡ true ⌝ }
+    ensures { λ r. ⌜ r ≡ uncut (nestIn nest) (gapsIn (p .words)) ⌝ }
+{
+    let count = nest.count;
+    let points = nest.points;
+    let ends = nests::ends_of(&points[..count]);
+    let many = nest.many;
+    let mut i = 0;
+    while i < many {
+        let e = nest.deps[i];
+        let d = e.d as usize;
+        let cut = cut_in(ends[d], p, e);
+        match cut {
+            Cut::Uncut => return i + 1,
+            Cut::By(_) => {
+                i += 1;
+            }
+        }
+    }
+    0
+}
+
+// The own gaps of the loop with DO d and ENDDO e.
+pub fn loop_mask(points: &[u8], d: usize, e: usize) -> Placement
+    requires { ⌜ (isShape (now points) ≡ true) × (length (now points) ≤ GAPS) ⌝ }
+    requires { ⌜ (isDo (now points) d ≡ true) × (e ≡ endOf (now points) d) ⌝ }
+    ensures { λ r. ⌜ IsMask (now (points .entry)) d (r .words) ⌝ }
+{
+    let mut mask = Placement::empty();
+    let mut depth: usize = 1;
+    let mut g = d + 1;
+    while g <= e {
+        if depth == 1 {
+            mask = mask.put(g);
+            depth = nests::deeper(depth, points[g]);
+            g += 1;
+        } else {
+            depth = nests::deeper(depth, points[g]);
+            g += 1;
+        }
+    }
+    mask
+}
+
+// The ones that two words share.
+fn shared(a: u64, m: u64) -> usize
+    ensures { λ r. ⌜ (r ≡ tally (λ (b : ℕ). bit a b && bit m b) 64 0) × (r ≤ 64) ⌝ }
+{
+    u64::count_ones(a & m) as usize
+}
+
+// The placement's ones under a loop's mask.
+pub fn loop_count(p: Placement, mask: Placement) -> usize
+    ensures { λ r. ⌜ r ≡ tally (λ (g : ℕ). holds (p .words) g && holds (mask .words) g) GAPS 0 ⌝ }
+{
+    let a = p.words;
+    let m = mask.words;
+    shared(a[0], m[0]) + shared(a[1], m[1]) + shared(a[2], m[2]) + shared(a[3], m[3])
+}
+
+// The count of loop d in the placement.
+pub fn count_of(points: &[u8], d: usize, p: Placement) -> usize
+    requires { ⌜ (isShape (now points) ≡ true) × (length (now points) ≤ GAPS) ⌝ }
+    requires { ⌜ isDo (now points) d ≡ true ⌝ }
+    requires { ⌜ areGapsFrom 0 (length (now points)) (gapsIn (p .words)) ≡ true ⌝ }
+    ensures { λ r. ⌜ ((ds : List Dep) → r ≡ loopCount (nest (now (points .entry)) ds) (gapsIn (p .words)) d) ⌝ }
+{
+    let e = nests::end_of(points, d);
+    let mask = loop_mask(points, d, e);
+    loop_count(p, mask)
+}
+
+// The first loop by its ENDDO at which the key and another placement differ, with both counts.
+pub fn compare(points: &[u8], key: Placement, other: Placement) -> Compared
+    requires { ⌜ (isShape (now points) ≡ true) × (length (now points) ≤ GAPS) ⌝ }
+    requires { ⌜ areGapsFrom 0 (length (now points)) (gapsIn (key .words)) ≡ true ⌝ }
+    requires { ⌜ areGapsFrom 0 (length (now points)) (gapsIn (other .words)) ≡ true ⌝ }
+    ensures { λ r. ⌜ ((ds : List Dep) → differenceIn r ≡ differenceOf (nest (now (points .entry)) ds) (gapsIn (key .words)) (gapsIn (other .words))) ⌝ }
+{
+    let mut e = 0;
+    while e < points.len() {
+        if points[e] == nests::ENDDO {
+            let d = nests::loop_of(points, e);
+            let mask = loop_mask(points, d, e);
+            let ours = loop_count(key, mask);
+            let theirs = loop_count(other, mask);
+            if ours != theirs {
+                return Compared::Differ(Counts {
+                    d: d,
+                    theirs: theirs,
+                    ours: ours,
+                });
+            }
+            e += 1;
+        } else {
+            e += 1;
+        }
+    }
+    Compared::Same
 }

@@ -1,0 +1,86 @@
+-- Two placements compared loop by loop, by the loops' ENDDOs.
+-- Main statements: `Compares`, what a turn keeps; `compare-start`, `compare-other`, `compare-same`, `compare-differ`,
+-- `compare-done`.
+use mathlib.Core.Path.{_≡_, refl, sym, ap, _∙_}
+use mathlib.Core.Bool.{true, false}
+use mathlib.Core.List.{List, [], _∷_, _++_}
+use Prim.Native.Nat.{ℕ, zero, suc, _+_, _-_, _≤_, _<_}
+use native.Mathlib.Omega.{arith}
+use lib.Dec.{eqb}
+use lib.ListN.{length, getD}
+use borrow.Author.Tests.{eq-eqb, ne-eqb}
+use Rattle.nests.specs.Nests.{Dep, Nest, nest}
+use Rattle.nests.specs.Kinds.{ENDDO}
+use Rattle.nests.specs.Loops.{isEnd, ownerOf}
+use Rattle.placements.specs.Placements.{loopCount, loopsFrom, differFrom, differ}
+use Rattle.placements.specs.Answers.{difference, differenceOf}
+
+-- the loops that end before e have the same counts: the rest decides
+pub record Compares (ps a b : List ℕ) (e : ℕ) : Type 0 where
+  pub low : e ≤ length ps
+  pub rest
+      : (ds : List Dep)
+      → differFrom (nest ps ds) a b (loopsFrom (length ps - e) e ps) ≡ differ (nest ps ds) a b
+
+pub compare-start : (ps a b : List ℕ) → Compares ps a b 0
+compare-start ps a b =
+    record { low = omega arith; rest = λ ds. let z : length ps - 0 ≡ length ps = omega arith in rw z }
+
+module _ (ps a b : List ℕ) (e : ℕ) (p : Compares ps a b e) where
+  -- a point that ends no loop
+  pub compare-other : e < length ps → (getD ps e 0 ≡ ENDDO → ⊥) → Compares ps a b (e + 1)
+  compare-other h n =
+      record {
+        low = omega arith;
+        rest =
+          λ ds.
+            let z : length ps - e ≡ suc (length ps - (e + 1)) = omega arith in
+            let y : e + 1 ≡ suc e = omega arith in
+            let w : loopsFrom (length ps - e) e ps ≡ loopsFrom (length ps - (e + 1)) (e + 1) ps =
+                    rw (z, ne-eqb (getD ps e 0) ENDDO n, y) in
+            sym (ap (differFrom (nest ps ds) a b) w) ∙ p .rest ds
+      }
+
+  -- an ENDDO, with the loop that ends there in front of the rest
+  ends-first
+      : e < length ps
+      → getD ps e 0 ≡ ENDDO
+      → loopsFrom (length ps - e) e ps ≡ ownerOf ps e ∷ loopsFrom (length ps - (e + 1)) (e + 1) ps
+  ends-first h q =
+      let z : length ps - e ≡ suc (length ps - (e + 1)) = omega arith in
+      let y : e + 1 ≡ suc e = omega arith in
+      rw (z, eq-eqb (getD ps e 0) ENDDO q, y)
+
+  module _ (h : e < length ps) (q : getD ps e 0 ≡ ENDDO) (d : ℕ) (o : d ≡ ownerOf ps e) where
+    first
+        : (ds : List Dep)
+        → differFrom (nest ps ds) a b (d ∷ loopsFrom (length ps - (e + 1)) (e + 1) ps) ≡ differ (nest ps ds) a b
+    first ds = rw o (rw (ends-first h q) at (p .rest ds))
+
+    pub compare-same
+        : ((ds : List Dep) → loopCount (nest ps ds) a d ≡ loopCount (nest ps ds) b d)
+        → Compares ps a b (e + 1)
+    compare-same c =
+        record {
+          low = omega arith;
+          rest = λ ds. rw (eq-eqb (loopCount (nest ps ds) a d) (loopCount (nest ps ds) b d) (c ds)) at (first ds)
+        }
+
+    pub compare-differ
+        : (ds : List Dep) (ours theirs : ℕ)
+        → ours ≡ loopCount (nest ps ds) a d
+        → theirs ≡ loopCount (nest ps ds) b d
+        → (ours ≡ theirs → ⊥)
+        → difference (suc d) theirs ours ≡ differenceOf (nest ps ds) a b
+    compare-differ ds ours theirs f g n =
+        let z : differ (nest ps ds) a b ≡ suc d =
+                sym (first ds) ∙
+                rw (ne-eqb (loopCount (nest ps ds) a d) (loopCount (nest ps ds) b d) (λ w. n (f ∙ w ∙ sym g))) in
+        let y : suc d - 1 ≡ d = omega arith in
+        rw (z, ne-eqb (suc d) 0 (λ w. omega arith), y, f, g)
+
+  pub compare-done : length ps ≤ e → (ds : List Dep) → difference 0 0 0 ≡ differenceOf (nest ps ds) a b
+  compare-done h ds =
+      let z : length ps - e ≡ 0 = omega arith in
+      let y : differ (nest ps ds) a b ≡ 0 = sym (p .rest ds) ∙ rw z in
+      rw y

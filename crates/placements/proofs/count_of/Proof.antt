@@ -1,0 +1,26 @@
+-- `count_of` meets its contract: the ones under the mask of the loop's own gaps (`count-masked`).
+use mathlib.Core.Path.{_≡_, sym, _∙_}
+use borrow.Author.Needs.{needs}
+use Rattle.nests.specs.Nests.{nest}
+use Rattle.placements.proofs.Masked.{count-masked}
+use Rattle.placements.proofs.count_of.Statement.{statement}
+use Rattle.placements.proofs.count_of.Tie as tie
+
+end-of-requires : tie.Need-end-of-requires
+end-of-requires c κs = search needs
+
+loop-mask-requires : tie.Need-loop-mask-requires
+loop-mask-requires c κs = search needs
+
+loop-count-requires : tie.Need-loop-count-requires
+loop-count-requires c κs = search needs
+
+returns : tie.Need-returns
+returns c =
+    let a = c .before .before .before .before .args in
+    λ ds.
+      c .loop-count .ensures ∙
+      count-masked (nest (a .points .now) ds) (a .p .words) (c .before .loop-mask .result .words) (a .d) (c .before .before .before .before .pre .1 .1) (c .before .loop-mask .ensures)
+
+pub count-of-spec : {M : Type 1} → statement M
+count-of-spec = tie.close (tie.spec end-of-requires loop-mask-requires loop-count-requires returns)
