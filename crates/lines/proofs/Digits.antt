@@ -113,8 +113,8 @@ digits-are l h k =
     let z : 1 ≤ length l = omega arith in
     rw (le-leb 1 (length l) z, eq-eqb (length l % 2) 0 k)
 
-pub digits-hex : (l : List ℕ) → isDigits l ≡ true → allHex l ≡ true
-digits-hex l h = and-true (eqb (length l % 2) 0) (allHex l) (and-true (leb 1 (length l)) (eqb (length l % 2) 0 && allHex l) h .1) .1
+pub digits-all-hex : (l : List ℕ) → isDigits l ≡ true → allHex l ≡ true
+digits-all-hex l h = and-true (eqb (length l % 2) 0) (allHex l) (and-true (leb 1 (length l)) (eqb (length l % 2) 0 && allHex l) h .1) .1
 
 pub digits-two : (l : List ℕ) → isDigits l ≡ true → 2 ≤ length l
 digits-two l h =

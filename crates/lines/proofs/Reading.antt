@@ -13,6 +13,7 @@ use lib.Seq.{drop-cons, drop-drop}
 use borrow.Author.Tests.{eq-eqb, ne-eqb, lt-ltb, le-ltb, ltb-true}
 use Rattle.laws.specs.Choice.{pick}
 use Rattle.laws.proofs.Tests.{le-or, and-true}
+use Rattle.laws.proofs.Connectives.{and-off}
 use Rattle.lines.specs.declared.Frame.{Frame}
 use Rattle.lines.specs.declared.Read.{Read}
 use Rattle.lines.specs.declared.Read.the-variants as RV
@@ -103,10 +104,6 @@ end-here s i h e = rw (drop-cons s i 0 h) (rw (eq-eqb (getD s i 0) FEED e, takeL
 pub end-past : (s : List ℕ) (i : ℕ) → length s ≤ i → length (takeLine (drop i s)) ≡ 0
 unfolding takeLine
 end-past s i h = rw (drop-of-length-le s h)
-
-and-off : (b : Bool) → (b && false) ≡ false
-and-off true = refl
-and-off false = refl
 
 -- the reader's answer past the end of the text
 pub past-end : (s : List ℕ) (at : ℕ) → length s ≤ at → RV.End ≡ lineAt s at

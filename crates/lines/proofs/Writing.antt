@@ -12,6 +12,7 @@ use borrow.Author.Tests.{lt-ltb, le-ltb}
 use borrow.Rule.Slice.PartMut.{midOf, putMid}
 use Rattle.lines.specs.Lines.{FEED, digitOf, byteText, digitsOf, lineText}
 use Rattle.lines.specs.Writing.{over}
+use Rattle.lines.proofs.Spelling.{digits-length}
 
 -- the digit of a value
 pub digit-number : (v : ℕ) → v < 10 → 48 + v ≡ digitOf v
@@ -21,10 +22,6 @@ pub digit-letter : (v : ℕ) → 10 ≤ v → 87 + v ≡ digitOf v
 digit-letter v h = rw (le-ltb v 10 h)
 
 -- two digits a byte, then the 0a
-pub digits-length : (f : List ℕ) → length (digitsOf f) ≡ 2 * length f
-digits-length [] = refl
-digits-length (b ∷ f) = omega (arith, digits-length f)
-
 pub text-length : (f : List ℕ) → length (lineText f) ≡ 2 * length f + 1
 text-length f = length-append (digitsOf f) (FEED ∷ []) ∙ ap (λ (n : ℕ). n + 1) (digits-length f)
 

@@ -10,14 +10,11 @@ use lib.ListN.{length, getD}
 use borrow.Author.Tests.{lt-ltb, le-ltb, ltb-true, eq-eqb, ne-eqb, not-false}
 use Rattle.laws.specs.Choice.{when, firstOf}
 use Rattle.laws.proofs.Tests.{and-true}
+use Rattle.laws.proofs.Choices.{first-zero, when-zero}
+use Rattle.laws.proofs.Connectives.{and-off}
 use Rattle.lines.specs.declared.Frame.{Frame}
 use Rattle.lines.specs.Reading.{IsFrame}
 use Rattle.texts.specs.PlacementTexts.{BARRIER, barrierFault}
-use Rattle.texts.proofs.Faults.{first-zero, when-zero}
-
-and-off : (b : Bool) → (b && false) ≡ false
-and-off true = refl
-and-off false = refl
 
 module _ (last n : ℕ) (x : Frame) (l : List ℕ) (i : IsFrame x l) where
   barrier-is

@@ -10,6 +10,7 @@ use lib.Dec.{eqb, leb}
 use lib.ListN.{length, getD}
 use borrow.Author.Tests.{le-leb, lt-leb, leb-true, eq-eqb, ne-eqb}
 use Rattle.laws.specs.Choice.{pick, when, firstOf, between}
+use Rattle.laws.proofs.Connectives.{and-off}
 use Rattle.nests.specs.Kinds.{DO, STATEMENT, INDEPENDENT, CARRIED}
 use Rattle.nests.specs.Nests.{Dep, dep, Nest, nest}
 use Rattle.lines.specs.declared.Frame.{Frame}
@@ -21,10 +22,6 @@ pub is-point : (k : ℕ) → 1 ≤ k → k < 4 → isPoint k ≡ true
 is-point k h g =
     let z : k ≤ STATEMENT = omega arith in
     rw (le-leb 1 k h, le-leb k 3 z)
-
-and-off : (b : Bool) → (b && false) ≡ false
-and-off true = refl
-and-off false = refl
 
 pub no-point : (k : ℕ) → (k < 1) ⊎ (4 ≤ k) → isPoint k ≡ false
 no-point k (inl h) = rw (lt-leb 1 k h)

@@ -20,14 +20,15 @@ use Rattle.placements.proofs.Words.{gaps-none, gaps-put-last}
 use Rattle.texts.specs.declared.PlacementReading.{PlacementReading}
 use Rattle.texts.specs.PlacementTexts.{barrierFault, placedFault, placed, placeLines, readPlacement}
 use Rattle.texts.specs.Reads.{IsPlaced, UnplacedAs, BarrierFault}
+use Rattle.texts.proofs.Faults.{bad-first, good-first}
 use Rattle.texts.proofs.Barriers.{barrier-rises}
 
 -- a line's refusal
 fault-bad : (last n : ℕ) (l : Line) → isGood l ≡ false → placedFault last n l ≡ 1
-fault-bad last n l h = ap (λ (b : Bool). firstOf (when (not b) 1) (barrierFault last n (frameOf (l .bytes)))) h
+fault-bad last n l h = bad-first (isGood l) (barrierFault last n (frameOf (l .bytes))) h
 
 fault-good : (last n : ℕ) (l : Line) → isGood l ≡ true → placedFault last n l ≡ barrierFault last n (frameOf (l .bytes))
-fault-good last n l h = ap (λ (b : Bool). firstOf (when (not b) 1) (barrierFault last n (frameOf (l .bytes)))) h
+fault-good last n l h = good-first (isGood l) (barrierFault last n (frameOf (l .bytes))) h
 
 -- the gap of a line's frame
 gapOf : Line → ℕ

@@ -4,7 +4,7 @@ use mathlib.Core.Bool.{true}
 use Prim.Native.Nat.{_-_}
 use lib.ListN.{take, drop}
 use Rattle.lines.specs.Lines.{allHex}
-use Rattle.lines.proofs.Digits.{digits-hex}
+use Rattle.lines.proofs.Digits.{digits-all-hex}
 use Rattle.lines.proofs.Reading.{past-end, unended, not-digits, is-frame}
 use borrow.Author.Needs.{needs}
 use Rattle.lines.proofs.read_line.Statement.{statement}
@@ -41,7 +41,7 @@ is-digits-requires c κs = search needs
 of-digits : (c : tie.Then3)
     → allHex (take (c .before .before .before .before .line-end .result - c .before .before .before .before .before .before .before .args .at) (drop (c .before .before .before .before .before .before .before .args .at) (c .before .before .before .before .before .before .before .args .text .now))) ≡ true
 of-digits c =
-    digits-hex
+    digits-all-hex
     (take (c .before .before .before .before .line-end .result - c .before .before .before .before .before .before .before .args .at) (drop (c .before .before .before .before .before .before .before .args .at) (c .before .before .before .before .before .before .before .args .text .now)))
     (sym (c .before .is-digits .ensures) ∙ c .if3 .taken)
 
