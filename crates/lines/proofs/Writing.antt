@@ -2,15 +2,14 @@
 -- Main statements: `text-length`, `over-next`, `over-frame`, `over-part`.
 use mathlib.Core.Path.{_≡_, refl, sym, _∙_, ap}
 use mathlib.Core.List.{List, [], _∷_, _++_, append-assoc, append-nil}
-use Prim.Native.Nat.{ℕ, zero, suc, _+_, _-_, _*_, _/_, _%_, _≤_, _<_}
+use Prim.Native.Nat.{ℕ, suc, _+_, _-_, _*_, _/_, _%_, _≤_, _<_}
 use native.Mathlib.Numerals.{add-one}
 use native.Mathlib.Omega.{arith}
-use lib.Dec.{ltb}
 use lib.ListN.{length, getD, take, drop, set, length-append, length-drop, drop-of-length-le}
 use lib.Seq.{drop-cons, set-at, append-snoc, take-suc, take-at, drop-at, length-take-le, take-all, drop-drop}
 use borrow.Author.Tests.{lt-ltb, le-ltb}
 use borrow.Rule.Slice.PartMut.{midOf, putMid}
-use Rattle.lines.specs.Lines.{FEED, digitOf, byteText, digitsOf, lineText}
+use Rattle.lines.specs.Lines.{FEED, digitOf, digitsOf, lineText}
 use Rattle.lines.specs.Writing.{over}
 use Rattle.lines.proofs.Spelling.{digits-length}
 

@@ -1,15 +1,14 @@
 -- Nest texts read line by line: what a turn of the reader keeps, and one law for each way through a turn.
 -- Main statements: `begun`, `at-end`, `at-refusal`, `at-fault`, `has-room`, `on`.
 use mathlib.Core.Path.{_≡_, refl, sym, _∙_, ap}
-use mathlib.Core.Bool.{Bool, true, false, _&&_, _||_, not}
+use mathlib.Core.Bool.{Bool, true, false, _&&_, not}
 use mathlib.Core.List.{List, [], _∷_, _++_}
-use mathlib.Core.Logic.{_⊎_, inl, inr}
-use Prim.Native.Nat.{ℕ, zero, suc, _+_, _-_, _^_, _≤_, _<_}
+use Prim.Native.Nat.{ℕ, suc, _+_, _-_, _^_, _≤_, _<_}
 use native.Mathlib.Numerals.{add-one}
 use native.Mathlib.Omega.{arith}
 use lib.Dec.{eqb, leb}
-use lib.ListN.{length, getD, take, drop, length-take, length-append}
-use borrow.Author.Tests.{leb-false, eq-eqb, ne-eqb}
+use lib.ListN.{length, take, drop, length-take}
+use borrow.Author.Tests.{leb-false, ne-eqb}
 use Rattle.laws.specs.Choice.{pick, when, firstOf}
 use Rattle.laws.proofs.Tests.{or-false, never}
 use Rattle.laws.proofs.Choices.{first-zero, when-zero}
@@ -22,10 +21,10 @@ use Rattle.nests.specs.declared.Nest as DN
 use Rattle.lines.specs.declared.Frame.{Frame}
 use Rattle.lines.specs.declared.Read.the-variants as RV
 use Rattle.lines.specs.Lines.{Line, linesOf, isGood, frameOf}
-use Rattle.lines.specs.Reading.{IsFrame, lineAt}
-use Rattle.lines.proofs.Reading.{no-line, bad-line, good-line, Bad-line, Good-line}
+use Rattle.lines.specs.Reading.{lineAt}
+use Rattle.lines.proofs.Reading.{no-line, bad-line, good-line, Good-line}
 use Rattle.texts.specs.declared.Reading.{Reading}
-use Rattle.texts.specs.NestTexts.{isPoint, kindOf, kindGood, depOf, pointFault, dependenceFault, frameFault, withFrame, lineFault, Got, got, readLines, readNest}
+use Rattle.texts.specs.NestTexts.{isPoint, kindOf, kindGood, depOf, pointFault, dependenceFault, frameFault, withFrame, lineFault, got, readLines, readNest}
 use Rattle.texts.specs.Reads.{IsRead, RefusedAs, EndedAs, HasNumbers, closedBy, misplacedBy, tooManyBy, FrameFault, HasRoom, FrameAdded}
 use Rattle.texts.proofs.Shapes.{depth-more}
 use Rattle.texts.proofs.Faults.{bad-first, good-first}

@@ -1,20 +1,20 @@
 -- Placement texts read line by line: what a turn of the reader keeps, and one law for each way through a turn.
 -- Main statements: `placing`, `placed-all`, `placed-bad`, `placed-fault`, `place-on`.
 use mathlib.Core.Path.{_≡_, refl, sym, _∙_, ap}
-use mathlib.Core.Bool.{Bool, true, false, _||_, not}
+use mathlib.Core.Bool.{true, false, _||_}
 use mathlib.Core.List.{List, [], _∷_, _++_}
-use Prim.Native.Nat.{ℕ, zero, suc, _+_, _≤_, _<_}
+use Prim.Native.Nat.{ℕ, suc, _+_, _≤_, _<_}
 use native.Mathlib.Numerals.{add-one}
 use native.Mathlib.Omega.{arith}
 use lib.Dec.{eqb}
 use lib.ListN.{length, getD, drop}
 use borrow.Author.Tests.{ne-eqb}
-use Rattle.laws.specs.Choice.{pick, when, firstOf}
+use Rattle.laws.specs.Choice.{pick}
 use Rattle.lines.specs.declared.Frame.{Frame}
 use Rattle.lines.specs.declared.Read.the-variants as RV
 use Rattle.lines.specs.Lines.{Line, linesOf, isGood, frameOf}
-use Rattle.lines.specs.Reading.{IsFrame, lineAt}
-use Rattle.lines.proofs.Reading.{no-line, bad-line, good-line, Bad-line, Good-line}
+use Rattle.lines.specs.Reading.{lineAt}
+use Rattle.lines.proofs.Reading.{no-line, bad-line, good-line, Good-line}
 use Rattle.placements.specs.Words.{GAPS, holds, gapsIn}
 use Rattle.placements.proofs.Words.{gaps-none, gaps-put-last}
 use Rattle.texts.specs.declared.PlacementReading.{PlacementReading}
