@@ -1,19 +1,19 @@
 -- Digits of a line and the bytes that they spell.
 -- Main statements: `hex-at`, `frame-length`, `frame-at`, `frame-past`, `digits-are`.
-use mathlib.Core.Path.{_≡_, refl, sym, _∙_, ap}
-use mathlib.Core.Bool.{Bool, true, false, _&&_, _||_}
+use mathlib.Core.Path.{_≡_, refl, sym}
+use mathlib.Core.Bool.{Bool, true, false, _&&_}
 use mathlib.Core.List.{List, [], _∷_}
 use mathlib.Core.Logic.{⊎-elim}
-use Prim.Native.Nat.{ℕ, zero, suc, _+_, _-_, _*_, _/_, _%_, _≤_, _<_, zero-le}
+use Prim.Native.Nat.{ℕ, zero, suc, _+_, _-_, _*_, _/_, _%_, _≤_, _<_}
 use native.Mathlib.Numerals.{add-one}
 use native.Mathlib.Omega.{arith}
 use lib.Dec.{eqb, leb}
 use lib.ListN.{length, getD, drop, drop-of-length-le, List·getD-eq-default}
 use lib.Seq.{drop-cons}
 use borrow.Author.Tests.{le-leb, lt-leb, leb-true, eq-eqb, ne-eqb, eqb-true}
-use Rattle.laws.specs.Choice.{pick, between}
-use Rattle.laws.proofs.Tests.{and-true, and-intro, or-true, never}
-use Rattle.lines.specs.Lines.{isHex, valueOf, allHex, isDigits, byteOf, frameOf}
+use Rattle.laws.specs.Choice.{between}
+use Rattle.laws.proofs.Tests.{and-true, or-true}
+use Rattle.lines.specs.Lines.{isHex, valueOf, allHex, isDigits, frameOf}
 
 -- a digit by its byte
 pub hex-low : (b : ℕ) → b < 48 → isHex b ≡ false
@@ -113,8 +113,8 @@ digits-are l h k =
     let z : 1 ≤ length l = omega arith in
     rw (le-leb 1 (length l) z, eq-eqb (length l % 2) 0 k)
 
-pub digits-hex : (l : List ℕ) → isDigits l ≡ true → allHex l ≡ true
-digits-hex l h = and-true (eqb (length l % 2) 0) (allHex l) (and-true (leb 1 (length l)) (eqb (length l % 2) 0 && allHex l) h .1) .1
+pub digits-all-hex : (l : List ℕ) → isDigits l ≡ true → allHex l ≡ true
+digits-all-hex l h = and-true (eqb (length l % 2) 0) (allHex l) (and-true (leb 1 (length l)) (eqb (length l % 2) 0 && allHex l) h .1) .1
 
 pub digits-two : (l : List ℕ) → isDigits l ≡ true → 2 ≤ length l
 digits-two l h =

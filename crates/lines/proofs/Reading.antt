@@ -1,10 +1,10 @@
 -- Lines read one at a time: the first line of a text, and what an answer of the reader tells its caller.
 -- Main statements: `lines-first`, `no-line`, `bad-line`, `good-line`.
 use mathlib.Core.Path.{_≡_, refl, sym, _∙_, ap}
-use mathlib.Core.Bool.{Bool, true, false, _&&_, _||_}
+use mathlib.Core.Bool.{Bool, true, false, _||_}
 use mathlib.Core.List.{List, [], _∷_}
 use mathlib.Core.Logic.{⊎-elim}
-use Prim.Native.Nat.{ℕ, zero, suc, _+_, _-_, _*_, _/_, _≤_, _<_}
+use Prim.Native.Nat.{ℕ, suc, _+_, _-_, _/_, _≤_, _<_}
 use native.Mathlib.Numerals.{add-one}
 use native.Mathlib.Omega.{arith}
 use lib.Dec.{eqb, ltb, leb·suc-suc}
@@ -13,8 +13,8 @@ use lib.Seq.{drop-cons, drop-drop}
 use borrow.Author.Tests.{eq-eqb, ne-eqb, lt-ltb, le-ltb, ltb-true}
 use Rattle.laws.specs.Choice.{pick}
 use Rattle.laws.proofs.Tests.{le-or, and-true}
+use Rattle.laws.proofs.Connectives.{and-off}
 use Rattle.lines.specs.declared.Frame.{Frame}
-use Rattle.lines.specs.declared.Read.{Read}
 use Rattle.lines.specs.declared.Read.the-variants as RV
 use Rattle.lines.specs.Lines.{FEED, Line, line, push, linesOf, isGood, isDigits, frameOf}
 use Rattle.lines.specs.Reading.{takeLine, hasFeed, frame, IsFrame, answerOf, lineAt}
@@ -103,10 +103,6 @@ end-here s i h e = rw (drop-cons s i 0 h) (rw (eq-eqb (getD s i 0) FEED e, takeL
 pub end-past : (s : List ℕ) (i : ℕ) → length s ≤ i → length (takeLine (drop i s)) ≡ 0
 unfolding takeLine
 end-past s i h = rw (drop-of-length-le s h)
-
-and-off : (b : Bool) → (b && false) ≡ false
-and-off true = refl
-and-off false = refl
 
 -- the reader's answer past the end of the text
 pub past-end : (s : List ℕ) (at : ℕ) → length s ≤ at → RV.End ≡ lineAt s at

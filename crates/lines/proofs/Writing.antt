@@ -2,16 +2,16 @@
 -- Main statements: `text-length`, `over-next`, `over-frame`, `over-part`.
 use mathlib.Core.Path.{_≡_, refl, sym, _∙_, ap}
 use mathlib.Core.List.{List, [], _∷_, _++_, append-assoc, append-nil}
-use Prim.Native.Nat.{ℕ, zero, suc, _+_, _-_, _*_, _/_, _%_, _≤_, _<_}
+use Prim.Native.Nat.{ℕ, suc, _+_, _-_, _*_, _/_, _%_, _≤_, _<_}
 use native.Mathlib.Numerals.{add-one}
 use native.Mathlib.Omega.{arith}
-use lib.Dec.{ltb}
 use lib.ListN.{length, getD, take, drop, set, length-append, length-drop, drop-of-length-le}
 use lib.Seq.{drop-cons, set-at, append-snoc, take-suc, take-at, drop-at, length-take-le, take-all, drop-drop}
 use borrow.Author.Tests.{lt-ltb, le-ltb}
 use borrow.Rule.Slice.PartMut.{midOf, putMid}
-use Rattle.lines.specs.Lines.{FEED, digitOf, byteText, digitsOf, lineText}
+use Rattle.lines.specs.Lines.{FEED, digitOf, digitsOf, lineText}
 use Rattle.lines.specs.Writing.{over}
+use Rattle.lines.proofs.Spelling.{digits-length}
 
 -- the digit of a value
 pub digit-number : (v : ℕ) → v < 10 → 48 + v ≡ digitOf v
@@ -21,10 +21,6 @@ pub digit-letter : (v : ℕ) → 10 ≤ v → 87 + v ≡ digitOf v
 digit-letter v h = rw (le-ltb v 10 h)
 
 -- two digits a byte, then the 0a
-pub digits-length : (f : List ℕ) → length (digitsOf f) ≡ 2 * length f
-digits-length [] = refl
-digits-length (b ∷ f) = omega (arith, digits-length f)
-
 pub text-length : (f : List ℕ) → length (lineText f) ≡ 2 * length f + 1
 text-length f = length-append (digitsOf f) (FEED ∷ []) ∙ ap (λ (n : ℕ). n + 1) (digits-length f)
 

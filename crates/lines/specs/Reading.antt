@@ -1,7 +1,7 @@
 -- One line at a place of a text: what the line reader answers.
 -- Main definitions: `takeLine`, `hasFeed`, `frame`, `IsFrame`, `lineAt`.
 use mathlib.Core.Path.{_≡_}
-use mathlib.Core.Bool.{Bool, true, false, _||_}
+use mathlib.Core.Bool.{Bool, false, _||_}
 use mathlib.Core.List.{List, [], _∷_}
 use Prim.Native.Nat.{ℕ, _+_}
 use lib.Dec.{eqb}

@@ -1,23 +1,19 @@
 -- Barriers: the refusals of a frame of a placement text, as the line reader hands it on.
 -- Main statements: `barrier-kind`, `barrier-length`, `barrier-low`, `barrier-high`, `barrier-good`, `barrier-rises`.
-use mathlib.Core.Path.{_≡_, refl, sym, _∙_, ap}
-use mathlib.Core.Bool.{Bool, true, false, _&&_, not}
+use mathlib.Core.Path.{_≡_}
+use mathlib.Core.Bool.{true, _&&_, not}
 use mathlib.Core.List.{List}
-use Prim.Native.Nat.{ℕ, zero, suc, _≤_, _<_}
-use native.Mathlib.Omega.{arith}
+use Prim.Native.Nat.{ℕ, _≤_, _<_}
 use lib.Dec.{eqb, ltb}
 use lib.ListN.{length, getD}
-use borrow.Author.Tests.{lt-ltb, le-ltb, ltb-true, eq-eqb, ne-eqb, not-false}
+use borrow.Author.Tests.{lt-ltb, le-ltb, ltb-true, ne-eqb, not-false}
 use Rattle.laws.specs.Choice.{when, firstOf}
 use Rattle.laws.proofs.Tests.{and-true}
+use Rattle.laws.proofs.Choices.{first-zero, when-zero}
+use Rattle.laws.proofs.Connectives.{and-off}
 use Rattle.lines.specs.declared.Frame.{Frame}
 use Rattle.lines.specs.Reading.{IsFrame}
 use Rattle.texts.specs.PlacementTexts.{BARRIER, barrierFault}
-use Rattle.texts.proofs.Faults.{first-zero, when-zero}
-
-and-off : (b : Bool) → (b && false) ≡ false
-and-off true = refl
-and-off false = refl
 
 module _ (last n : ℕ) (x : Frame) (l : List ℕ) (i : IsFrame x l) where
   barrier-is

@@ -1,32 +1,25 @@
 -- Refusals of points, dependences and frames, from the numbers that the reader keeps.
--- Main statements: `point-is`, `dependence-is`, `frame-is`, `first-zero`.
-use mathlib.Core.Path.{_≡_, refl, sym, _∙_, ap}
-use mathlib.Core.Bool.{Bool, true, false, _&&_, _||_, not}
-use mathlib.Core.List.{List}
-use Prim.Native.Nat.{ℕ, zero, suc, _≤_, _<_}
+-- Main statements: `point-is`, `dependence-open`, `dependence-full`, `dependence-own`.
+use mathlib.Core.Path.{_≡_, sym, _∙_}
+use mathlib.Core.Bool.{Bool, true, false, not}
+use Prim.Native.Nat.{ℕ, _≤_, _<_}
 use native.Mathlib.Omega.{arith}
 use lib.Dec.{eqb, leb}
-use lib.ListN.{length, getD}
 use borrow.Author.Tests.{le-leb, lt-leb, eq-eqb, ne-eqb}
-use Rattle.laws.specs.Choice.{pick, when, firstOf}
+use Rattle.laws.specs.Choice.{when, firstOf}
+use Rattle.laws.proofs.Connectives.{or-off}
 use Rattle.nests.specs.Kinds.{DO, POINTS, DEPTH, DEPENDENCES}
 use Rattle.nests.specs.Nests.{Dep, Nest}
 use Rattle.nests.specs.Valid.{depFault}
 use Rattle.texts.specs.NestTexts.{pointFault, dependenceFault}
 use Rattle.texts.specs.Reads.{HasNumbers, closedBy, misplacedBy, tooManyBy}
 
--- a first refusal that is none
-pub first-zero : (a b : ℕ) → firstOf a b ≡ 0 → (a ≡ 0) × (b ≡ 0)
-first-zero zero b h = (refl, h)
-first-zero (suc a) b h = absurd (omega arith)
+-- a line that is not good, and one that is
+pub bad-first : (g : Bool) (x : ℕ) → g ≡ false → firstOf (when (not g) 1) x ≡ 1
+bad-first g x h = rw h
 
-pub when-zero : (t : Bool) (n : ℕ) → when t (suc n) ≡ 0 → t ≡ false
-when-zero true n h = absurd (omega arith)
-when-zero false n h = refl
-
-or-off : (b : Bool) → b ≡ (b || false)
-or-off true = refl
-or-off false = refl
+pub good-first : (g : Bool) (x : ℕ) → g ≡ true → firstOf (when (not g) 1) x ≡ x
+good-first g x h = rw h
 
 -- all points are there
 pub closed-none : (count deep : ℕ) → count ≡ 0 → false ≡ closedBy count deep
@@ -42,7 +35,7 @@ pub misplaced-first : (count deep kind : ℕ) → count ≡ 0 → not (eqb kind 
 misplaced-first count deep kind h = rw h
 
 pub misplaced-later : (count deep kind : ℕ) → (count ≡ 0 → ⊥) → eqb deep 0 ≡ misplacedBy count deep kind
-misplaced-later count deep kind h = rw (← closed-some count deep h, ne-eqb count 0 h) (or-off (eqb deep 0))
+misplaced-later count deep kind h = rw (← closed-some count deep h, ne-eqb count 0 h) (sym (or-off (eqb deep 0)))
 
 -- a point is one too many
 pub too-many : (count deep kind : ℕ) → POINTS ≤ count → true ≡ tooManyBy count deep kind

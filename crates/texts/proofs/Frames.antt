@@ -1,16 +1,16 @@
 -- Frames as the line reader hands them on: which kind they are of, what they refuse, what they add to a nest.
 -- Main statements: `is-point`, `no-point`, `frame-bad`, `frame-point`, `frame-dependence`, `with-point`, `with-dependence`.
-use mathlib.Core.Path.{_≡_, refl, sym, _∙_, ap}
+use mathlib.Core.Path.{_≡_, sym, _∙_, ap}
 use mathlib.Core.Bool.{Bool, true, false, _&&_, _||_, not}
 use mathlib.Core.List.{List, [], _∷_, _++_}
 use mathlib.Core.Logic.{_⊎_, inl, inr}
-use Prim.Native.Nat.{ℕ, zero, suc, _≤_, _<_}
+use Prim.Native.Nat.{ℕ, _≤_, _<_}
 use native.Mathlib.Omega.{arith}
 use lib.Dec.{eqb, leb}
-use lib.ListN.{length, getD}
-use borrow.Author.Tests.{le-leb, lt-leb, leb-true, eq-eqb, ne-eqb}
-use Rattle.laws.specs.Choice.{pick, when, firstOf, between}
-use Rattle.nests.specs.Kinds.{DO, STATEMENT, INDEPENDENT, CARRIED}
+use borrow.Author.Tests.{le-leb, lt-leb, eq-eqb, ne-eqb}
+use Rattle.laws.specs.Choice.{pick, when, firstOf}
+use Rattle.laws.proofs.Connectives.{and-off}
+use Rattle.nests.specs.Kinds.{STATEMENT, INDEPENDENT, CARRIED}
 use Rattle.nests.specs.Nests.{Dep, dep, Nest, nest}
 use Rattle.lines.specs.declared.Frame.{Frame}
 use Rattle.lines.specs.Reading.{IsFrame}
@@ -21,10 +21,6 @@ pub is-point : (k : ℕ) → 1 ≤ k → k < 4 → isPoint k ≡ true
 is-point k h g =
     let z : k ≤ STATEMENT = omega arith in
     rw (le-leb 1 k h, le-leb k 3 z)
-
-and-off : (b : Bool) → (b && false) ≡ false
-and-off true = refl
-and-off false = refl
 
 pub no-point : (k : ℕ) → (k < 1) ⊎ (4 ≤ k) → isPoint k ≡ false
 no-point k (inl h) = rw (lt-leb 1 k h)

@@ -1,17 +1,17 @@
 -- Nest texts read line by line: what a turn of the reader keeps, and one law for each way through a turn.
 -- Main statements: `begun`, `at-end`, `at-refusal`, `at-fault`, `has-room`, `on`.
 use mathlib.Core.Path.{_≡_, refl, sym, _∙_, ap}
-use mathlib.Core.Bool.{Bool, true, false, _&&_, _||_, not}
+use mathlib.Core.Bool.{Bool, true, false, _&&_, not}
 use mathlib.Core.List.{List, [], _∷_, _++_}
-use mathlib.Core.Logic.{_⊎_, inl, inr}
-use Prim.Native.Nat.{ℕ, zero, suc, _+_, _-_, _^_, _≤_, _<_}
+use Prim.Native.Nat.{ℕ, suc, _+_, _-_, _^_, _≤_, _<_}
 use native.Mathlib.Numerals.{add-one}
 use native.Mathlib.Omega.{arith}
 use lib.Dec.{eqb, leb}
-use lib.ListN.{length, getD, take, drop, length-take, length-append}
-use borrow.Author.Tests.{leb-false, eq-eqb, ne-eqb}
+use lib.ListN.{length, take, drop, length-take}
+use borrow.Author.Tests.{leb-false, ne-eqb}
 use Rattle.laws.specs.Choice.{pick, when, firstOf}
 use Rattle.laws.proofs.Tests.{or-false, never}
+use Rattle.laws.proofs.Choices.{first-zero, when-zero}
 use Rattle.nests.specs.Kinds.{DO, ENDDO, POINTS, DEPTH, DEPENDENCES}
 use Rattle.nests.specs.Nests.{Dep, Nest, nest, empty}
 use Rattle.nests.specs.Loops.{deeper, depthFrom, depth, isClosed}
@@ -21,18 +21,14 @@ use Rattle.nests.specs.declared.Nest as DN
 use Rattle.lines.specs.declared.Frame.{Frame}
 use Rattle.lines.specs.declared.Read.the-variants as RV
 use Rattle.lines.specs.Lines.{Line, linesOf, isGood, frameOf}
-use Rattle.lines.specs.Reading.{IsFrame, lineAt}
-use Rattle.lines.proofs.Reading.{no-line, bad-line, good-line, Bad-line, Good-line}
+use Rattle.lines.specs.Reading.{lineAt}
+use Rattle.lines.proofs.Reading.{no-line, bad-line, good-line, Good-line}
 use Rattle.texts.specs.declared.Reading.{Reading}
-use Rattle.texts.specs.NestTexts.{isPoint, kindOf, kindGood, depOf, pointFault, dependenceFault, frameFault, withFrame, lineFault, Got, got, readLines, readNest}
+use Rattle.texts.specs.NestTexts.{isPoint, kindOf, kindGood, depOf, pointFault, dependenceFault, frameFault, withFrame, lineFault, got, readLines, readNest}
 use Rattle.texts.specs.Reads.{IsRead, RefusedAs, EndedAs, HasNumbers, closedBy, misplacedBy, tooManyBy, FrameFault, HasRoom, FrameAdded}
-use Rattle.texts.proofs.Faults.{first-zero, when-zero}
+use Rattle.texts.proofs.Shapes.{depth-more}
+use Rattle.texts.proofs.Faults.{bad-first, good-first}
 use Rattle.texts.proofs.Frames.{is-point}
-
--- the depth after one point more
-depth-append : (d : ℕ) (ps : List ℕ) (k : ℕ) → depthFrom d (ps ++ (k ∷ [])) ≡ deeper (depthFrom d ps) k
-depth-append d [] k = refl
-depth-append d (p ∷ ps) k = depth-append (deeper d p) ps k
 
 -- the depth is at most the number of points
 deeper-grows : (d p : ℕ) → deeper d p ≤ suc d
@@ -62,15 +58,15 @@ depth-with n l = go (isPoint (kindOf l)) refl
         → isPoint (kindOf l) ≡ t
         → depth (pick t (nest (n .points ++ (kindOf l ∷ [])) (n .deps)) (nest (n .points) (n .deps ++ (depOf l ∷ []))) .points)
         ≡ deeper (depth (n .points)) (kindOf l)
-    go true e = depth-append 0 (n .points) (kindOf l)
+    go true e = depth-more (n .points) (kindOf l)
     go false e = sym (stays-deep (depth (n .points)) (kindOf l) e)
 
 -- a line's refusal
 fault-bad : (n : Nest) (l : Line) → isGood l ≡ false → lineFault n l ≡ 1
-fault-bad n l h = ap (λ (b : Bool). firstOf (when (not b) 1) (frameFault n (frameOf (l .bytes)))) h
+fault-bad n l h = bad-first (isGood l) (frameFault n (frameOf (l .bytes))) h
 
 fault-good : (n : Nest) (l : Line) → isGood l ≡ true → lineFault n l ≡ frameFault n (frameOf (l .bytes))
-fault-good n l h = ap (λ (b : Bool). firstOf (when (not b) 1) (frameFault n (frameOf (l .bytes)))) h
+fault-good n l h = good-first (isGood l) (frameFault n (frameOf (l .bytes))) h
 
 -- a frame that is not refused has room
 point-room : (n : Nest) (k : ℕ) → pointFault n k ≡ 0 → length (n .points) < POINTS

@@ -1,33 +1,34 @@
 -- Placement texts read line by line: what a turn of the reader keeps, and one law for each way through a turn.
 -- Main statements: `placing`, `placed-all`, `placed-bad`, `placed-fault`, `place-on`.
 use mathlib.Core.Path.{_≡_, refl, sym, _∙_, ap}
-use mathlib.Core.Bool.{Bool, true, false, _||_, not}
+use mathlib.Core.Bool.{true, false, _||_}
 use mathlib.Core.List.{List, [], _∷_, _++_}
-use Prim.Native.Nat.{ℕ, zero, suc, _+_, _≤_, _<_}
+use Prim.Native.Nat.{ℕ, suc, _+_, _≤_, _<_}
 use native.Mathlib.Numerals.{add-one}
 use native.Mathlib.Omega.{arith}
 use lib.Dec.{eqb}
 use lib.ListN.{length, getD, drop}
 use borrow.Author.Tests.{ne-eqb}
-use Rattle.laws.specs.Choice.{pick, when, firstOf}
+use Rattle.laws.specs.Choice.{pick}
 use Rattle.lines.specs.declared.Frame.{Frame}
 use Rattle.lines.specs.declared.Read.the-variants as RV
 use Rattle.lines.specs.Lines.{Line, linesOf, isGood, frameOf}
-use Rattle.lines.specs.Reading.{IsFrame, lineAt}
-use Rattle.lines.proofs.Reading.{no-line, bad-line, good-line, Bad-line, Good-line}
+use Rattle.lines.specs.Reading.{lineAt}
+use Rattle.lines.proofs.Reading.{no-line, bad-line, good-line, Good-line}
 use Rattle.placements.specs.Words.{GAPS, holds, gapsIn}
 use Rattle.placements.proofs.Words.{gaps-none, gaps-put-last}
 use Rattle.texts.specs.declared.PlacementReading.{PlacementReading}
 use Rattle.texts.specs.PlacementTexts.{barrierFault, placedFault, placed, placeLines, readPlacement}
 use Rattle.texts.specs.Reads.{IsPlaced, UnplacedAs, BarrierFault}
+use Rattle.texts.proofs.Faults.{bad-first, good-first}
 use Rattle.texts.proofs.Barriers.{barrier-rises}
 
 -- a line's refusal
 fault-bad : (last n : ℕ) (l : Line) → isGood l ≡ false → placedFault last n l ≡ 1
-fault-bad last n l h = ap (λ (b : Bool). firstOf (when (not b) 1) (barrierFault last n (frameOf (l .bytes)))) h
+fault-bad last n l h = bad-first (isGood l) (barrierFault last n (frameOf (l .bytes))) h
 
 fault-good : (last n : ℕ) (l : Line) → isGood l ≡ true → placedFault last n l ≡ barrierFault last n (frameOf (l .bytes))
-fault-good last n l h = ap (λ (b : Bool). firstOf (when (not b) 1) (barrierFault last n (frameOf (l .bytes)))) h
+fault-good last n l h = good-first (isGood l) (barrierFault last n (frameOf (l .bytes))) h
 
 -- the gap of a line's frame
 gapOf : Line → ℕ

@@ -4,9 +4,6 @@ use Rattle.lines.proofs.Digits.{digits-none, digits-odd, digits-are}
 use borrow.Author.Needs.{needs}
 use Rattle.lines.proofs.is_digits.Statement.{statement}
 use Rattle.lines.proofs.is_digits.Tie as tie
-use Rattle.lines.proofs.is_digits.Reads as reads
-use Rattle.lines.proofs.is_digits.Lts as lts
-use Rattle.lines.proofs.all_hex.Reads as all-hex-reads
 
 returns : tie.Need-returns
 returns c = sym (digits-none (c .before .before .args .line .now) (c .if1 .taken))
@@ -19,7 +16,8 @@ all-hex-requires c κs = search needs
 
 returns-3 : tie.Need-returns-3
 returns-3 c =
-    c .all-hex .ensures ∙ sym (digits-are (c .before .before .before .before .args .line .now) (c .before .before .if1 .left) (c .before .if2 .left))
+    let l = c .before .before .before .before .args .line .now in
+    c .all-hex .ensures ∙ sym (digits-are l (c .before .before .if1 .left) (c .before .if2 .left))
 
 pub is-digits-spec : {M : Type 1} → statement M
 is-digits-spec = tie.close (tie.spec returns returns-2 all-hex-requires returns-3)

@@ -3,8 +3,6 @@ use mathlib.Core.Path.{sym}
 use Rattle.lines.proofs.Digits.{hex-low, hex-number, hex-gap, hex-letter}
 use Rattle.lines.proofs.is_hex.Statement.{statement}
 use Rattle.lines.proofs.is_hex.Tie as tie
-use Rattle.lines.proofs.is_hex.Reads as reads
-use Rattle.lines.proofs.is_hex.Lts as lts
 
 returns : tie.Need-returns
 returns c = sym (hex-low (c .before .args .b) (c .if1 .taken))

@@ -1,6 +1,6 @@
 -- After i bytes the buffer holds their digits over what it held.
-use mathlib.Core.Path.{_≡_, refl, sym, _∙_, ap}
-use Prim.Native.Nat.{_+_, _-_, _≤_}
+use mathlib.Core.Path.{_≡_, refl}
+use Prim.Native.Nat.{_-_, _≤_}
 use native.Mathlib.Omega.{arith}
 use lib.ListN.{length, take, length-set}
 use Rattle.lines.specs.Lines.{digitsOf}
@@ -8,9 +8,6 @@ use Rattle.lines.specs.Writing.{over}
 use Rattle.lines.proofs.Writing.{text-length, byte-on, feed-on}
 use Rattle.lines.proofs.put_frame.Statement.{statement}
 use Rattle.lines.proofs.put_frame.Tie as tie
-use Rattle.lines.proofs.put_frame.Reads as reads
-use Rattle.lines.proofs.put_frame.Lts as lts
-use Rattle.lines.proofs.digit.Reads as digit-reads
 
 abbrev Inv-loop : tie.InvT-loop
 Inv-loop out₀ frame i₀ out i =
@@ -44,7 +41,9 @@ add-out : tie.Need-add-out Inv-loop μ-loop
 add-out c = omega (arith, text-length (c .before .before .before .before .before .before .before .args .frame .now))
 
 slice-write-out-2 : tie.Need-slice-write-out-2 Inv-loop μ-loop
-slice-write-out-2 c = simp length-set (omega (arith, text-length (c .before .before .before .before .before .before .before .args .frame .now)))
+slice-write-out-2 c =
+    let a = c .before .before .before .before .before .before .before .args in
+    simp length-set (omega (arith, text-length (a .frame .now)))
 
 add-i : tie.Need-add-i Inv-loop μ-loop
 add-i c = omega arith

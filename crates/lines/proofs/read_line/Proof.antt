@@ -1,19 +1,15 @@
 -- The line is judged whole, then its frame's first bytes are read: one law for each answer.
 use mathlib.Core.Path.{_≡_, sym, _∙_}
 use mathlib.Core.Bool.{true}
-use Prim.Native.Nat.{_-_}
+use mathlib.Core.List.{List}
+use Prim.Native.Nat.{ℕ, _-_}
 use lib.ListN.{take, drop}
 use Rattle.lines.specs.Lines.{allHex}
-use Rattle.lines.proofs.Digits.{digits-hex}
+use Rattle.lines.proofs.Digits.{digits-all-hex}
 use Rattle.lines.proofs.Reading.{past-end, unended, not-digits, is-frame}
 use borrow.Author.Needs.{needs}
 use Rattle.lines.proofs.read_line.Statement.{statement}
 use Rattle.lines.proofs.read_line.Tie as tie
-use Rattle.lines.proofs.read_line.Reads as reads
-use Rattle.lines.proofs.read_line.Lts as lts
-use Rattle.lines.proofs.byte_at.Reads as byte-at-reads
-use Rattle.lines.proofs.is_digits.Reads as is-digits-reads
-use Rattle.lines.proofs.line_end.Reads as line-end-reads
 
 returns : tie.Need-returns
 returns c = past-end (c .before .before .args .text .now) (c .before .before .args .at) (c .if1 .taken)
@@ -24,7 +20,8 @@ line-end-requires c κs = search needs
 returns-2 : tie.Need-returns-2
 returns-2 c =
     let s = c .before .before .before .before in
-    unended (s .args .text .now) (s .args .at) (c .before .line-end .result) (c .before .before .if1 .left) (c .before .line-end .ensures) (c .if2 .taken)
+    let e = c .before .line-end in
+    unended (s .args .text .now) (s .args .at) (e .result) (c .before .before .if1 .left) (e .ensures) (c .if2 .taken)
 
 sub-line : tie.Need-sub-line
 sub-line c = search needs
@@ -38,23 +35,30 @@ part-line-end c = search needs
 is-digits-requires : tie.Need-is-digits-requires
 is-digits-requires c κs = search needs
 
-of-digits : (c : tie.Then3)
-    → allHex (take (c .before .before .before .before .line-end .result - c .before .before .before .before .before .before .before .args .at) (drop (c .before .before .before .before .before .before .before .args .at) (c .before .before .before .before .before .before .before .args .text .now))) ≡ true
-of-digits c =
-    digits-hex
-    (take (c .before .before .before .before .line-end .result - c .before .before .before .before .before .before .before .args .at) (drop (c .before .before .before .before .before .before .before .args .at) (c .before .before .before .before .before .before .before .args .text .now)))
-    (sym (c .before .is-digits .ensures) ∙ c .if3 .taken)
+-- the line that was judged
+lineIn : tie.Then3 → List ℕ
+lineIn c =
+    let a = c .before .before .before .before .before .before .before .args in
+    take (c .before .before .before .before .line-end .result - a .at) (drop (a .at) (a .text .now))
+
+of-digits : (c : tie.Then3) → allHex (lineIn c) ≡ true
+unfolding lineIn
+of-digits c = digits-all-hex (lineIn c) (sym (c .before .is-digits .ensures) ∙ c .if3 .taken)
 
 byte-at-requires : tie.Need-byte-at-requires
+unfolding lineIn
 byte-at-requires c κs = of-digits c
 
 byte-at-requires-2 : tie.Need-byte-at-requires-2
+unfolding lineIn
 byte-at-requires-2 c κs = of-digits (c .before)
 
 byte-at-requires-3 : tie.Need-byte-at-requires-3
+unfolding lineIn
 byte-at-requires-3 c κs = of-digits (c .before .before)
 
 byte-at-requires-4 : tie.Need-byte-at-requires-4
+unfolding lineIn
 byte-at-requires-4 c κs = of-digits (c .before .before .before)
 
 add-t17 : tie.Need-add-t17

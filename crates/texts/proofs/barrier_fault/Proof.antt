@@ -3,26 +3,27 @@ use Rattle.texts.proofs.Barriers.{barrier-kind, barrier-length, barrier
 use borrow.Author.Needs.{needs}
 use Rattle.texts.proofs.barrier_fault.Statement.{statement}
 use Rattle.texts.proofs.barrier_fault.Tie as tie
-use Rattle.texts.proofs.barrier_fault.Reads as reads
-use Rattle.texts.proofs.barrier_fault.Lts as lts
 
 cast-g : tie.Need-cast-g
 cast-g c = search needs
 
 returns : tie.Need-returns
 returns c l i =
-    let s = c .before .before .before .before .before in
-    barrier-low (s .args .last) (s .args .points) (s .args .f) l i (c .before .before .before .before .match .keys1) (c .before .before .if1 .taken) (c .if2 .taken)
+    let a = c .before .before .before .before .before .args in
+    let k = c .before .before .before .before .match .keys1 in
+    barrier-low (a .last) (a .points) (a .f) l i k (c .before .before .if1 .taken) (c .if2 .taken)
 
 returns-2 : tie.Need-returns-2
 returns-2 c l i =
-    let s = c .before .before .before .before .before .before in
-    barrier-high (s .args .last) (s .args .points) (s .args .f) l i (c .before .before .before .before .before .match .keys1) (c .before .before .before .if1 .taken) (c .if3 .taken)
+    let a = c .before .before .before .before .before .before .args in
+    let k = c .before .before .before .before .before .match .keys1 in
+    barrier-high (a .last) (a .points) (a .f) l i k (c .before .before .before .if1 .taken) (c .if3 .taken)
 
 returns-3 : tie.Need-returns-3
 returns-3 c l i =
-    let s = c .before .before .before .before .before .before in
-    barrier-good (s .args .last) (s .args .points) (s .args .f) l i (c .before .before .before .before .before .match .keys1) (c .before .before .before .if1 .taken) (c .before .if2 .left) (c .if3 .left)
+    let a = c .before .before .before .before .before .before .args in
+    let k = c .before .before .before .before .before .match .keys1 in
+    barrier-good (a .last) (a .points) (a .f) l i k (c .before .before .before .if1 .taken) (c .before .if2 .left) (c .if3 .left)
 
 returns-4 : tie.Need-returns-4
 returns-4 c l i =

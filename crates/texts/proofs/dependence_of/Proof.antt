@@ -2,8 +2,6 @@
 use Rattle.texts.proofs.Frames.{independent-is, carried-is}
 use Rattle.texts.proofs.dependence_of.Statement.{statement}
 use Rattle.texts.proofs.dependence_of.Tie as tie
-use Rattle.texts.proofs.dependence_of.Reads as reads
-use Rattle.texts.proofs.dependence_of.Lts as lts
 
 returns : tie.Need-returns
 returns c l i = independent-is (c .before .before .args .f) l i (c .if1 .taken)

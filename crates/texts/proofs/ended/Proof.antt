@@ -3,10 +3,6 @@ use mathlib.Core.Path.{sym, _∙_}
 use borrow.Author.Needs.{needs}
 use Rattle.texts.proofs.ended.Statement.{statement}
 use Rattle.texts.proofs.ended.Tie as tie
-use Rattle.texts.proofs.ended.Reads as reads
-use Rattle.texts.proofs.ended.Lts as lts
-use Rattle.texts.proofs.is_closed.Reads as is-closed-reads
-use Rattle.texts.proofs.refused.Reads as refused-reads
 
 is-closed-requires : tie.Need-is-closed-requires
 is-closed-requires c κs = search needs
@@ -15,7 +11,11 @@ refused-requires : tie.Need-refused-requires
 refused-requires c κs = search needs
 
 returns : tie.Need-returns
-returns c = record { got-is = rw (sym (c .before .is-closed .ensures) ∙ c .if1 .taken); counted = c .before .before .pre }
+returns c =
+    record {
+      got-is = rw (sym (c .before .is-closed .ensures) ∙ c .if1 .taken);
+      counted = c .before .before .pre;
+    }
 
 returns-2 : tie.Need-returns-2
 returns-2 c =

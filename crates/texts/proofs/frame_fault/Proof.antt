@@ -9,14 +9,11 @@ use Rattle.texts.proofs.Frames.{good-carried, bad-carried, bad-kind, fr
 use borrow.Author.Needs.{needs}
 use Rattle.texts.proofs.frame_fault.Statement.{statement}
 use Rattle.texts.proofs.frame_fault.Tie as tie
-use Rattle.texts.proofs.frame_fault.Reads as reads
-use Rattle.texts.proofs.frame_fault.Lts as lts
-use Rattle.texts.proofs.dependence_fault.Reads as dependence-fault-reads
-use Rattle.texts.proofs.dependence_of.Reads as dependence-of-reads
-use Rattle.texts.proofs.point_fault.Reads as point-fault-reads
 
 slice-aggregate-points : tie.Need-slice-aggregate-points
-slice-aggregate-points c = sym (length-take-le (c .before .before .args .count) (c .before .before .args .all .now) (c .before .before .pre))
+slice-aggregate-points c =
+    let s = c .before .before in
+    sym (length-take-le (s .args .count) (s .args .all .now) (s .pre))
 
 dependence-of-requires : tie.Need-dependence-of-requires
 dependence-of-requires c κs = search needs
@@ -75,14 +72,16 @@ returns-5 : tie.Need-returns-5
 returns-5 c n l p h i =
     let s = c .before .before .before .before .before .before .before .before in
     let x = s .args .f in
+    let low = c .before .before .before .before .if3 .left in
+    let high = c .before .before .before .if4 .taken in
     frame-point
     n
     x
     l
     i
     (c .point-fault .result)
-    (good-point (x .kind) (x .len) (c .before .before .before .before .if3 .left) (c .before .before .before .if4 .taken) (c .before .if5 .taken))
-    (is-point (x .kind) (c .before .before .before .before .if3 .left) (c .before .before .before .if4 .taken))
+    (good-point (x .kind) (x .len) low high (c .before .if5 .taken))
+    (is-point (x .kind) low high)
     (c .point-fault .ensures n (record {
       count-is = h .count-is ∙ length-take-le (s .args .count) (s .args .all .now) (s .pre);
       many-is = h .many-is;
@@ -92,7 +91,9 @@ returns-5 c n l p h i =
 returns-6 : tie.Need-returns-6
 returns-6 c n l p h i =
     let x = c .before .before .before .before .before .before .before .args .f in
-    frame-bad n x l i (bad-point (x .kind) (x .len) (c .before .before .before .if3 .left) (c .before .before .if4 .taken) (c .if5 .left))
+    let low = c .before .before .before .if3 .left in
+    let high = c .before .before .if4 .taken in
+    frame-bad n x l i (bad-point (x .kind) (x .len) low high (c .if5 .left))
 
 returns-7 : tie.Need-returns-7
 returns-7 c n l p h i =

@@ -2,8 +2,6 @@
 use Rattle.texts.proofs.Faults.{closed-none, closed-some}
 use Rattle.texts.proofs.is_closed.Statement.{statement}
 use Rattle.texts.proofs.is_closed.Tie as tie
-use Rattle.texts.proofs.is_closed.Reads as reads
-use Rattle.texts.proofs.is_closed.Lts as lts
 
 returns : tie.Need-returns
 returns c = closed-none (c .before .args .count) (c .before .args .depth) (c .if1 .taken)

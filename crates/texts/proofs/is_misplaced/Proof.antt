@@ -2,8 +2,6 @@
 use Rattle.texts.proofs.Faults.{misplaced-first, misplaced-later}
 use Rattle.texts.proofs.is_misplaced.Statement.{statement}
 use Rattle.texts.proofs.is_misplaced.Tie as tie
-use Rattle.texts.proofs.is_misplaced.Reads as reads
-use Rattle.texts.proofs.is_misplaced.Lts as lts
 
 returns : tie.Need-returns
 returns c = misplaced-first (c .before .args .count) (c .before .args .depth) (c .before .args .kind) (c .if1 .taken)

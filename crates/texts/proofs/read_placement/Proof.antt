@@ -7,13 +7,6 @@ use lib.ListN.{length}
 use Rattle.texts.proofs.Placing.{Placing, placing, placed-all, placed-bad, placed-fault, next-inside, place-on}
 use Rattle.texts.proofs.read_placement.Statement.{statement}
 use Rattle.texts.proofs.read_placement.Tie as tie
-use Rattle.texts.proofs.read_placement.Reads as reads
-use Rattle.texts.proofs.read_placement.Lts as lts
-use Rattle.lines.proofs.read_line.Reads as read-line-reads
-use Rattle.placements.proofs.Placement.empty.Reads as empty-reads
-use Rattle.placements.proofs.Placement.put.Reads as put-reads
-use Rattle.texts.proofs.barrier_fault.Reads as barrier-fault-reads
-use Rattle.texts.proofs.unplaced.Reads as unplaced-reads
 
 abbrev Inv-loop : tie.InvT-loop
 Inv-loop points text placement₀ last₀ at₀ line₀ placement last at line =
@@ -26,7 +19,9 @@ empty-requires : tie.Need-empty-requires Inv-loop μ-loop
 empty-requires c κs = tt
 
 loop-holds : tie.Need-loop-holds Inv-loop μ-loop
-loop-holds c = placing (c .before .before .args .points) (c .before .before .args .text .now) (c .empty .result .words) (c .empty .ensures)
+loop-holds c =
+    let s = c .before .before in
+    placing (s .args .points) (s .args .text .now) (c .empty .result .words) (c .empty .ensures)
 
 read-line-requires : tie.Need-read-line-requires Inv-loop μ-loop
 read-line-requires c κs = tt
@@ -36,8 +31,10 @@ enum-told c = c .match .keys1
 
 returns : tie.Need-returns Inv-loop μ-loop
 returns c =
-    let s = c .before .before .before .before .before .before in
-    let l = c .before .before .before .loop in
+    let r = c .before .before in
+    let l = r .before .loop in
+    let s = r .before .before .before .before in
+    let e = sym (r .read-line .ensures) ∙ c .enum-told .given .1 in
     record {
       placed-is =
           placed-all
@@ -48,7 +45,7 @@ returns c =
           (l .at)
           (l .line)
           (l .inv)
-          (sym (c .before .before .read-line .ensures) ∙ c .enum-told .given .1);
+          e;
     }
 
 enum-known-next : tie.Need-enum-known-next Inv-loop μ-loop
@@ -59,9 +56,10 @@ unplaced-requires c κs = tt
 
 returns-2 : tie.Need-returns-2 Inv-loop μ-loop
 returns-2 c =
-    let s = c .before .before .before .before .before .before .before .before in
-    let l = c .before .before .before .before .before .loop in
-    let k = c .before .before .next in
+    let n = c .before .before .next in
+    let r = c .before .before .before .before in
+    let l = r .before .loop in
+    let s = r .before .before .before .before in
     placed-bad
     (s .args .points)
     (s .args .text .now)
@@ -70,9 +68,9 @@ returns-2 c =
     (l .at)
     (l .line)
     (l .inv)
-    (k .given .0 .0)
+    (n .given .0 .0)
     (c .unplaced .result)
-    (sym (c .before .before .before .before .read-line .ensures) ∙ k .given .1)
+    (sym (r .read-line .ensures) ∙ n .given .1)
     (c .unplaced .ensures)
 
 enum-known-next-2 : tie.Need-enum-known-next-2 Inv-loop μ-loop
@@ -86,9 +84,11 @@ unplaced-requires-2 c κs = tt
 
 returns-3 : tie.Need-returns-3 Inv-loop μ-loop
 returns-3 c =
-    let s = c .before .before .before .before .before .before .before .before .before .before in
-    let l = c .before .before .before .before .before .before .before .loop in
-    let f = c .before .before .before .before .next2 in
+    let k = c .before .before in
+    let f = k .before .before .next2 in
+    let r = k .before .before .before .before in
+    let l = r .before .loop in
+    let s = r .before .before .before .before in
     placed-fault
     (s .args .points)
     (s .args .text .now)
@@ -98,9 +98,9 @@ returns-3 c =
     (l .line)
     (l .inv)
     (f .given .0 .0)
-    (sym (c .before .before .before .before .before .before .read-line .ensures) ∙ f .given .1)
-    (c .before .before .barrier-fault .result)
-    (c .before .before .barrier-fault .ensures)
+    (sym (r .read-line .ensures) ∙ f .given .1)
+    (k .barrier-fault .result)
+    (k .barrier-fault .ensures)
     (c .unplaced2 .result)
     (c .before .if1 .taken)
     (c .unplaced2 .ensures)
@@ -113,14 +113,18 @@ put-requires c κs = omega arith
 
 add-line : tie.Need-add-line Inv-loop μ-loop
 add-line c =
-    let l = c .before .before .before .before .before .before .before .before .loop in
-    omega (arith, l .inv .inside, l .inv .lines, c .before .before .before .before .before .before .before .before .before .before .before .good)
+    let r = c .before .before .before .before .before .before .before in
+    let l = r .before .loop in
+    let s = r .before .before .before .before in
+    omega (arith, l .inv .inside, l .inv .lines, s .good)
 
 loop-less : tie.Need-loop-less Inv-loop μ-loop
 loop-less c =
-    let s = c .before .before .before .before .before .before .before .before .before .before .before in
-    let l = c .before .before .before .before .before .before .before .before .loop in
-    let f = c .before .before .before .before .before .next2 in
+    let k = c .before .before .before in
+    let f = k .before .before .next2 in
+    let r = k .before .before .before .before in
+    let l = r .before .loop in
+    let s = r .before .before .before .before in
     let n = next-inside
     (s .args .points)
     (s .args .text .now)
@@ -130,16 +134,18 @@ loop-less c =
     (l .line)
     (l .inv)
     (f .given .0 .0)
-    (sym (c .before .before .before .before .before .before .before .read-line .ensures) ∙ f .given .1)
-    (c .before .before .before .barrier-fault .result)
-    (c .before .before .before .barrier-fault .ensures) in
+    (sym (r .read-line .ensures) ∙ f .given .1)
+    (k .barrier-fault .result)
+    (k .barrier-fault .ensures) in
     omega (arith, n .0, n .1)
 
 loop-again : tie.Need-loop-again Inv-loop μ-loop
 loop-again c =
-    let s = c .before .before .before .before .before .before .before .before .before .before .before in
-    let l = c .before .before .before .before .before .before .before .before .loop in
-    let f = c .before .before .before .before .before .next2 in
+    let k = c .before .before .before in
+    let f = k .before .before .next2 in
+    let r = k .before .before .before .before in
+    let l = r .before .loop in
+    let s = r .before .before .before .before in
     place-on
     (s .args .points)
     (s .args .text .now)
@@ -149,9 +155,9 @@ loop-again c =
     (l .line)
     (l .inv)
     (f .given .0 .0)
-    (sym (c .before .before .before .before .before .before .before .read-line .ensures) ∙ f .given .1)
-    (c .before .before .before .barrier-fault .result)
-    (c .before .before .before .barrier-fault .ensures)
+    (sym (r .read-line .ensures) ∙ f .given .1)
+    (k .barrier-fault .result)
+    (k .barrier-fault .ensures)
     (c .put .result .words)
     (c .before .before .if1 .left)
     (omega arith)

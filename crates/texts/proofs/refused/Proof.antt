@@ -4,9 +4,6 @@ use Rattle.texts.specs.NestTexts.{got}
 use borrow.Author.Needs.{needs}
 use Rattle.texts.proofs.refused.Statement.{statement}
 use Rattle.texts.proofs.refused.Tie as tie
-use Rattle.texts.proofs.refused.Reads as reads
-use Rattle.texts.proofs.refused.Lts as lts
-use Rattle.nests.proofs.Nest.empty.Reads as empty-reads
 
 empty-requires : tie.Need-empty-requires
 empty-requires c κs = search needs

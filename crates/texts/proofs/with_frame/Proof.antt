@@ -8,15 +8,11 @@ use Rattle.texts.proofs.Frames.{is-point, no-point, with-point, with-de
 use borrow.Author.Needs.{needs}
 use Rattle.texts.proofs.with_frame.Statement.{statement}
 use Rattle.texts.proofs.with_frame.Tie as tie
-use Rattle.texts.proofs.with_frame.Reads as reads
-use Rattle.texts.proofs.with_frame.Lts as lts
-use Rattle.nests.proofs.Nest.with_dependence.Reads as with-dependence-reads
-use Rattle.nests.proofs.Nest.with_point.Reads as with-point-reads
-use Rattle.texts.proofs.dependence_of.Reads as dependence-of-reads
 
 with-point-requires : tie.Need-with-point-requires
 with-point-requires c κs =
-    (c .before .before .pre .counted, c .before .before .pre .for-point (is-point (c .before .before .args .f .kind) (c .before .if1 .left) (c .if2 .taken)))
+    let s = c .before .before in
+    (s .pre .counted, s .pre .for-point (is-point (s .args .f .kind) (c .before .if1 .left) (c .if2 .taken)))
 
 dependence-of-requires : tie.Need-dependence-of-requires
 dependence-of-requires c κs = search needs
@@ -32,24 +28,22 @@ with-dependence-requires c κs = (c .before .before .pre .counted, c .before .be
 
 returns : tie.Need-returns
 returns c =
-    let s = c .before .before .before in
+    let a = c .before .before .before .args in
     let e = c .with-point .ensures in
+    let is = is-point (a .f .kind) (c .before .before .if1 .left) (c .before .if2 .taken) in
     record {
-      nest-is =
-          λ l i. e .nest-is
-          ∙ with-point (nestIn (s .args .nest)) (s .args .f) l i (is-point (s .args .f .kind) (c .before .before .if1 .left) (c .before .if2 .taken));
+      nest-is = λ l i. e .nest-is ∙ with-point (nestIn (a .nest)) (a .f) l i is;
       counted = e .counted;
     }
 
 returns-2 : tie.Need-returns-2
 returns-2 c =
-    let s = c .before .before .before in
+    let a = c .before .before .before .args in
     let e = c .with-dependence .ensures in
     let d = c .before .dependence-of in
     record {
       nest-is =
-          λ l i. e .nest-is
-          ∙ with-dependence (nestIn (s .args .nest)) (s .args .f) l i (depIn (d .result)) (other (c .before)) (d .ensures l i);
+          λ l i. e .nest-is ∙ with-dependence (nestIn (a .nest)) (a .f) l i (depIn (d .result)) (other (c .before)) (d .ensures l i);
       counted = e .counted;
     }
 
