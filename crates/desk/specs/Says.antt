@@ -54,6 +54,12 @@ pub record PlanSays (d : DD.Desk) (r : DR.Reply) : Type 0 where
   pub line-is : r .line ≡ 0
   pub desk-is : pickT (eqb (stateFault false (deskIn d)) 0) (PlannedAs (deskIn d .nest-is) (r .desk)) (r .desk ≡ d)
 
+-- an answer that refuses
+pub record RefusedAs (number : ℕ) (r : DA.Answer) : Type 0 where
+  pub number-is : r .number ≡ number
+  pub line-is : r .line ≡ 0
+  pub value-is : r .value ≡ 0
+
 -- Count: 10, 11, 6; the loop's count in the key
 abbrev pub countFault : Desk → ℕ → ℕ
 countFault x p = firstOf (stateFault true x) (when (not (isDo (x .nest-is .points) p)) 6)

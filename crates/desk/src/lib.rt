@@ -1,8 +1,17 @@
 // The marking desk: one nest and at most one key. A desk comes only from these calls; each takes it by value.
 ghost use mathlib.Core.Path.{_≡_};
 ghost use Rattle.desk.specs.Desks.{IsMade};
-ghost use Rattle.desk.specs.Says.{EmptySays, LoadSays};
+ghost use mathlib.Core.Bool.{true, not};
+ghost use Rattle.laws.specs.Choice.{when, firstOf};
+ghost use Rattle.nests.specs.Valid.{isValid};
+ghost use Rattle.nests.specs.Stored.{nestIn, IsCounted};
+ghost use Rattle.placements.specs.Placements.{areGaps};
+ghost use Rattle.placements.specs.Words.{gapsIn};
+ghost use Rattle.placements.specs.Verdicts.{markOf};
+ghost use Rattle.desk.specs.Says.{EmptySays, LoadSays, CountSays, MarkSays, WriteSays, RefusedAs, verdictIn};
 use nests::Nest;
+use placements::Compared;
+use placements::Counts;
 use placements::Placement;
 
 // A desk: whether there is a nest, the nest, whether there is a key, the key.
@@ -33,17 +42,10 @@ pub struct Fault {
     pub line: usize,
 }
 
-// The loop of DO d with their count and ours.
-pub struct Difference {
-    pub d: usize,
-    pub theirs: usize,
-    pub ours: usize,
-}
-
 // What the desk says of a placement: the first uncut dependence, or the first loop that is dearer, or best.
 pub enum Verdict {
     Uncut(usize),
-    Dearer(Difference),
+    Dearer(Counts),
     Best,
 }
 
@@ -92,9 +94,119 @@ pub fn load_nest(desk: Desk, text: &[u8]) -> Reply
     }
 }
 
+// The barriers of the key at the own gaps of the loop of DO `point`. Numbers 10, 11, 6.
+pub fn loop_count(desk: Desk, point: usize) -> Answer
+    requires { ⌜ IsMade desk ⌝ }
+    ensures { λ r. ⌜ CountSays desk point r ⌝ }
+{
+    let number = key_fault(desk.loaded, desk.planned);
+    if number != 0 {
+        return refused(number);
+    }
+    let nest = desk.nest;
+    let count = nest.count;
+    let points = nest.points;
+    let key = desk.key;
+    if nests::is_do(&points[..count], point) {
+        return Answer {
+            number: 0,
+            line: 0,
+            value: placements::count_of(&points[..count], point, key),
+        };
+    }
+    refused(6)
+}
+
+// Reads a placement text and says how it stands beside the key. Numbers 10, 11, then 1, 2, 8 with their line.
+pub fn mark_placement(desk: Desk, text: &[u8]) -> Marked
+    requires { ⌜ IsMade desk ⌝ }
+    ensures { λ r. ⌜ MarkSays desk (now (text .entry)) r ⌝ }
+{
+    let number = key_fault(desk.loaded, desk.planned);
+    if number != 0 {
+        return Marked::Refused(Fault {
+            number: number,
+            line: 0,
+        });
+    }
+    let nest = desk.nest;
+    let reading = texts::read_placement(nest.count, text);
+    if reading.number != 0 {
+        return Marked::Refused(Fault {
+            number: reading.number,
+            line: reading.line,
+        });
+    }
+    let placement = reading.placement;
+    let key = desk.key;
+    Marked::Given(verdict(nest, key, placement))
+}
+
+// Writes the key as text from the start of the buffer. Numbers 10, 11, 9.
+pub fn write_key(desk: Desk, out: &mut [u8]) -> Answer
+    ensures { λ r. ⌜ WriteSays desk (now (out .entry)) (now (out .exit)) r ⌝ }
+{
+    let number = key_fault(desk.loaded, desk.planned);
+    if number != 0 {
+        return refused(number);
+    }
+    let key = desk.key;
+    let length = texts::text_length(key);
+    if out.len() < length {
+        return refused(9);
+    }
+    Answer {
+        number: 0,
+        line: 0,
+        value: texts::write_text(key, out),
+    }
+}
+
 // Empties the desk.
 pub fn reset(desk: Desk) -> Desk
     ensures { λ r. ⌜ EmptySays r ⌝ }
 {
     Desk::empty()
+}
+
+// How a placement stands beside the key.
+fn verdict(nest: Nest, key: Placement, placement: Placement) -> Verdict
+    requires { ⌜ IsCounted nest ⌝ }
+    requires { ⌜ isValid (nestIn nest) ≡ true ⌝ }
+    requires { ⌜ areGaps (nestIn nest) (gapsIn (key .words)) ≡ true ⌝ }
+    requires { ⌜ areGaps (nestIn nest) (gapsIn (placement .words)) ≡ true ⌝ }
+    ensures { λ r. ⌜ verdictIn r ≡ markOf (nestIn nest) (gapsIn (key .words)) (gapsIn (placement .words)) ⌝ }
+{
+    let first = placements::uncut(nest, placement);
+    if first != 0 {
+        return Verdict::Uncut(first - 1);
+    }
+    let count = nest.count;
+    let points = nest.points;
+    let compared = placements::compare(&points[..count], key, placement);
+    match compared {
+        Compared::Differ(counts) => Verdict::Dearer(counts),
+        Compared::Same => Verdict::Best,
+    }
+}
+
+// The number of a call that wants a key: 10 without a nest, 11 without a key, or 0.
+fn key_fault(loaded: bool, planned: bool) -> u8
+    ensures { λ r. ⌜ r ≡ firstOf (when (not loaded) 10) (when (not planned) 11) ⌝ }
+{
+    if loaded {
+        if planned { 0 } else { 11 }
+    } else {
+        10
+    }
+}
+
+fn refused(number: u8) -> Answer
+    ensures { λ r. ⌜ RefusedAs number r ⌝ }
+{
+    Answer {
+        number: number,
+        line: 0,
+        value: 0,
+    }
 }
