@@ -3,3 +3,6 @@ pub mod KeyIsKey
 pub mod Demand3
 pub mod KeyGaps
 pub mod Predicates
+pub mod ListOrder
+pub mod KeyLengths
+pub mod KeyFirst
