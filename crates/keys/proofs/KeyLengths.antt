@@ -1,5 +1,5 @@
--- A placement has as many gaps as its loops count together, so placements with the same counts, and all keys, have lists
--- of one length.
+-- A placement has as many gaps as its loops count together, so placements with the same counts, and all keys, have
+-- lists of one length.
 -- Main statements: `same-length`, `keys-length`.
 use mathlib.Core.Path.{_≡_, refl, sym, ap, _∙_}
 use mathlib.Core.Bool.{Bool, true, false}
@@ -7,7 +7,6 @@ use mathlib.Core.List.{List, [], _∷_}
 use mathlib.Core.Logic.{_⊎_, inl, inr, ⊎-elim}
 use Prim.Native.Nat.{ℕ, zero, suc, _+_, _≤_, _<_}
 use native.Mathlib.Omega.{arith}
-use lib.Dec.{eqb}
 use lib.ListN.{length}
 use borrow.Author.Tests.{eq-eqb, ne-eqb}
 use Rattle.laws.specs.Choice.{when}
@@ -67,8 +66,11 @@ module _ (n : Nest) (g : ℕ) (gs : List ℕ) where
   unfolding totalTo
   before-owner zero h = refl
   before-owner (suc d) h =
-      omega (arith, total-step n (g ∷ gs) gs 0 d (λ z. elsewhere d (λ y. omega arith))
-      (omega (arith, before-owner d (omega arith))))
+      omega (
+        arith,
+        total-step n (g ∷ gs) gs 0 d (λ z. elsewhere d (λ y. omega arith))
+            (omega (arith, before-owner d (omega arith))),
+      )
 
   at-owner : isDo (n .points) o ≡ true → totalTo n (g ∷ gs) (suc o) ≡ suc (totalTo n gs (suc o))
   unfolding totalTo

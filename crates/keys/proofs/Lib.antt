@@ -3,6 +3,7 @@ pub mod KeyIsKey
 pub mod Demand3
 pub mod KeyGaps
 pub mod Predicates
+-- the key is first in list order among all keys
 pub mod ListOrder
 pub mod KeyLengths
 pub mod KeyFirst
