@@ -3,3 +3,5 @@ pub mod KeyIsKey
 pub mod Demand3
 pub mod KeyGaps
 pub mod Predicates
+pub mod Sizes
+pub mod KeyCases
