@@ -4,4 +4,7 @@ pub mod Demand3
 pub mod KeyGaps
 pub mod Predicates
 pub mod Sizes
+pub mod Marking
+pub mod RingKey
 pub mod KeyCases
+pub mod Excluded
