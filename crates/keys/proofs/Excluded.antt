@@ -1,12 +1,12 @@
--- 01, "What the contracts must say", c, and "Plausible planners that fail": planners that demand 3 excludes, each by a paper
--- of which its answer is no key. What fails by one comparison is computed in crate placements (Planners); the rest follows
--- from the counts that all keys of a paper have.
+-- 01, "What the contracts must say", c, and "Plausible planners that fail": planners that demand 3 excludes, each by a
+-- paper of which its answer is no key. What fails by one comparison is computed in crate placements (Planners); the
+-- rest follows from the counts that all keys of a paper have.
 -- Main definitions: `FillsOuter`, `Excluded`. Main statement: `excluded`.
-use mathlib.Core.Path.{_≡_, refl, sym, _∙_}
-use mathlib.Core.Bool.{Bool, true, false, _||_}
+use mathlib.Core.Path.{_≡_, refl, sym, ap}
+use mathlib.Core.Bool.{true}
 use mathlib.Core.List.{List, [], _∷_}
 use mathlib.Core.Logic.{_⊎_, inl, inr, ⊎-elim}
-use Prim.Native.Nat.{ℕ, zero, suc, _+_, _≤_, _<_}
+use Prim.Native.Nat.{ℕ, _<_}
 use native.Mathlib.Omega.{arith}
 use lib.Dec.{eqb}
 use lib.ListN.{length}
@@ -20,7 +20,6 @@ use Rattle.nests.specs.Valid.{isValid}
 use Rattle.nests.proofs.Cases.{paper-P, paper-Q, paper-R, paper-ring, paper-inner}
 use Rattle.placements.specs.Placements.{isCorrect, loopCount}
 use Rattle.placements.specs.Keys.{IsKey}
-use Rattle.placements.proofs.Cases.{countsOf}
 use Rattle.placements.proofs.Planners.{Plans, everyGap, every-gap-fails, empty-key-fails, fixed-key-fails}
 use Rattle.placements.proofs.Planners.{greedy-ring-fails, totals-fail}
 use Rattle.keys.specs.KeyOf.{keyOf}
@@ -32,11 +31,15 @@ held-counts : (n : Nest) (gs : List ℕ) (g : ℕ) → isIn g gs ≡ true → 0 
 held-counts n [] g h = never h
 held-counts n (x ∷ xs) g h =
     ⊎-elim
-    (λ (z : g ≡ x).
-      let y : when (eqb (ownerOf (n .points) x) (ownerOf (n .points) g)) 1 ≡ 1 = rw (z, eq-eqb (ownerOf (n .points) x) (ownerOf (n .points) x) refl) in
-      omega arith)
+    (λ (z : g ≡ x). omega (arith, first z))
     (λ (z : isIn g xs ≡ true). omega (arith, held-counts n xs g z))
     (in-cons g x xs h)
+  where
+    own : ℕ → ℕ
+    own = ownerOf (n .points)
+
+    first : g ≡ x → when (eqb (own x) (own g)) 1 ≡ 1
+    first z = rw (eq-eqb (own x) (own g) (ap own (sym z)))
 
 -- a planner that puts a barrier in every gap of the outermost loop, whatever it does inside
 abbrev pub FillsOuter : (Nest → List ℕ) → Type 0
@@ -53,7 +56,7 @@ outer-filled-fails : (plan : Nest → List ℕ) → FillsOuter plan → Plans pl
 outer-filled-fails plan fills keeps =
     let gs = plan paper-inner in
     let c : loopCount paper-inner gs 0 ∷ loopCount paper-inner gs 1 ∷ [] ≡ 0 ∷ 1 ∷ [] =
-        inner-key .all-counts gs (keeps paper-inner refl) in
+    inner-key .all-counts gs (keeps paper-inner refl) in
     let z : loopCount paper-inner gs 0 ≡ 0 = cc in
     omega (arith, held-counts paper-inner gs 1 (fills paper-inner 1 refl (omega arith) (omega arith) refl))
 
@@ -69,7 +72,7 @@ three-and-nine (a ∷ (b ∷ [])) l p q c = go (member 3 p) (member 9 q)
         ⊎-elim
         (λ (z : g ≡ a). inl z)
         (λ (z : isIn g (b ∷ []) ≡ true).
-          ⊎-elim (λ (y : g ≡ b). inr y) (λ (y : isIn g [] ≡ true). never y) (in-cons g b [] z))
+        ⊎-elim (λ (y : g ≡ b). inr y) (λ (y : isIn g [] ≡ true). never y) (in-cons g b [] z))
         (in-cons g a (b ∷ []) h)
 
     go : (3 ≡ a) ⊎ (3 ≡ b) → (9 ≡ a) ⊎ (9 ≡ b) → ⊥

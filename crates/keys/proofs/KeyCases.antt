@@ -1,7 +1,7 @@
--- 01, "Papers with known results": the keys of the starred cases. Each is computed from `keyOf`, is a key by the planner's
--- theorem, and every other key of its paper has the same counts.
+-- 01, "Papers with known results": the keys of the starred cases. Each is computed from `keyOf`, is a key by the
+-- planner's theorem, and every other key of its paper has the same counts.
 -- Main statements: `computed-keys`, `starred-keys` (over the table of cases), `case-1-program`.
-use mathlib.Core.Path.{_≡_, refl, ap, _∙_}
+use mathlib.Core.Path.{_≡_, refl, _∙_}
 use mathlib.Core.Bool.{true}
 use mathlib.Core.List.{List, [], _∷_}
 use Prim.{Unit, tt}
@@ -15,7 +15,7 @@ use Rattle.placements.specs.Keys.{IsKey}
 use Rattle.placements.specs.Words.{gapsOf}
 use Rattle.placements.proofs.Cases.{countsOf, Case, table}
 use Rattle.lines.proofs.Spelling.{framesText}
-use Rattle.texts.specs.NestTexts.{readNest, Got}
+use Rattle.texts.specs.NestTexts.{readNest}
 use Rattle.texts.specs.Program.{programText}
 use Rattle.texts.proofs.TextCases.{P-lines, P-read, case-1-written}
 use Rattle.planner.specs.Home.{leastEnd, reachOf, limitOf, hasAt, keyIn}
@@ -40,8 +40,8 @@ pub record Computed : Type 0 where
 
 pub computed-keys : Computed
 unfolding keyOf gapsOf keyIn leastEnd reachOf limitOf hasAt Plan.keyOf tableOf tableFrom withRow noTables needOf put
-    stepPlain seek free inner outer childAt stepChild next step walk sweep close value least better best childSome someOf
-    costOf frontOf leftOf choiceOf layOf
+    stepPlain seek free inner outer childAt stepChild next step walk sweep close value least better best childSome
+    someOf costOf frontOf leftOf choiceOf layOf
 computed-keys =
     record { of-P = refl; of-Q = refl; of-R = refl; of-turn = refl; of-bare = refl; of-ring = refl; of-inner = refl }
 

@@ -3,12 +3,11 @@
 use mathlib.Core.Path.{_≡_, refl, sym, _∙_}
 use mathlib.Core.Bool.{true}
 use mathlib.Core.List.{List, [], _∷_}
-use Prim.Native.Nat.{ℕ, zero, suc, _+_, _-_, _≤_, _<_}
+use Prim.Native.Nat.{ℕ, suc, _-_, _≤_}
 use native.Mathlib.Omega.{arith}
-use lib.Dec.{eqb}
 use lib.ListN.{length}
 use borrow.Author.Tests.{eq-eqb}
-use Rattle.laws.specs.Choice.{when, isIn}
+use Rattle.laws.specs.Choice.{isIn}
 use Rattle.laws.specs.Members.{Among}
 use Rattle.nests.specs.Nests.{Dep, Nest}
 use Rattle.nests.specs.Loops.{ownerOf}
@@ -18,8 +17,7 @@ use Rattle.nests.proofs.Levels.{starts-with-do}
 use Rattle.nests.proofs.Loops.{owner-is-do}
 use Rattle.nests.proofs.Deps.{valid-is, deps-fit}
 use Rattle.nests.proofs.Ring.{one-loop-is-first, fits-run}
-use Rattle.placements.specs.Placements.{cuts, areGapsFrom, areGaps, isCorrect, loopCount}
-use Rattle.placements.specs.Keys.{IsKey}
+use Rattle.placements.specs.Placements.{cuts, areGapsFrom, areGaps, loopCount}
 use Rattle.placements.proofs.Cuts.{cut-has-gap, gap-cuts, correct-by, correct-gaps, correct-cuts}
 use Rattle.placements.proofs.Inside.{inside-lies}
 use Rattle.placements.proofs.Rising.{Rises, rises}
@@ -54,8 +52,8 @@ module _ (n : Nest) (shape : isShape (n .points) ≡ true) (one : oneLoop (n .po
           → loopCount n (g ∷ gs) 0 ≡ suc (length gs)
       go r rest =
           let o : ownerOf (n .points) g ≡ 0 =
-              one-loop-is-first (n .points) one (ownerOf (n .points) g)
-              (owner-is-do (n .points) shape g (omega (arith, r .above)) (r .below)) in
+          one-loop-is-first (n .points) one (ownerOf (n .points) g)
+          (owner-is-do (n .points) shape g (omega (arith, r .above)) (r .below)) in
           rw (eq-eqb (ownerOf (n .points) g) 0 o) (omega (arith, rest (r .rest)))
 
 module _ (n : Nest) (valid : isValid n ≡ true) (one : oneLoop (n .points) ≡ true) where
@@ -78,9 +76,10 @@ module _ (n : Nest) (valid : isValid n ≡ true) (one : oneLoop (n .points) ≡ 
       let shape = valid-is n valid .shape in
       let k = key-is-key n valid in
       let c = correct-by n gs gaps (λ e a. meets-cuts (n .points) e (interval e a) gs (meets e a)) in
-      omega
-      (arith,
+      omega (
+        arith,
         all-own n shape one 0 gs gaps,
         all-own n shape one 0 (keyOf n) (correct-gaps n (keyOf n) (k .correct)),
         key-by-loops n valid .each gs 0 c (starts-with-do (n .points) shape)
-        (λ x h i. absurd (omega (arith, one-loop-is-first (n .points) one x h, inside-lies (n .points) 0 x i))))
+            (λ x h i. absurd (omega (arith, one-loop-is-first (n .points) one x h, inside-lies (n .points) 0 x i))),
+      )

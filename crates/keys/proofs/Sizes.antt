@@ -3,13 +3,12 @@
 use mathlib.Core.Path.{_≡_, refl, sym, ap, _∙_}
 use mathlib.Core.Bool.{Bool, true, false}
 use mathlib.Core.List.{List, [], _∷_, _++_}
-use mathlib.Core.Logic.{_⊎_, inl, inr, ⊎-elim}
+use mathlib.Core.Logic.{_⊎_, inl, inr}
 use Prim.Native.Nat.{ℕ, zero, suc, _+_, _≤_, _<_}
 use native.Mathlib.Omega.{arith}
-use lib.Dec.{eqb}
 use lib.ListN.{length}
 use borrow.Author.Tests.{eq-eqb, ne-eqb}
-use Rattle.laws.specs.Choice.{pick, when}
+use Rattle.laws.specs.Choice.{pick}
 use Rattle.laws.proofs.Tests.{never-both, eq-or}
 use Rattle.nests.specs.Nests.{Nest}
 use Rattle.nests.specs.Loops.{isDo, ownerOf}
@@ -60,7 +59,7 @@ module _ (n : Nest) where
             : (t : Bool)
             → total (countsFrom f (suc d) n (g ∷ gs)) ≡ total (countsFrom f (suc d) n gs)
             → total (pick t (loopCount n (g ∷ gs) d ∷ []) [] ++ countsFrom f (suc d) n (g ∷ gs)) ≡
-              total (pick t (loopCount n gs d ∷ []) [] ++ countsFrom f (suc d) n gs)
+            total (pick t (loopCount n gs d ∷ []) [] ++ countsFrom f (suc d) n gs)
         go true r = let z = other d (λ e. omega arith) in omega arith
         go false r = r
 
@@ -82,7 +81,7 @@ module _ (n : Nest) where
             → owner < suc d + f
             → total (countsFrom f (suc d) n (g ∷ gs)) ≡ suc (total (countsFrom f (suc d) n gs)))
             → total (pick t (loopCount n (g ∷ gs) d ∷ []) [] ++ countsFrom f (suc d) n (g ∷ gs)) ≡
-              suc (total (pick t (loopCount n gs d ∷ []) [] ++ countsFrom f (suc d) n gs))
+            suc (total (pick t (loopCount n gs d ∷ []) [] ++ countsFrom f (suc d) n gs))
         go true e (inl z) r =
             let a = own d z in
             let b = after-owner f (suc d) (omega arith) in
@@ -108,7 +107,8 @@ module _ (n : Nest) where
           → total (countsOf n (g ∷ gs)) ≡ suc (length gs)
       go r rest =
           let loop = owner-is-do (n .points) shape g (omega (arith, r .above)) (r .below) in
-          let there : ownerOf (n .points) g < length (n .points) = point-in (n .points) (ownerOf (n .points) g) 0 loop in
+          let o = ownerOf (n .points) g in
+          let there : o < length (n .points) = point-in (n .points) o 0 loop in
           omega (arith, with-owner g gs (length (n .points)) 0 loop (omega arith) (omega arith), rest (r .rest))
 
 -- a placement has as many gaps as its counts make together
@@ -129,7 +129,7 @@ same-from n a b s (suc f) d = go (isDo (n .points) d) refl (same-from n a b s f 
         → isDo (n .points) d ≡ t
         → countsFrom f (suc d) n a ≡ countsFrom f (suc d) n b
         → pick t (loopCount n a d ∷ []) [] ++ countsFrom f (suc d) n a ≡
-          pick t (loopCount n b d ∷ []) [] ++ countsFrom f (suc d) n b
+        pick t (loopCount n b d ∷ []) [] ++ countsFrom f (suc d) n b
     go true e r = cc (s d e)
     go false e r = r
 
