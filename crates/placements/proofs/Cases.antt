@@ -1,6 +1,6 @@
--- The starred cases of document 01, "Papers with known results", as one table of the definitions and one theorem over it.
--- That the placements named as keys are keys is the planner's theorem; here they are correct, have the counts that the paper
--- gives, and serve the marker.
+-- The starred cases of document 01, "Papers with known results": one table of the definitions and one theorem over it.
+-- That the placements named as keys are keys is the planner's theorem; here they are correct, have the counts that the
+-- paper gives, and serve the marker.
 -- Main statements: `worked-cases`, `tree-of-P`, `tree-of-Q`.
 use mathlib.Core.Path.{_≡_, refl}
 use mathlib.Core.Bool.{Bool, true, false, _&&_}
@@ -12,9 +12,10 @@ use Rattle.laws.specs.Choice.{pick}
 use Rattle.nests.specs.Nests.{Nest}
 use Rattle.nests.specs.Loops.{isDo}
 use Rattle.nests.specs.Valid.{isValid}
-use Rattle.nests.proofs.Cases.{forward, carried, paper-P, paper-Q, paper-R, paper-turn, paper-bare, paper-ring, sameList, share}
-use Rattle.placements.specs.Placements.{isCorrect, loopCount}
-use Rattle.placements.specs.Trees.{node, bare, beside, treeOf}
+use Rattle.nests.proofs.Cases.{forward, carried, paper-P, paper-Q, paper-R, paper-turn, paper-bare, paper-ring}
+use Rattle.nests.proofs.Cases.{sameList, share}
+use Rattle.placements.specs.Placements.{isCorrect, loopCount, asGood}
+use Rattle.placements.specs.Trees.{node, bare, beside, treeOf, asGoodTree}
 use Rattle.placements.specs.Verdicts.{Verdict, Uncut, Dearer, Best, markOf}
 
 abbrev sameVerdict : Verdict → Verdict → Bool
@@ -58,12 +59,15 @@ row i n k c gs v b =
       also = b;
     }
 
+-- the key is correct, has its counts, and is as good as what is marked, loop by loop and as a tree; the verdict is given
 abbrev pub holds : Case → Bool
 holds c =
     isValid (c .paper) &&
     (isCorrect (c .paper) (c .key) &&
     (sameList (countsOf (c .paper) (c .key)) (c .counts) &&
-    (sameVerdict (markOf (c .paper) (c .key) (c .marked)) (c .verdict) && c .also)))
+    (asGood (c .paper) (c .key) (c .marked) &&
+    (asGoodTree (treeOf (c .paper) (c .key)) (treeOf (c .paper) (c .marked)) &&
+    (sameVerdict (markOf (c .paper) (c .key) (c .marked)) (c .verdict) && c .also)))))
 
 abbrev pub allHold : List Case → Bool
 allHold [] = true

@@ -11,3 +11,4 @@ pub mod Keys
 pub mod Verdicts
 pub mod Cases
 pub mod Planners
+pub mod CutTest

@@ -5,10 +5,10 @@ use mathlib.Core.Path.{_≡_, refl, sym, ap, _∙_}
 use mathlib.Core.Bool.{Bool, true, false}
 use mathlib.Core.List.{List, [], _∷_, _++_}
 use mathlib.Core.Logic.{⊎-elim}
-use Prim.Native.Nat.{ℕ, zero, suc, _+_, _≤_, _<_}
+use Prim.Native.Nat.{ℕ, zero, suc, _<_}
 use native.Mathlib.Omega.{arith}
 use lib.Dec.{eqb}
-use lib.ListN.{length, getD}
+use lib.ListN.{length}
 use borrow.Author.Tests.{eqb-true, eqb-false, eq-eqb}
 use Rattle.laws.specs.Choice.{pick, isIn}
 use Rattle.laws.proofs.Tests.{never}
@@ -37,7 +37,8 @@ end-listed n e l h =
     (gathered-in (isEnd ps) (ownerOf ps) (length ps) 0 e (omega arith) (omega arith) h)
 
 listed-end :
-    (n : Nest) (d : ℕ) → isIn d (loopsOf n) ≡ true → From (isEnd (n .points)) (ownerOf (n .points)) (length (n .points)) 0 d
+    (n : Nest) (d : ℕ) → isIn d (loopsOf n) ≡ true →
+    From (isEnd (n .points)) (ownerOf (n .points)) (length (n .points)) 0 d
 listed-end n d h =
     let ps = n .points in
     in-gathered (isEnd ps) (ownerOf ps) (length ps) 0 d (rw (loops-gathered (length ps) 0 ps) at h)

@@ -50,7 +50,7 @@ module _ (n : Nest) (shape : isShape (n .points) ≡ true) (a b : List ℕ) (d :
   same-in-is e x h i =
       let test-of : ℕ → Bool = λ y. not (inLoop (n .points) d y) || same-at n a b y in
       let z : test-of x ≡ true =
-          each-of test-of (loopsOf n) (rw (inside-every n a b d (loopsOf n)) at e) x (loop-listed n shape x h) in
+      each-of test-of (loopsOf n) (rw (inside-every n a b d (loopsOf n)) at e) x (loop-listed n shape x h) in
       eqb-true (loopCount n a x) (loopCount n b x) (implied (inLoop (n .points) d x) (same-at n a b x) z i)
 
   same-in-by : SameInside n a b d → same-in n a b d ≡ true
@@ -67,8 +67,8 @@ module _ (n : Nest) (shape : isShape (n .points) ≡ true) (a b : List ℕ) wher
       (d : ℕ) → isDo (n .points) d ≡ true → SameInside n a b d → loopCount n a d ≤ loopCount n b d
   asGood-elim e d h s =
       let better : (not (same-in n a b d) || least-at n a b d) ≡ true =
-          each-of (λ (x : ℕ). not (same-in n a b x) || least-at n a b x) (loopsOf n)
-          (rw (better-every n a b (loopsOf n)) at e) d (loop-listed n shape d h) in
+      each-of (λ (x : ℕ). not (same-in n a b x) || least-at n a b x) (loopsOf n)
+      (rw (better-every n a b (loopsOf n)) at e) d (loop-listed n shape d h) in
       leb-true (loopCount n a d) (loopCount n b d)
       (implied (same-in n a b d) (least-at n a b d) better (same-in-by n shape a b d s))
 
@@ -105,7 +105,7 @@ module _ (n : Nest) (shape : isShape (n .points) ≡ true) where
           (λ (y : ℕ). inLoop (n .points) d y ≡ true → loopCount n a y ≡ loopCount n b y)
           (λ y m r i.
           let deeper : (z : ℕ) → inLoop (n .points) y z ≡ true → inLoop (n .points) d z ≡ true =
-              λ z j. inside-inside (n .points) shape d y z h m i j in
+          λ z j. inside-inside (n .points) shape d y z h m i j in
           omega (
             arith,
             s y m i,

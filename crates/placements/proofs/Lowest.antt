@@ -50,13 +50,14 @@ module _ (ws : List ℕ) (fit : (i : ℕ) → getD ws i 0 < 2 ^ 64) (lo : ℕ) w
       → bit (getD ws k 0) (b + t) ≡ true
       → ((j : ℕ) → j < t → bit (getD ws k 0) (b + j) ≡ false)
       → (k * 64 + b + t < GAPS) × LowestFrom ws lo (k * 64 + b + t)
-  found k b t h p e n =
-      (omega (arith, inside),
-        record {
-          fits = omega (arith, inside);
-          held = λ l. (omega (arith, p .far), at-word ws (k * 64 + b + t) k (b + t) (omega arith) inside ∙ e);
-          none = none
-        })
+  found k b t h p e n = (
+    omega (arith, inside),
+    record {
+      fits = omega (arith, inside);
+      held = λ l. (omega (arith, p .far), at-word ws (k * 64 + b + t) k (b + t) (omega arith) inside ∙ e);
+      none = none;
+    },
+  )
     where
       inside : b + t < 64
       inside =
@@ -64,12 +65,13 @@ module _ (ws : List ℕ) (fit : (i : ℕ) → getD ws i 0 < 2 ^ 64) (lo : ℕ) w
           (λ (z : 64 ≤ b + t). never (sym (bit-high (getD ws k 0) 64 (b + t) (fit k) z) ∙ e))
           (λ (z : b + t < 64). z)
           (le-or 64 (b + t))
+
       none : (i : ℕ) → i < GAPS → lo ≤ i → i < k * 64 + b + t → holds ws i ≡ false
       none i g l m =
           ⊎-elim
           (λ (z : k * 64 + b ≤ i).
-            let j = i - (k * 64 + b) in
-            at-word ws i k (b + j) (omega arith) (omega (arith, inside)) ∙ n j (omega arith))
+          let j = i - (k * 64 + b) in
+          at-word ws i k (b + j) (omega arith) (omega (arith, inside)) ∙ n j (omega arith))
           (λ (z : i < k * 64 + b). p .none i l z)
           (le-or (k * 64 + b) i)
 
@@ -85,14 +87,14 @@ module _ (ws : List ℕ) (fit : (i : ℕ) → getD ws i 0 < 2 ^ 64) (lo : ℕ) w
       let l = lowest-set 64 v p (omega (arith, shr-le w (lo % 64), fit (lo / 64))) in
       let t = trailingZeros 64 v in
       let r : (lo / 64 * 64 + lo % 64 + t < GAPS) × LowestFrom ws lo (lo / 64 * 64 + lo % 64 + t) =
-              found
-              (lo / 64)
-              (lo % 64)
-              t
-              (omega arith)
-              (record { far = omega arith; none = λ j a b. absurd (omega arith) })
-              (sym (bit-shifted w (lo % 64) t) ∙ l .1 .set-there)
-              (λ j a. sym (bit-shifted w (lo % 64) j) ∙ l .1 .none-below j a) in
+      found
+      (lo / 64)
+      (lo % 64)
+      t
+      (omega arith)
+      (record { far = omega arith; none = λ j a b. absurd (omega arith) })
+      (sym (bit-shifted w (lo % 64) t) ∙ l .1 .set-there)
+      (λ j a. sym (bit-shifted w (lo % 64) j) ∙ l .1 .none-below j a) in
       rw (← e) at r
 
   -- no bit in the rest of the first word
@@ -101,10 +103,10 @@ module _ (ws : List ℕ) (fit : (i : ℕ) → getD ws i 0 < 2 ^ 64) (lo : ℕ) w
       record {
         far = omega arith;
         none =
-          λ j a b.
+            λ j a b.
             at-word ws j (lo / 64) (lo % 64 + (j - lo)) (omega arith) (omega arith) ∙
             sym (bit-shifted (getD ws (lo / 64) 0) (lo % 64) (j - lo)) ∙
-            (let z : getD ws (lo / 64) 0 / 2 ^ (lo % 64) ≡ 0 = omega arith in rw z (bit-zero (j - lo)))
+            (let z : getD ws (lo / 64) 0 / 2 ^ (lo % 64) ≡ 0 = omega arith in rw z (bit-zero (j - lo)));
       }
 
   -- a later word
@@ -120,14 +122,14 @@ module _ (ws : List ℕ) (fit : (i : ℕ) → getD ws i 0 < 2 ^ 64) (lo : ℕ) w
       let t = trailingZeros 64 w in
       let e : k * 64 + 0 ≡ k * 64 = omega arith in
       let r : (k * 64 + 0 + t < GAPS) × LowestFrom ws lo (k * 64 + 0 + t) =
-              found
-              k
-              0
-              t
-              h
-              (rw e p)
-              (let z : 0 + t ≡ t = omega arith in rw z (l .1 .set-there))
-              (λ j a. let z : 0 + j ≡ j = omega arith in rw z (l .1 .none-below j a)) in
+      found
+      k
+      0
+      t
+      h
+      (rw e p)
+      (let z : 0 + t ≡ t = omega arith in rw z (l .1 .set-there))
+      (λ j a. let z : 0 + j ≡ j = omega arith in rw z (l .1 .none-below j a)) in
       rw e at r
 
   pub pass-later : (k : ℕ) → Passed ws lo (k * 64) → getD ws k 0 ≤ 0 → Passed ws lo ((k + 1) * 64)
@@ -135,13 +137,13 @@ module _ (ws : List ℕ) (fit : (i : ℕ) → getD ws i 0 < 2 ^ 64) (lo : ℕ) w
       record {
         far = omega (arith, p .far);
         none =
-          λ j a b.
+            λ j a b.
             ⊎-elim
             (λ (z : k * 64 ≤ j).
-              at-word ws j k (j - k * 64) (omega arith) (omega arith) ∙
-              (let y : getD ws k 0 ≡ 0 = omega arith in rw y (bit-zero (j - k * 64))))
+            at-word ws j k (j - k * 64) (omega arith) (omega arith) ∙
+            (let y : getD ws k 0 ≡ 0 = omega arith in rw y (bit-zero (j - k * 64))))
             (λ (z : j < k * 64). p .none j a z)
-            (le-or (k * 64) j)
+            (le-or (k * 64) j);
       }
 
   pub low-none : (k : ℕ) → 4 ≤ k → Passed ws lo (k * 64) → LowestFrom ws lo GAPS
@@ -149,5 +151,5 @@ module _ (ws : List ℕ) (fit : (i : ℕ) → getD ws i 0 < 2 ^ 64) (lo : ℕ) w
       record {
         fits = omega arith;
         held = λ l. absurd (omega arith);
-        none = λ i a b c. p .none i b (omega arith)
+        none = λ i a b c. p .none i b (omega arith);
       }

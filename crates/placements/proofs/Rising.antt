@@ -81,20 +81,23 @@ rising-equal last n (u ∷ us) (v ∷ vs) p q h = go (rises last n u us p) (rise
       where
         e : u ≡ v
         e =
-            omega
-            (arith,
+            omega (
+              arith,
               first-least n u v vs (b .rest) (sym (h u) ∙ rw (eq-eqb u u refl)),
-              first-least n v u us (a .rest) (h v ∙ rw (eq-eqb v v refl)))
+              first-least n v u us (a .rest) (h v ∙ rw (eq-eqb v v refl)),
+            )
+
         b-rest : areGapsFrom u n vs ≡ true
         b-rest = rw e (b .rest)
+
         tails : (i : ℕ) → isIn i us ≡ isIn i vs
         tails i =
             ⊎-elim
             (λ (z : i ≡ u). rising-out u n us i (a .rest) (omega arith) ∙ sym (rising-out u n vs i b-rest (omega arith)))
             (λ (z : i ≡ u → ⊥).
-              let y : isIn i (u ∷ us) ≡ isIn i us = rw (ne-eqb i u z) in
-              let x : isIn i (v ∷ vs) ≡ isIn i vs = rw (ne-eqb i v (λ w. z (w ∙ sym e))) in
-              sym y ∙ h i ∙ x)
+            let y : isIn i (u ∷ us) ≡ isIn i us = rw (ne-eqb i u z) in
+            let x : isIn i (v ∷ vs) ≡ isIn i vs = rw (ne-eqb i v (λ w. z (w ∙ sym e))) in
+            sym y ∙ h i ∙ x)
             (eq-or i u)
 
 -- the words of a list of gaps
@@ -138,9 +141,11 @@ words-of-gaps n gs l h =
   where
     hold : (i : ℕ) → holds (wordsOf gs) i ≡ isIn i gs
     hold = words-hold 0 gs (rising-wider 0 n GAPS gs l h)
+
     out : (i : ℕ) → (i ≤ 0) ⊎ (n ≤ i) → holds (wordsOf gs) i ≡ false
     out i (inl a) = hold i ∙ rising-out 0 n gs i h a
     out i (inr a) = hold i ∙ rising-over 0 n gs i h a
+
     same : (i : ℕ) → isIn i (gapsIn (wordsOf gs)) ≡ isIn i gs
     same i =
         ⊎-elim

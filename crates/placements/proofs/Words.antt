@@ -57,6 +57,7 @@ holds-put ws g i h = go (eq-or (i / 64) (g / 64))
         (eqb i g)
         (λ z. eq-eqb i g (omega (arith, eqb-true (i % 64) (g % 64) z)))
         (λ z. eq-eqb (i % 64) (g % 64) (omega (arith, eqb-true i g z)))
+
     go
         : (i / 64 ≡ g / 64) ⊎ ((i / 64 ≡ g / 64) → ⊥)
         → bit (getD (set ws (g / 64) (bitOr (getD ws (g / 64) 0) (2 ^ (g % 64)))) (i / 64) 0) (i % 64) ≡ (eqb i g || bit (getD ws (i / 64) 0) (i % 64))
@@ -97,6 +98,7 @@ gapsOf-in x (suc k) g i h l = ⊎-elim (λ (z : suc g ≤ i). later z (x g) (gap
     later : suc g ≤ i → (t : Bool) → isIn i (gapsOf x k (suc g)) ≡ x i → isIn i (kept t g (gapsOf x k (suc g))) ≡ x i
     later z true r = rw (ne-eqb i g (λ q. omega arith)) r
     later z false r = r
+
     here : i ≡ g → isIn i (kept (x g) g (gapsOf x k (suc g))) ≡ x i
     here z = rw z (go (x g) refl)
       where
@@ -187,6 +189,7 @@ gaps-rising ws n a b = gapsOf-rising (holds ws) n GAPS 0 0 (λ i l m h. (low i h
     low : (i : ℕ) → holds ws i ≡ true → 0 < i
     low zero h = never (sym a ∙ h)
     low (suc i) h = omega arith
+
     high : (i : ℕ) → i < GAPS → holds ws i ≡ true → i < n
     high i l h = ⊎-elim (λ (z : n ≤ i). never (sym (b i l z) ∙ h)) (λ (z : i < n). z) (le-or n i)
 
@@ -205,7 +208,7 @@ gapsOf-last x y g m p q =
     let d : gapsOf y g 0 ≡ gapsOf x g 0 = gapsOf-same y x g 0 (λ i l h. p i ∙ rw (ne-eqb i g (λ e. omega arith))) in
     let e : y g ≡ true = p g ∙ rw (eq-eqb g g refl) in
     let f : gapsOf y m (suc g) ≡ [] =
-            gapsOf-none y m (suc g) (λ i l h. p i ∙ rw (ne-eqb i g (λ e. omega arith)) (q i (omega arith) (omega arith))) in
+    gapsOf-none y m (suc g) (λ i l h. p i ∙ rw (ne-eqb i g (λ e. omega arith)) (q i (omega arith) (omega arith))) in
     let u : kept (y g) g (gapsOf y m (suc g)) ≡ g ∷ [] = rw (e, f) in
     rw (a, b, z, c, d, append-nil (gapsOf x g 0)) (ap (λ (l : List ℕ). gapsOf x g 0 ++ l) u)
 
@@ -219,5 +222,5 @@ unfolding gapsIn
 gaps-put-last ws vs g h p q =
     let e : _≡_ {A = ℕ} GAPS (g + suc (GAPS - suc g)) = omega arith in
     let z : gapsOf (holds vs) (g + suc (GAPS - suc g)) 0 ≡ gapsOf (holds ws) (g + suc (GAPS - suc g)) 0 ++ (g ∷ []) =
-            gapsOf-last (holds ws) (holds vs) g (GAPS - suc g) p (λ i a b. q i (omega arith) a) in
+    gapsOf-last (holds ws) (holds vs) g (GAPS - suc g) p (λ i a b. q i (omega arith) a) in
     rw (← e) at z

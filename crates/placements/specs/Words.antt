@@ -1,13 +1,11 @@
 -- A placement as four words of 64 bits: gap g is bit g mod 64 of word g / 64.
--- Main definitions: `holds`, `gapsOf`, `gapsIn`, `LowestFrom`, `cutOf`.
+-- Main definitions: `holds`, `gapsOf`, `gapsIn`, `LowestFrom`, `LowestIn`.
 use mathlib.Core.Path.{_≡_}
 use mathlib.Core.Bool.{Bool, true, false}
 use mathlib.Core.List.{List, [], _∷_}
 use Prim.Native.Nat.{ℕ, zero, suc, _/_, _%_, _≤_, _<_}
 use lib.ListN.{getD}
 use Rattle.laws.specs.Bits.{bit}
-use Rattle.placements.specs.declared.Cut as DC
-use Rattle.placements.specs.declared.Cut.the-variants as Cut
 
 -- 01, "The nest and its gaps": a placement is 256 bits
 abbrev pub GAPS : ℕ
@@ -37,7 +35,8 @@ pub record LowestFrom (ws : List ℕ) (lo r : ℕ) : Type 0 where
   pub held : r < GAPS → (lo ≤ r) × (holds ws r ≡ true)
   pub none : (i : ℕ) → i < GAPS → lo ≤ i → i < r → holds ws i ≡ false
 
--- the gap that cuts; 0 for none
-abbrev pub cutOf : DC.Cut → ℕ
-cutOf (Cut.By g) = g
-cutOf Cut.Uncut = 0
+-- r is the lowest gap of those with y that the words hold; 256 for none
+pub record LowestIn (ws : List ℕ) (y : ℕ → Bool) (r : ℕ) : Type 0 where
+  pub fits : r ≤ GAPS
+  pub held : r < GAPS → (y r ≡ true) × (holds ws r ≡ true)
+  pub none : (i : ℕ) → i < GAPS → y i ≡ true → i < r → holds ws i ≡ false

@@ -23,3 +23,9 @@ pub mod Papers
 pub mod Instance
 pub mod Cuts
 pub mod NestKey
+pub mod FirstExchange
+pub mod FirstPlaces
+pub mod FirstSweep
+pub mod FirstChoice
+pub mod FirstLoop
+pub mod KeyFirst

@@ -83,13 +83,13 @@ loop-less : tie.Need-loop-less Inv-loop μ-loop
 loop-less c = omega arith
 
 loop-again : tie.Need-loop-again Inv-loop μ-loop
-loop-again c = 
+loop-again c =
     let a = c .before .before .before .before .before .before .before .args in
     let l = c .before .before .before .loop in
     pass-later (a .t1 .words) (word-fits (c .before .before .before .before .before .before .before)) (a .lo) (l .i) (l .inv) (c .if3 .left)
 
 returns-3 : tie.Need-returns-3 Inv-loop μ-loop
-returns-3 c = 
+returns-3 c =
     let a = c .before .before .before .before .before .args in
     let l = c .before .loop in
     low-none (a .t1 .words) (word-fits (c .before .before .before .before .before)) (a .lo) (l .i) (c .loop-test .left) (l .inv)
