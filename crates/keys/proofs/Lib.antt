@@ -7,3 +7,8 @@ pub mod Predicates
 pub mod ListOrder
 pub mod KeyLengths
 pub mod KeyFirst
+pub mod Sizes
+pub mod Marking
+pub mod RingKey
+pub mod KeyCases
+pub mod Excluded
