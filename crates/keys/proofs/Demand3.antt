@@ -1,11 +1,12 @@
--- Demand 3 of texts: the nest of an accepted text is valid, so it has a key (`key-is-key`), and every key is least loop by loop.
+-- Demand 3 of texts: the nest of an accepted text is valid, so it has a key (`key-is-key`), and every key of it is
+-- least loop by loop from the inside.
 -- Main statements: `demand-3`; `accepted-key`, `accepted-by-loops`, the same of the key that the planner makes.
 use mathlib.Core.Path.{_≡_}
 use mathlib.Core.Bool.{true}
 use mathlib.Core.List.{List}
 use Prim.Native.Nat.{ℕ}
 use Rattle.nests.specs.Nests.{Nest}
-use Rattle.nests.specs.Valid.{isShape, isValid}
+use Rattle.nests.specs.Valid.{isValid}
 use Rattle.nests.proofs.Deps.{valid-is}
 use Rattle.placements.specs.Keys.{IsKey, By-loops}
 use Rattle.placements.proofs.Keys.{by-loops}
@@ -32,7 +33,7 @@ pub accepted-by-loops
     → By-loops (readNest s .nest-is) (keyOf (readNest s .nest-is))
 accepted-by-loops s h = key-by-loops (readNest s .nest-is) (accepted-valid s h)
 
--- demand 3
+-- 01: "In demand 3 the nest is the one that the accepted text spells by the rules of Text."
 pub demand-3 : Demand-3
 demand-3 =
     record {

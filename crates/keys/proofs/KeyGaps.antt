@@ -4,7 +4,7 @@ use mathlib.Core.Path.{_≡_, sym, _∙_}
 use mathlib.Core.Bool.{Bool, true, false}
 use mathlib.Core.List.{List}
 use mathlib.Core.Logic.{_⊎_, inl, inr, ⊎-elim}
-use Prim.Native.Nat.{ℕ, suc, _+_, _-_, _≤_, _<_}
+use Prim.Native.Nat.{ℕ, _-_, _≤_, _<_}
 use native.Mathlib.Omega.{arith}
 use lib.ListN.{length}
 use Rattle.laws.specs.Choice.{isIn}
@@ -14,7 +14,8 @@ use Rattle.nests.specs.Valid.{isShape}
 use Rattle.nests.proofs.Loops.{outermost}
 use Rattle.placements.specs.Placements.{areGaps}
 use Rattle.placements.specs.Words.{GAPS, holds, gapsOf, gapsIn}
-use Rattle.placements.proofs.Words.{gapsOf-from, gapsOf-in, gapsOf-to, gapsOf-rising, in-gaps, in-gaps-beyond, gaps-rising}
+use Rattle.placements.proofs.Words.{gapsOf-from, gapsOf-in, gapsOf-to, gapsOf-rising}
+use Rattle.placements.proofs.Words.{in-gaps, in-gaps-beyond, gaps-rising}
 use Rattle.placements.proofs.Rising.{rising-equal}
 use Rattle.planner.specs.Home.{keyIn}
 use Rattle.planner.proofs.Instance.{AllFit}

@@ -1,16 +1,15 @@
--- Placements as rising lists and as predicates: a list stands for the predicate that holds of its members. Both cut the same
--- dependences and have the same counts, so what the planner's theorem says of predicates holds of lists.
+-- Placements as rising lists and as predicates: a list stands for the predicate that holds of its members. Both cut the
+-- same dependences and have the same counts, so what the planner's theorem says of predicates holds of lists.
 -- Main statements: `list-cuts`, `cuts-list`, `list-count`, `list-key`.
 use mathlib.Core.Path.{_≡_, refl, sym, ap, _∙_}
-use mathlib.Core.Bool.{Bool, true, false, _&&_, _||_}
+use mathlib.Core.Bool.{Bool, true, false, _&&_}
 use mathlib.Core.List.{List, [], _∷_}
 use mathlib.Core.Logic.{_⊎_, inl, inr, ⊎-elim}
-use Prim.Native.Nat.{ℕ, zero, suc, _+_, _≤_, _<_}
+use Prim.Native.Nat.{ℕ, suc, _≤_, _<_}
 use native.Mathlib.Omega.{arith}
 use lib.Dec.{eqb}
-use lib.ListN.{length}
 use borrow.Author.Tests.{eqb-true, eq-eqb, ne-eqb}
-use Rattle.laws.specs.Choice.{when, isIn}
+use Rattle.laws.specs.Choice.{isIn}
 use Rattle.laws.specs.Members.{Among}
 use Rattle.laws.proofs.Tests.{never, eq-or, false-by, and-true}
 use Rattle.nests.specs.Nests.{Dep, Nest}
@@ -137,8 +136,8 @@ list-count n gs d shape h loop =
 -- ---- keys
 
 -- a list that holds the gaps of a placement to which the planner's theorem applies is a key
-module _ (n : Nest) (x : ℕ → Bool) (ks : List ℕ) (shape : isShape (n .points) ≡ true) (key : NestKey (n .points) (n .deps) x)
-    (gaps : areGaps n ks ≡ true) (same : (g : ℕ) → isIn g ks ≡ x g) where
+module _ (n : Nest) (x : ℕ → Bool) (ks : List ℕ) (shape : isShape (n .points) ≡ true)
+    (key : NestKey (n .points) (n .deps) x) (gaps : areGaps n ks ≡ true) (same : (g : ℕ) → isIn g ks ≡ x g) where
   counted : (d : ℕ) → isDo (n .points) d ≡ true → loopCount n ks d ≡ count (loopsIn (n .points)) x d
   counted d h = list-count n ks d shape gaps h ∙ same-count (n .points) (memberOf ks) x d same
 

@@ -30,11 +30,11 @@ sameVerdict Best (Dearer loop theirs ours) = false
 sameVerdict Best Best = true
 
 -- a placement's counts, in order of the loops' DO
-abbrev countsFrom : ℕ → ℕ → Nest → List ℕ → List ℕ
+abbrev pub countsFrom : ℕ → ℕ → Nest → List ℕ → List ℕ
 countsFrom zero d n gs = []
 countsFrom (suc f) d n gs = pick (isDo (n .points) d) (loopCount n gs d ∷ []) [] ++ countsFrom f (suc d) n gs
 
-abbrev countsOf : Nest → List ℕ → List ℕ
+abbrev pub countsOf : Nest → List ℕ → List ℕ
 countsOf n gs = countsFrom (length (n .points)) 0 n gs
 
 -- a row: the case's number, the paper, its key and the key's counts, a placement marked, the verdict, what else is said

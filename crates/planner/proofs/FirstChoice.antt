@@ -3,18 +3,18 @@
 -- it attains the front, and the choice is the smallest place that does.
 -- Main statements: `meets`, `value-bound`, `choice-hit`.
 use mathlib.Core.Path.{_≡_, refl}
-use mathlib.Core.Bool.{Bool, true, false, _&&_}
-use mathlib.Core.Logic.{_⊎_, inl, inr, ⊎-elim}
-use Prim.Native.Nat.{ℕ, suc, _+_, _≤_, _<_}
+use mathlib.Core.Bool.{Bool, true, false}
+use mathlib.Core.Logic.{⊎-elim}
+use Prim.Native.Nat.{ℕ, suc, _≤_, _<_}
 use native.Mathlib.Omega.{arith}
 use lib.Dec.{leb}
-use borrow.Author.Tests.{leb-true, leb-false}
+use borrow.Author.Tests.{leb-false}
 use Rattle.laws.specs.Choice.{pick}
 use Rattle.laws.proofs.Tests.{test, le-or, lt-by}
-use Rattle.planner.specs.Sweep.{Loops, Lines, Tables, State, put, sweep, close, needOf, value, someOf, front}
+use Rattle.planner.specs.Sweep.{Lines, Tables, State, put, sweep, close, needOf, value, someOf, front}
 use Rattle.planner.specs.Sweep.{IsTable}
 use Rattle.planner.proofs.World.{World, Inside, Behind, Lawful}
-use Rattle.planner.proofs.Claim.{Hit, count, Settled, Best, Laid, Leads, Claim}
+use Rattle.planner.proofs.Claim.{Hit, count, Settled, Best, Claim}
 use Rattle.planner.proofs.Choices.{Fronts, least-le}
 use Rattle.planner.proofs.Rows.{row-cost, row-fronts, row-idle}
 use Rattle.planner.proofs.Exchange.{Inv, exchange}
@@ -29,12 +29,9 @@ module _
   abbrev e : ℕ
   e = W .loops .stop d
 
-  -- the claims of the loops inside d, and d's own
+  -- the claims of the loops inside d
   pub kids : (l : ℕ) → Inside (W .loops) d l → d < l → Claim W T l
   kids l i h = claim W N laws T table l (i .is-do)
-
-  here : Claim W T d
-  here = claim W N laws T table d is-do
 
   self : Inside (W .loops) d d
   self = record { is-do = is-do; from = omega arith; below = laws .of-loops .long d is-do }

@@ -1,6 +1,6 @@
--- The exchange relation at every boundary of a sweep, not at its end alone: each step keeps it, and where a placement x
--- has as many own gaps above a child as the sweep, x has none right after the child, and cuts inside the child the lines
--- that the sweep cuts there.
+-- The exchange relation at every boundary of a sweep, not at its end alone: each step keeps it. Where a placement x has
+-- as many own gaps above a child as the sweep and the sweep puts none after the child, x has none there either, and cuts
+-- inside the child the lines that the sweep cuts there.
 -- Main statements: `plain-kept`, `child-kept`, `bar`, `caught`.
 use mathlib.Core.Path.{_≡_, _∙_}
 use mathlib.Core.Bool.{Bool, true, false}

@@ -1,14 +1,14 @@
--- What the table lays for a loop d and a place q is first in list order among the placements that are best in d and have
--- a gap from q on; by induction from the inside. So what is laid for a loop is first among all that are sound there with
--- the same counts.
+-- What the table lays for a loop d and a place q is first in list order among the placements that are best in d and
+-- have a gap from q on; by induction from the inside. So what is laid for a loop is first among all that are sound
+-- there with the same counts.
 -- Main statements: `first`, `laid-first`, `computed-first`.
 use mathlib.Core.Path.{_≡_, refl, sym, _∙_}
 use mathlib.Core.Bool.{Bool, true, false}
-use mathlib.Core.Logic.{_⊎_, inl, inr, ⊎-elim}
+use mathlib.Core.Logic.{_⊎_, inl, inr}
 use Prim.Native.Nat.{ℕ, zero, suc, _+_, _≤_, _<_}
 use native.Mathlib.Omega.{arith}
 use lib.Dec.{leb}
-use borrow.Author.Tests.{leb-true, leb-false}
+use borrow.Author.Tests.{leb-false}
 use Rattle.laws.specs.Choice.{pick}
 use Rattle.laws.proofs.Tests.{le-or}
 use Rattle.planner.specs.Sweep.{Loops, Lines, Tables, State, put, sweep, close, needOf, value, IsTable}
@@ -48,7 +48,7 @@ module _ (W : World) (N : Lines) (laws : Lawful W N) (T : Tables) (table : IsTab
         laws .of-loops .owner d (suc d) is-do (omega arith) (laws .of-loops .long d is-do) in
         omega (arith, o .from, o .below)
 
-    -- the value for a suffix that x cuts with as many own gaps: its prefix is closed by a gap right after the DO, or not
+    -- the value for a suffix that x cuts with as many own gaps: a gap right after the DO closes the prefix, or none
     value-first : (x : ℕ → Bool) (q : ℕ) → Settled W (T .cost) x d → d < q → q ≤ e → Hit x q e →
         value (W .loops) N T d q .c ≡ count (W .loops) x d → NotAfter (value (W .loops) N T d q .w) x d e
     unfolding value close put
@@ -155,4 +155,5 @@ pub computed-first : (W : World) (N : Lines) → Lawful W N → (n : ℕ) → W 
     NotAfter (keyOf (W .loops) N n) y 0 (W .loops .stop 0)
 unfolding keyOf
 computed-first W N laws n outermost below y sound same =
-    laid-first W N laws (tableOf (W .loops) N n) (table-is (W .loops) (laws .of-loops) N n below) 0 outermost y sound same
+    let table = table-is (W .loops) (laws .of-loops) N n below in
+    laid-first W N laws (tableOf (W .loops) N n) table 0 outermost y sound same

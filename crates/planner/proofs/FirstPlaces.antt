@@ -1,12 +1,12 @@
 -- A placement w is not after a placement x in list order: at the first gap where they differ, w has the gap. How this
 -- goes on when a gap is put before w, when x has no gap there, and when the gaps of a child are put before w.
 -- Main definition: `NotAfter`. Main statements: `put-before`, `skip-before`, `join-before`.
-use mathlib.Core.Path.{_≡_, sym, _∙_}
+use mathlib.Core.Path.{_≡_, _∙_}
 use mathlib.Core.Bool.{Bool, true, false}
-use mathlib.Core.Logic.{_⊎_, inl, inr, ⊎-elim}
+use mathlib.Core.Logic.{_⊎_, inl, inr}
 use Prim.Native.Nat.{ℕ, suc, _≤_, _<_}
 use native.Mathlib.Omega.{arith}
-use Rattle.laws.proofs.Tests.{never-both, le-or, or-left, or-right}
+use Rattle.laws.proofs.Tests.{never-both, le-or, or-left}
 use Rattle.planner.specs.Sweep.{only, also}
 use Rattle.planner.proofs.AttainedBody.{only-is, only-self, also-left, also-right}
 

@@ -1,11 +1,11 @@
 -- What a sweep lays is not after x in list order, for every placement x that is settled in d, meets the same needs and
--- has as many own gaps as the sweep. At an own gap this is counting: x has the gap exactly where the sweep puts one. In a
--- child with a barrier after it the sweep lays the first of all placements that are best in the child; in any other x
--- has no barrier after it either, so it meets in the child the needs that the sweep meets there.
+-- has as many own gaps as the sweep. At an own gap this is counting: x has none where the sweep puts none. In a child
+-- with a barrier after it the sweep lays the first of all placements that are best in the child; in any other, x has no
+-- barrier after it either, so it meets in the child the needs that the sweep meets there.
 -- Main definitions: `First`, `Runs`. Main statements: `runs`, `runs-above`, `put-first`.
 use mathlib.Core.Path.{_≡_, refl, _∙_}
 use mathlib.Core.Bool.{Bool, true, false}
-use mathlib.Core.Logic.{_⊎_, inl, inr, ⊎-elim}
+use mathlib.Core.Logic.{⊎-elim}
 use Prim.Native.Nat.{ℕ, suc, _+_, _≤_, _<_}
 use native.Mathlib.Omega.{arith}
 use Rattle.laws.proofs.Tests.{never, le-or, false-by, or-true}
@@ -76,7 +76,11 @@ module _
 
     skip-runs : Inv (W .loops) x d p s → Runs W x d p s
     skip-runs i =
-        record { inv = i; low = λ g h. omega (arith, r .low g h); first = λ z. skip-before (lacks z) (r .first (same z)) }
+        record {
+          inv = i;
+          low = λ g h. omega (arith, r .low g h);
+          first = λ z. skip-before (lacks z) (r .first (same z));
+        }
       where
         own : mineOf (W .loops) x d (suc p) ≡ x (suc p)
         own = mine-own (W .loops) x d (suc p) (at .owner)

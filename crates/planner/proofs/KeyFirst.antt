@@ -4,7 +4,7 @@
 use mathlib.Core.Path.{_≡_}
 use mathlib.Core.Bool.{Bool, true}
 use mathlib.Core.List.{List}
-use Prim.Native.Nat.{ℕ, _≤_, _<_}
+use Prim.Native.Nat.{ℕ, _<_}
 use native.Mathlib.Omega.{arith}
 use lib.ListN.{length}
 use Rattle.laws.specs.Members.{Among}
@@ -13,7 +13,6 @@ use Rattle.nests.specs.Loops.{isDo, endOf}
 use Rattle.nests.specs.Valid.{isShape}
 use Rattle.nests.proofs.Levels.{starts-with-do, point-in}
 use Rattle.nests.proofs.Loops.{outermost}
-use Rattle.planner.specs.Plan.{keyOf}
 use Rattle.planner.specs.Home.{loopsIn, linesIn, keyIn}
 use Rattle.planner.proofs.Claim.{count}
 use Rattle.planner.proofs.Instance.{worldOf, AllFit, lawful}
