@@ -1,5 +1,5 @@
 -- Laws of the nest as the code stores it: what one more point or dependence makes of it, and its dependences one by one.
--- Main statements: `point-added`, `dependence-added`, `depsIn-length`, `depsIn-at`.
+-- Main statements: `point-added`, `dependence-added`, `depsIn-length`, `depsIn-at`, `counted-many`, `counted-points`.
 use mathlib.Core.Path.{_≡_, refl, sym, ap, _∙_}
 use mathlib.Core.List.{List, [], _∷_, _++_}
 use Prim.Native.Nat.{ℕ, zero, suc, _+_, _≤_, _<_}
@@ -39,6 +39,18 @@ depsIn-at zero xs i z h k = absurd (omega arith)
 depsIn-at (suc n) [] i z h k = absurd (omega arith)
 depsIn-at (suc n) (x ∷ xs) zero z h k = refl
 depsIn-at (suc n) (x ∷ xs) (suc i) z h k = depsIn-at n xs i z (omega arith) (omega arith)
+
+-- counts that are right lie within the arrays
+many-within : (n : ℕ) (xs : List DE.Dependence) → n ≡ length (depsIn n xs) → n ≤ length xs
+many-within zero xs h = omega arith
+many-within (suc n) [] h = absurd (omega arith)
+many-within (suc n) (x ∷ xs) h = let z = many-within n xs (omega arith) in omega arith
+
+pub counted-many : (n : DN.Nest) → IsCounted n → n .many ≤ length (n .deps)
+counted-many n p = many-within (n .many) (n .deps) (p .many-is)
+
+pub counted-points : (n : DN.Nest) → IsCounted n → n .count ≤ length (n .points)
+counted-points n p = omega (arith, p .count-is, length-take (n .count) (n .points))
 
 module _ (n : DN.Nest) (p : IsCounted n) where
   abbrev pub with-point : ℕ → DN.Nest

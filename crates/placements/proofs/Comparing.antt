@@ -33,12 +33,12 @@ module _ (ps a b : List ℕ) (e : ℕ) (p : Compares ps a b e) where
       record {
         low = omega arith;
         rest =
-          λ ds.
+            λ ds.
             let z : length ps - e ≡ suc (length ps - (e + 1)) = omega arith in
             let y : e + 1 ≡ suc e = omega arith in
             let w : loopsFrom (length ps - e) e ps ≡ loopsFrom (length ps - (e + 1)) (e + 1) ps =
-                    rw (z, ne-eqb (getD ps e 0) ENDDO n, y) in
-            sym (ap (differFrom (nest ps ds) a b) w) ∙ p .rest ds
+            rw (z, ne-eqb (getD ps e 0) ENDDO n, y) in
+            sym (ap (differFrom (nest ps ds) a b) w) ∙ p .rest ds;
       }
 
   -- an ENDDO, with the loop that ends there in front of the rest
@@ -63,7 +63,7 @@ module _ (ps a b : List ℕ) (e : ℕ) (p : Compares ps a b e) where
     compare-same c =
         record {
           low = omega arith;
-          rest = λ ds. rw (eq-eqb (loopCount (nest ps ds) a d) (loopCount (nest ps ds) b d) (c ds)) at (first ds)
+          rest = λ ds. rw (eq-eqb (loopCount (nest ps ds) a d) (loopCount (nest ps ds) b d) (c ds)) at (first ds);
         }
 
     pub compare-differ
@@ -74,8 +74,8 @@ module _ (ps a b : List ℕ) (e : ℕ) (p : Compares ps a b e) where
         → difference (suc d) theirs ours ≡ differenceOf (nest ps ds) a b
     compare-differ ds ours theirs f g n =
         let z : differ (nest ps ds) a b ≡ suc d =
-                sym (first ds) ∙
-                rw (ne-eqb (loopCount (nest ps ds) a d) (loopCount (nest ps ds) b d) (λ w. n (f ∙ w ∙ sym g))) in
+        sym (first ds) ∙
+        rw (ne-eqb (loopCount (nest ps ds) a d) (loopCount (nest ps ds) b d) (λ w. n (f ∙ w ∙ sym g))) in
         let y : suc d - 1 ≡ d = omega arith in
         rw (z, ne-eqb (suc d) 0 (λ w. omega arith), y, f, g)
 

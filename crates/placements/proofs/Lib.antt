@@ -12,6 +12,7 @@ pub mod Verdicts
 pub mod Cases
 pub mod Planners
 pub mod CutTest
+pub mod Trying
 pub mod Mask
 pub mod Masked
 pub mod Comparing

@@ -47,21 +47,25 @@ module _ (ps : List ℕ) (shape : isShape ps ≡ true) (d : ℕ) (loop : isDo ps
     where
       h : ℕ
       h = ownerOf ps g
+
       inside : g < length ps
       inside = omega (arith, end-there ps shape d loop)
+
       low : suc (lev ps (ownerOf ps g)) ≡ lev ps g
       low = owner-lower ps shape g (omega arith) inside
+
       there : eqb (ownerOf ps g) d ≡ true → eqb (lev ps g) (suc (lev ps d)) ≡ true
       there e =
           let z : ownerOf ps g ≡ d = eqb-true (ownerOf ps g) d e in
           eq-eqb (lev ps g) (suc (lev ps d)) (sym low ∙ rw z)
+
       back : eqb (lev ps g) (suc (lev ps d)) ≡ true → eqb (ownerOf ps g) d ≡ true
       back e =
           let z : lev ps g ≡ suc (lev ps d) = eqb-true (lev ps g) (suc (lev ps d)) e in
           let a : d ≤ ownerOf ps g = owner-inside ps shape d g loop l m in
           let b : ownerOf ps g < g = owner-below ps shape g (omega arith) inside in
           let c : ownerOf ps g ≤ d =
-                  le-by (λ k. omega (arith, range-above ps shape d (ownerOf ps g) loop k (omega arith), low)) in
+          le-by (λ k. omega (arith, range-above ps shape d (ownerOf ps g) loop k (omega arith), low)) in
           eq-eqb (ownerOf ps g) d (omega arith)
 
   pub mask-start : (ws : List ℕ) → ((i : ℕ) → holds ws i ≡ false) → Masking ps d ws 1 (d + 1)
@@ -70,15 +74,15 @@ module _ (ps : List ℕ) (shape : isShape ps ≡ true) (d : ℕ) (loop : isDo ps
         after = omega arith;
         within = omega (arith, end-after ps shape d loop);
         level = let z : d + 1 ≡ suc d = omega arith in rw z (lev-up ps d loop ∙ omega arith);
-        own = λ i. h i ∙ sym (none i)
+        own = λ i. h i ∙ sym (none i);
       }
     where
       none : (i : ℕ) → below ps d (d + 1) i ≡ false
       none i =
           false-by (λ z.
-            let a = and-true (ltb d i) (ltb i (d + 1) && eqb (ownerOf ps i) d) z in
-            let b = and-true (ltb i (d + 1)) (eqb (ownerOf ps i) d) (a .1) in
-            omega (arith, ltb-true d i (a .0), ltb-true i (d + 1) (b .0)))
+          let a = and-true (ltb d i) (ltb i (d + 1) && eqb (ownerOf ps i) d) z in
+          let b = and-true (ltb i (d + 1)) (eqb (ownerOf ps i) d) (a .1) in
+          omega (arith, ltb-true d i (a .0), ltb-true i (d + 1) (b .0)))
 
   module _ (ws : List ℕ) (depth g : ℕ) (p : Masking ps d ws depth g) (h : g ≤ endOf ps d) where
     pub mask-there : g < length ps
@@ -94,8 +98,8 @@ module _ (ps : List ℕ) (shape : isShape ps ≡ true) (d : ℕ) (loop : isDo ps
         rw
         z
         (lev-step ps g ∙
-          ap (λ (l : ℕ). deeper l (getD ps g 0)) (p .level) ∙
-          deeper-above (lev ps d) depth (getD ps g 0) (mask-depth .0))
+        ap (λ (l : ℕ). deeper l (getD ps g 0)) (p .level) ∙
+        deeper-above (lev ps d) depth (getD ps g 0) (mask-depth .0))
 
     -- at g itself, and elsewhere
     below-here : below ps d (g + 1) g ≡ eqb depth 1
@@ -137,11 +141,11 @@ module _ (ps : List ℕ) (shape : isShape ps ≡ true) (d : ℕ) (loop : isDo ps
           within = omega arith;
           level = next-level;
           own =
-            λ i.
+              λ i.
               ⊎-elim
               (λ (z : i ≡ g). q i ∙ rw (eq-eqb i g z) (sym (rw z (below-here ∙ eq-eqb depth 1 e))))
               (λ (z : i ≡ g → ⊥). q i ∙ rw (ne-eqb i g z) (p .own i ∙ sym (below-other i z)))
-              (eq-or i g)
+              (eq-or i g);
         }
 
     pub mask-skip : (depth ≡ 1 → ⊥) → Masking ps d ws (deeper depth (getD ps g 0)) (g + 1)
@@ -151,11 +155,11 @@ module _ (ps : List ℕ) (shape : isShape ps ≡ true) (d : ℕ) (loop : isDo ps
           within = omega arith;
           level = next-level;
           own =
-            λ i.
+              λ i.
               ⊎-elim
               (λ (z : i ≡ g). p .own i ∙ rw z (none ∙ sym (below-here ∙ ne-eqb depth 1 e)))
               (λ (z : i ≡ g → ⊥). p .own i ∙ sym (below-other i z))
-              (eq-or i g)
+              (eq-or i g);
         }
       where
         none : below ps d g g ≡ false
@@ -166,6 +170,7 @@ module _ (ps : List ℕ) (shape : isShape ps ≡ true) (d : ℕ) (loop : isDo ps
     where
       there : below ps d g i ≡ true → eqb (ownerOf ps i) d ≡ true
       there z = and-true (ltb i g) (eqb (ownerOf ps i) d) (and-true (ltb d i) (ltb i g && eqb (ownerOf ps i) d) z .1) .1
+
       back : eqb (ownerOf ps i) d ≡ true → below ps d g i ≡ true
       back z =
           let e : ownerOf ps i ≡ d = eqb-true (ownerOf ps i) d z in

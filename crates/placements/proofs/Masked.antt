@@ -54,6 +54,7 @@ count-of n x d (suc k) g = go (x g) (eqb (ownerOf (n .points) g) d) refl (count-
   where
     rest : ℕ
     rest = tally (λ (i : ℕ). x i && eqb (ownerOf (n .points) i) d) k (suc g)
+
     go
         : (t y : Bool)
         → eqb (ownerOf (n .points) g) d ≡ y

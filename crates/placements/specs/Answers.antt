@@ -1,24 +1,35 @@
 -- The answers of the code as numbers of the definitions, for each of their cases.
--- Main definitions: `cutOf`, `foundOf`, `IsMask`, `Difference`, `differenceIn`, `differenceOf`.
+-- Main definitions: `cutOf`, `isCut`, `CutSays`, `foundOf`, `IsMask`, `Difference`, `differenceIn`, `differenceOf`.
 use mathlib.Core.Path.{_≡_}
+use mathlib.Core.Bool.{Bool, true, false}
 use mathlib.Core.List.{List}
 use Prim.Native.Nat.{ℕ, suc, _-_, _<_}
 use lib.Dec.{eqb, ltb}
 use lib.ListN.{length}
 use Rattle.laws.specs.Choice.{pick}
-use Rattle.nests.specs.Nests.{Nest}
+use Rattle.nests.specs.Nests.{Dep, Nest}
 use Rattle.nests.specs.Loops.{ownerOf}
 use Rattle.placements.specs.declared.Cut as DC
 use Rattle.placements.specs.declared.Cut.the-variants as Cut
 use Rattle.placements.specs.declared.Compared as DP
 use Rattle.placements.specs.declared.Compared.the-variants as Compared
-use Rattle.placements.specs.Placements.{loopCount, differ}
+use Rattle.placements.specs.Placements.{cuts, cutBy, loopCount, differ}
 use Rattle.placements.specs.Words.{GAPS, holds}
 
 -- the gap that cuts; 0 for none
 abbrev pub cutOf : DC.Cut → ℕ
 cutOf (Cut.By g) = g
 cutOf Cut.Uncut = 0
+
+-- whether it cuts
+abbrev pub isCut : DC.Cut → Bool
+isCut (Cut.By g) = true
+isCut Cut.Uncut = false
+
+-- the cut test's answer for a dependence and a placement
+pub record CutSays (ps : List ℕ) (e : Dep) (gs : List ℕ) (r : DC.Cut) : Type 0 where
+  pub by-gap : cutOf r ≡ cutBy ps e gs
+  pub cut : isCut r ≡ cuts ps e gs
 
 -- a gap that was looked for; 0 for none
 abbrev pub foundOf : ℕ → ℕ

@@ -5,7 +5,7 @@ ghost use mathlib.Core.Path.{_≡_};
 ghost use mathlib.Core.Bool.{Bool, true, false, _||_, _&&_};
 ghost use mathlib.Core.List.{List};
 ghost use Prim.Native.Nat.{ℕ, _+_, _<_, _≤_};
-ghost use lib.Dec.{eqb};
+ghost use lib.Dec.{eqb, ltb};
 ghost use lib.ListN.{length, getD};
 ghost use Rattle.laws.specs.Bits.{bit, tally};
 ghost use Rattle.laws.specs.Choice.{between};
@@ -14,9 +14,9 @@ ghost use Rattle.nests.specs.Nests.{Dep, nest};
 ghost use Rattle.nests.specs.Loops.{isDo, endOf, ownerOf};
 ghost use Rattle.nests.specs.Valid.{isShape, isValid};
 ghost use Rattle.nests.specs.Stored.{depIn, nestIn, IsCounted};
-ghost use Rattle.placements.specs.Placements.{cutBy, uncut, areGapsFrom, loopCount};
+ghost use Rattle.placements.specs.Placements.{uncut, areGapsFrom, loopCount};
 ghost use Rattle.placements.specs.Words.{GAPS, holds, gapsIn, LowestFrom, LowestIn};
-ghost use Rattle.placements.specs.Answers.{cutOf, foundOf, IsMask, differenceIn, differenceOf};
+ghost use Rattle.placements.specs.Answers.{cutOf, isCut, CutSays, foundOf, IsMask, differenceIn, differenceOf};
 
 // A set of gaps: gap g is bit g mod 64 of word g / 64.
 pub struct Placement {
@@ -108,7 +108,7 @@ impl Placement {
 
 // A gap that was looked for, as an answer.
 fn found(g: usize) -> Cut
-    ensures { λ r. ⌜ cutOf r ≡ foundOf g ⌝ }
+    ensures { λ r. ⌜ (cutOf r ≡ foundOf g) × (isCut r ≡ ltb g GAPS) ⌝ }
 {
     if g < Placement::GAPS {
         return Cut::By(g);
@@ -118,7 +118,7 @@ fn found(g: usize) -> Cut
 
 // The lowest gap of the placement that cuts the dependence, where `end` is the ENDDO of the loop that carries it.
 pub fn cut_in(end: usize, p: Placement, e: Dependence) -> Cut
-    ensures { λ r. ⌜ ((ps : List ℕ) → ((e .kind ≡ INDEPENDENT → ⊥) → end ≡ endOf ps (e .d)) → cutOf r ≡ cutBy ps (depIn e) (gapsIn (p .words))) ⌝ }
+    ensures { λ r. ⌜ ((ps : List ℕ) → ((e .kind ≡ INDEPENDENT → ⊥) → end ≡ endOf ps (e .d)) → CutSays ps (depIn e) (gapsIn (p .words)) r) ⌝ }
 {
     let s = e.s as usize;
     let t = e.t as usize;
@@ -136,7 +136,7 @@ pub fn cut_in(end: usize, p: Placement, e: Dependence) -> Cut
 
 // The lowest gap of the placement that cuts the dependence.
 pub fn cut_by(points: &[u8], p: Placement, e: Dependence) -> Cut
-    ensures { λ r. ⌜ cutOf r ≡ cutBy (now (points .entry)) (depIn e) (gapsIn (p .words)) ⌝ }
+    ensures { λ r. ⌜ CutSays (now (points .entry)) (depIn e) (gapsIn (p .words)) r ⌝ }
 {
     if e.kind == nests::INDEPENDENT {
         return cut_in(0, p, e);

@@ -1,53 +1,151 @@
+-- `compare` meets its contract. The invariant: the loops that end before e have the same counts (`Compares`). The
+-- measure is what is left of the points.
+use mathlib.Core.Path.{_≡_, sym, _∙_}
+use mathlib.Core.Bool.{true}
+use mathlib.Core.List.{List}
+use Prim.Native.Nat.{_-_}
+use native.Mathlib.Omega.{arith}
+use lib.ListN.{length, getD}
+use borrow.Author.Tests.{eq-eqb}
+use Rattle.nests.specs.Nests.{Dep, nest}
+use Rattle.nests.specs.Loops.{isEnd}
+use Rattle.nests.proofs.Levels.{end-not-first}
+use Rattle.nests.proofs.Loops.{end-has-do, owner-is-do}
+use Rattle.placements.specs.Placements.{loopCount}
+use Rattle.placements.specs.Words.{gapsIn}
+use Rattle.placements.proofs.Masked.{count-masked}
+use Rattle.placements.proofs.Comparing.{Compares, compare-start, compare-other, compare-same, compare-differ, compare-done}
 use Rattle.placements.proofs.compare.Statement.{statement}
 use Rattle.placements.proofs.compare.Tie as tie
 
 abbrev Inv-loop : tie.InvT-loop
-Inv-loop points key other e₀ e = ?
+Inv-loop points key other e₀ e = Compares points (gapsIn (key .words)) (gapsIn (other .words)) e
 
 abbrev μ-loop : tie.MeasureT-loop
-μ-loop points key other e₀ e = ?
+μ-loop points key other e₀ e = length points - e
 
 loop-holds : tie.Need-loop-holds Inv-loop μ-loop
-loop-holds c = ?
+loop-holds c =
+    let a = c .before .args in
+    compare-start (a .points .now) (gapsIn (a .key .words)) (gapsIn (a .other .words))
 
 shared-slice-read-if1 : tie.Need-shared-slice-read-if1 Inv-loop μ-loop
-shared-slice-read-if1 c = ?
+shared-slice-read-if1 c = omega arith
+
+-- the point is an ENDDO
+ends : (c : tie.Then1 Inv-loop μ-loop) → isEnd (c .before .before .before .before .before .args .points .now) (c .before .before .before .loop .e) ≡ true
+ends c = eq-eqb (getD (c .before .before .before .before .before .args .points .now) (c .before .before .before .loop .e) 0) 2 (c .if1 .taken)
 
 loop-of-requires : tie.Need-loop-of-requires Inv-loop μ-loop
-loop-of-requires c κs = ?
+loop-of-requires c κs =
+    let ps = c .before .before .before .before .before .args .points .now in
+    let s = c .before .before .before .before .before .pre .0 .0 in
+    (s, (end-not-first ps s (c .before .before .before .loop .e) (ends c), c .before .before .loop-test .taken))
 
 loop-mask-requires : tie.Need-loop-mask-requires Inv-loop μ-loop
-loop-mask-requires c κs = ?
+loop-mask-requires c κs =
+    let ps = c .before .before .before .before .before .before .args .points .now in
+    let s = c .before .before .before .before .before .before .pre .0 .0 in
+    let e = c .before .before .before .before .loop .e in
+    let f = end-not-first ps s e (ends (c .before)) in
+    let o = c .loop-of .ensures in
+    (c .before .before .before .before .before .before .pre .0, (rw o (owner-is-do ps s e f (c .before .before .before .loop-test .taken)), rw o (sym (end-has-do ps s e (ends (c .before))))))
 
 loop-count-requires : tie.Need-loop-count-requires Inv-loop μ-loop
-loop-count-requires c κs = ?
+loop-count-requires c κs = tt
 
 loop-count-requires-2 : tie.Need-loop-count-requires-2 Inv-loop μ-loop
-loop-count-requires-2 c κs = ?
+loop-count-requires-2 c κs = tt
+
+-- the ones under the mask are the loop's counts
+ours
+    : (c : tie.After-loop-count2 Inv-loop μ-loop) (ds : List Dep)
+    → c .before .loop-count .result
+    ≡ loopCount (nest (c .before .before .before .before .before .before .before .before .before .args .points .now) ds) (gapsIn (c .before .before .before .before .before .before .before .before .before .args .key .words)) (c .before .before .before .loop-of .result)
+ours c ds =
+    let a = c .before .before .before .before .before .before .before .before .before .args in
+    c .before .loop-count .ensures ∙
+    count-masked (nest (a .points .now) ds) (a .key .words) (c .before .before .loop-mask .result .words) (c .before .before .before .loop-of .result)
+    (c .before .before .before .before .before .before .before .before .before .pre .1 .0) (c .before .before .loop-mask .ensures)
+
+theirs
+    : (c : tie.After-loop-count2 Inv-loop μ-loop) (ds : List Dep)
+    → c .loop-count2 .result
+    ≡ loopCount (nest (c .before .before .before .before .before .before .before .before .before .args .points .now) ds) (gapsIn (c .before .before .before .before .before .before .before .before .before .args .other .words)) (c .before .before .before .loop-of .result)
+theirs c ds =
+    let a = c .before .before .before .before .before .before .before .before .before .args in
+    c .loop-count2 .ensures ∙
+    count-masked (nest (a .points .now) ds) (a .other .words) (c .before .before .loop-mask .result .words) (c .before .before .before .loop-of .result)
+    (c .before .before .before .before .before .before .before .before .before .pre .1 .1) (c .before .before .loop-mask .ensures)
 
 returns : tie.Need-returns Inv-loop μ-loop
-returns c = ?
+returns c =
+    let a = c .before .before .before .before .before .before .before .before .before .before .args in
+    let l = c .before .before .before .before .before .before .before .before .loop in
+    λ ds.
+    compare-differ
+    (a .points .now)
+    (gapsIn (a .key .words))
+    (gapsIn (a .other .words))
+    (l .e)
+    (l .inv)
+    (c .before .before .before .before .before .before .before .loop-test .taken)
+    (c .before .before .before .before .before .if1 .taken)
+    (c .before .before .before .before .loop-of .result)
+    (c .before .before .before .before .loop-of .ensures)
+    ds
+    (c .before .before .loop-count .result)
+    (c .before .loop-count2 .result)
+    (ours (c .before) ds)
+    (theirs (c .before) ds)
+    (c .if2 .taken)
 
 add-e : tie.Need-add-e Inv-loop μ-loop
-add-e c = ?
+add-e c = omega (arith, c .before .before .before .before .before .before .before .loop-test .taken)
 
 loop-less : tie.Need-loop-less Inv-loop μ-loop
-loop-less c = ?
+loop-less c = omega (arith, c .before .before .before .before .before .before .before .loop-test .taken)
 
 loop-again : tie.Need-loop-again Inv-loop μ-loop
-loop-again c = ?
+loop-again c =
+    let a = c .before .before .before .before .before .before .before .before .before .before .args in
+    let l = c .before .before .before .before .before .before .before .before .loop in
+    compare-same
+    (a .points .now)
+    (gapsIn (a .key .words))
+    (gapsIn (a .other .words))
+    (l .e)
+    (l .inv)
+    (c .before .before .before .before .before .before .before .loop-test .taken)
+    (c .before .before .before .before .before .if1 .taken)
+    (c .before .before .before .before .loop-of .result)
+    (c .before .before .before .before .loop-of .ensures)
+    (λ ds. sym (ours (c .before) ds) ∙ c .if2 .left ∙ theirs (c .before) ds)
 
 add-e-2 : tie.Need-add-e-2 Inv-loop μ-loop
-add-e-2 c = ?
+add-e-2 c = omega arith
 
 loop-less-2 : tie.Need-loop-less-2 Inv-loop μ-loop
-loop-less-2 c = ?
+loop-less-2 c = omega arith
 
 loop-again-2 : tie.Need-loop-again-2 Inv-loop μ-loop
-loop-again-2 c = ?
+loop-again-2 c =
+    let a = c .before .before .before .before .before .args in
+    let l = c .before .before .before .loop in
+    compare-other
+    (a .points .now)
+    (gapsIn (a .key .words))
+    (gapsIn (a .other .words))
+    (l .e)
+    (l .inv)
+    (c .before .before .loop-test .taken)
+    (c .if1 .left)
 
 returns-2 : tie.Need-returns-2 Inv-loop μ-loop
-returns-2 c = ?
+returns-2 c =
+    let a = c .before .before .before .args in
+    let l = c .before .loop in
+    compare-done (a .points .now) (gapsIn (a .key .words)) (gapsIn (a .other .words)) (l .e) (l .inv) (c .loop-test .left)
 
 pub compare-spec : {M : Type 1} → statement M
 compare-spec =

@@ -19,8 +19,8 @@ returns : tie.Need-returns
 returns c =
     let a = c .before .before .before .before .args in
     λ ds.
-      c .loop-count .ensures ∙
-      count-masked (nest (a .points .now) ds) (a .p .words) (c .before .loop-mask .result .words) (a .d) (c .before .before .before .before .pre .1 .1) (c .before .loop-mask .ensures)
+    c .loop-count .ensures ∙
+    count-masked (nest (a .points .now) ds) (a .p .words) (c .before .loop-mask .result .words) (a .d) (c .before .before .before .before .pre .1 .1) (c .before .loop-mask .ensures)
 
 pub count-of-spec : {M : Type 1} → statement M
 count-of-spec = tie.close (tie.spec end-of-requires loop-mask-requires loop-count-requires returns)

@@ -24,9 +24,10 @@ inside c =
     let a = c .before .before .before .before .args in
     let p = c .before .before .before .before .pre in
     let l = c .before .loop in
-    let h : l .g ≤ endOf (a .points .now) (a .d) = omega (arith, c .loop-test .taken, p .1 .1) in
-    (mask-there (a .points .now) (p .0 .0) (a .d) (p .1 .0) (l .mask .words) (l .depth) (l .g) (l .inv) h,
-      mask-depth (a .points .now) (p .0 .0) (a .d) (p .1 .0) (l .mask .words) (l .depth) (l .g) (l .inv) h)
+    let h : l .g ≤ endOf (a .points .now) (a .d) = omega (arith, c .loop-test .taken, p .1 .1) in (
+      mask-there (a .points .now) (p .0 .0) (a .d) (p .1 .0) (l .mask .words) (l .depth) (l .g) (l .inv) h,
+      mask-depth (a .points .now) (p .0 .0) (a .d) (p .1 .0) (l .mask .words) (l .depth) (l .g) (l .inv) h,
+    )
 
 empty-requires : tie.Need-empty-requires Inv-loop μ-loop
 empty-requires c κs = tt

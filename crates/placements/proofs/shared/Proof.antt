@@ -18,15 +18,16 @@ cast-result c = omega (arith, small c)
 
 returns : tie.Need-returns
 returns c =
-    let a = c .args in
-    (ones-tally 64 (bitAnd (a .a) (a .m)) (omega (arith, and-le-l (a .a) (a .m))) ∙
-      tally-same
-      (bit (bitAnd (a .a) (a .m)))
-      (λ (b : ℕ). bit (a .a) b && bit (a .m) b)
-      64
-      0
-      (λ j l h. bit-and (a .a) (a .m) j),
-      small c)
+    let a = c .args in (
+      ones-tally 64 (bitAnd (a .a) (a .m)) (omega (arith, and-le-l (a .a) (a .m))) ∙
+          tally-same
+          (bit (bitAnd (a .a) (a .m)))
+          (λ (b : ℕ). bit (a .a) b && bit (a .m) b)
+          64
+          0
+          (λ j l h. bit-and (a .a) (a .m) j),
+      small c,
+    )
 
 pub shared-spec : {M : Type 1} → statement M
 shared-spec = tie.close (tie.spec cast-result returns)
