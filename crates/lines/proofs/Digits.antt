@@ -1,5 +1,5 @@
 -- Digits of a line and the bytes that they spell.
--- Main statements: `hex-at`, `frame-length`, `frame-at`, `frame-past`, `digits-are`.
+-- Main statements: `hex-at`, `frame-length`, `frame-at`, `frame-past`, `digits-are`, `digits-parts`.
 use mathlib.Core.Path.{_≡_, refl, sym}
 use mathlib.Core.Bool.{Bool, true, false, _&&_}
 use mathlib.Core.List.{List, [], _∷_}
@@ -44,12 +44,15 @@ number-from b h =
     (or-true (between 48 b 57) (between 97 b 102) h)
 
 pub letter-from : (b : ℕ) → isHex b ≡ true → 57 < b → (97 ≤ b) × (b ≤ 102)
-letter-from b h k =
-    ⊎-elim
-    (λ (z : between 48 b 57 ≡ true). absurd (omega (arith, leb-true b 57 (and-true (leb 48 b) (leb b 57) z .1))))
-    (λ (z : between 97 b 102 ≡ true). omega
-    (arith, leb-true 97 b (and-true (leb 97 b) (leb b 102) z .0), leb-true b 102 (and-true (leb 97 b) (leb b 102) z .1)))
-    (or-true (between 48 b 57) (between 97 b 102) h)
+letter-from b h k = ⊎-elim (λ z. number z) (λ z. letter z) (or-true (between 48 b 57) (between 97 b 102) h)
+  where
+    number : between 48 b 57 ≡ true → (97 ≤ b) × (b ≤ 102)
+    number z = absurd (omega (arith, leb-true b 57 (and-true (leb 48 b) (leb b 57) z .1)))
+
+    letter : between 97 b 102 ≡ true → (97 ≤ b) × (b ≤ 102)
+    letter z =
+        let p = and-true (leb 97 b) (leb b 102) z in
+        (leb-true 97 b (p .0), leb-true b 102 (p .1))
 
 pub value-number : (b : ℕ) → b ≤ 57 → b - 48 ≡ valueOf b
 value-number b h = rw (le-leb b 57 h)
@@ -63,7 +66,11 @@ hex-at [] i h k = absurd (omega arith)
 hex-at (b ∷ l) zero h k = and-true (isHex b) (allHex l) h .0
 hex-at (b ∷ l) (suc i) h k = hex-at l i (and-true (isHex b) (allHex l) h .1) (omega arith)
 
-pub hex-on : (l : List ℕ) (i : ℕ) → i < length l → isHex (getD l i 0) ≡ true → allHex (drop i l) ≡ allHex (drop (i + 1) l)
+pub hex-on
+    : (l : List ℕ) (i : ℕ)
+    → i < length l
+    → isHex (getD l i 0) ≡ true
+    → allHex (drop i l) ≡ allHex (drop (i + 1) l)
 hex-on l i h k = rw (add-one, drop-cons l i 0 h) (rw (k, allHex))
 
 pub hex-stop : (l : List ℕ) (i : ℕ) → i < length l → isHex (getD l i 0) ≡ false → allHex (drop i l) ≡ false
@@ -113,11 +120,16 @@ digits-are l h k =
     let z : 1 ≤ length l = omega arith in
     rw (le-leb 1 (length l) z, eq-eqb (length l % 2) 0 k)
 
-pub digits-all-hex : (l : List ℕ) → isDigits l ≡ true → allHex l ≡ true
-digits-all-hex l h = and-true (eqb (length l % 2) 0) (allHex l) (and-true (leb 1 (length l)) (eqb (length l % 2) 0 && allHex l) h .1) .1
+-- the parts of the test
+pub record Digits (l : List ℕ) : Type 0 where
+  pub two : 2 ≤ length l
+  pub hex : allHex l ≡ true
 
-pub digits-two : (l : List ℕ) → isDigits l ≡ true → 2 ≤ length l
-digits-two l h =
+pub digits-parts : (l : List ℕ) → isDigits l ≡ true → Digits l
+digits-parts l h =
     let p = and-true (leb 1 (length l)) (eqb (length l % 2) 0 && allHex l) h in
     let q = and-true (eqb (length l % 2) 0) (allHex l) (p .1) in
-    omega (arith, leb-true 1 (length l) (p .0), eqb-true (length l % 2) 0 (q .0))
+    record {
+      two = omega (arith, leb-true 1 (length l) (p .0), eqb-true (length l % 2) 0 (q .0));
+      hex = q .1;
+    }

@@ -18,7 +18,7 @@ use Rattle.lines.specs.declared.Frame.{Frame}
 use Rattle.lines.specs.declared.Read.the-variants as RV
 use Rattle.lines.specs.Lines.{FEED, Line, line, push, linesOf, isGood, isDigits, frameOf}
 use Rattle.lines.specs.Reading.{takeLine, hasFeed, frame, IsFrame, answerOf, lineAt}
-use Rattle.lines.proofs.Digits.{digits-two, frame-length}
+use Rattle.lines.proofs.Digits.{digits-parts, frame-length}
 
 -- the lines of a text without its first
 restOf : List ℕ → List Line
@@ -34,7 +34,8 @@ push-first b (x ∷ s) = go (eqb x FEED) (push-first x s)
         : (t : Bool)
         → push x (linesOf s) ≡ line (x ∷ takeLine s) (hasFeed s) ∷ restOf s
         → push b (pick t (line [] true ∷ linesOf s) (push x (linesOf s)))
-        ≡ line (b ∷ pick t [] (x ∷ takeLine s)) (t || hasFeed s) ∷ linesOf (drop (length (pick t [] (x ∷ takeLine s))) s)
+        ≡ line (b ∷ pick t [] (x ∷ takeLine s)) (t || hasFeed s)
+        ∷ linesOf (drop (length (pick t [] (x ∷ takeLine s))) s)
     go true h = refl
     go false h = rw h
 
@@ -116,19 +117,20 @@ module _ (s : List ℕ) (at e : ℕ) (inside : at < length s) (ends : e ≡ at +
       let z : e - at ≡ length (takeLine (drop at s)) = omega arith in
       rw z (line-front (drop at s))
 
-  answer-is
-      : lineAt s at
-      ≡ answerOf at (line (takeLine (drop at s)) (hasFeed (drop at s)) ∷ linesOf (drop (suc (length (takeLine (drop at s)))) (drop at s)))
-  unfolding lineAt
+  abbrev rest : List ℕ
+  rest = drop at s
+
+  answer-is : lineAt s at ≡ answerOf at (line (takeLine rest) (hasFeed rest) ∷ restOf rest)
+  unfolding lineAt restOf
   answer-is = ap (answerOf at) (lines-first (drop at s) (omega (arith, length-drop at s)))
 
   pub unended : length s ≤ e → RV.Refused 1 ≡ lineAt s at
   unended h =
-      let z : hasFeed (drop at s) ≡ false =
-      feed-inside (drop at s) ∙ le-ltb (length (takeLine (drop at s))) (length (drop at s)) (omega (arith, length-drop at s)) in
-      rw (answer-is, z, and-off (isDigits (takeLine (drop at s))))
+      let short : length rest ≤ length (takeLine rest) = omega (arith, length-drop at s) in
+      let none : hasFeed rest ≡ false = feed-inside rest ∙ le-ltb (length (takeLine rest)) (length rest) short in
+      rw (answer-is, none, and-off (isDigits (takeLine rest)))
 
-  pub not-digits : isDigits (take (e - at) (drop at s)) ≡ false → RV.Refused 1 ≡ lineAt s at
+  pub not-digits : isDigits (take (e - at) rest) ≡ false → RV.Refused 1 ≡ lineAt s at
   not-digits h = rw (answer-is, line-is, h)
 
   pub is-frame
@@ -142,9 +144,9 @@ module _ (s : List ℕ) (at e : ℕ) (inside : at < length s) (ends : e ≡ at +
       → RV.Frame (record { kind = k; len = length (take (e - at) (drop at s)) / 2; a = a; b = b; c = c; next = e + 1 })
       ≡ lineAt s at
   is-frame k a b c h d ek ea eb ec =
-      let z : hasFeed (drop at s) ≡ true =
-      feed-inside (drop at s) ∙ lt-ltb (length (takeLine (drop at s))) (length (drop at s)) (omega (arith, length-drop at s)) in
-      rw (answer-is, z, ← ends, line-is, d, ← frame-length (take (e - at) (drop at s)), ek, ea, eb, ec)
+      let long : length (takeLine rest) < length rest = omega (arith, length-drop at s) in
+      let fed : hasFeed rest ≡ true = feed-inside rest ∙ lt-ltb (length (takeLine rest)) (length rest) long in
+      rw (answer-is, fed, ← ends, line-is, d, ← frame-length (take (e - at) rest), ek, ea, eb, ec)
 
 -- what a refusal tells a caller: the line at the place is not good
 pub record Bad-line (s : List ℕ) (at n : ℕ) : Type 0 where
@@ -205,7 +207,7 @@ frame-line s at f i g e =
     let u = drop at s in
     let both = and-true (isDigits (takeLine u)) (hasFeed u) g in
     let next : f .next ≡ at + length (takeLine u) + 1 = ap (λ (x : Frame). x .next) e in
-    let two : 2 ≤ length (takeLine u) = digits-two (takeLine u) (both .0) in
+    let two : 2 ≤ length (takeLine u) = digits-parts (takeLine u) (both .0) .two in
     let shorter : length (takeLine u) < length u =
     ltb-true (length (takeLine u)) (length u) (sym (feed-inside u) ∙ both .1) in
     let start : at + suc (length (takeLine u)) ≡ f .next = omega arith in
@@ -243,10 +245,13 @@ good-line s at f h = ⊎-elim (λ (z : length s ≤ at). past z) (λ (z : at < l
         first : Line
         first = line (takeLine (drop at s)) (hasFeed (drop at s))
 
+        spelled : Frame
+        spelled = frame (frameOf (first .bytes)) (at + length (first .bytes) + 1)
+
         at-test
             : (t : Bool)
             → isGood first ≡ t
-            → pick t (RV.Frame (frame (frameOf (first .bytes)) (at + length (first .bytes) + 1))) (RV.Refused 1) ≡ RV.Frame f
+            → pick t (RV.Frame spelled) (RV.Refused 1) ≡ RV.Frame f
             → Good-line s at f
         at-test true g y = frame-line s at f z g (cc y)
         at-test false g y = let x : _≡_ {A = ℕ} 0 1 = cc y in absurd (omega arith)

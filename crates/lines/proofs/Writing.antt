@@ -31,7 +31,8 @@ digits-append (b ∷ f) g =
 
 -- one byte more
 pub over-length : (xs ys : List ℕ) → length xs ≤ length ys → length (over xs ys) ≡ length ys
-over-length xs ys h = length-append xs (drop (length xs) ys) ∙ ap (λ (n : ℕ). length xs + n) (length-drop (length xs) ys) ∙ omega arith
+over-length xs ys h =
+    length-append xs (drop (length xs) ys) ∙ ap (λ (n : ℕ). length xs + n) (length-drop (length xs) ys) ∙ omega arith
 
 pub over-next
     : (xs ys : List ℕ) (n b : ℕ)
@@ -47,37 +48,42 @@ over-next xs ys n b e h =
     ∙ ap (λ (m : ℕ). (xs ++ (b ∷ [])) ++ drop m ys) z
 
 -- a frame, byte by byte
-module _ (f o out : List ℕ) (i : ℕ) (fits : length (lineText f) ≤ length o) (now : out ≡ over (digitsOf (take i f)) o) where
-  written : i ≤ length f → length (digitsOf (take i f)) ≡ 2 * i
-  written h = digits-length (take i f) ∙ ap (λ (n : ℕ). 2 * n) (length-take-le i f h)
+module _
+    (f o out : List ℕ)
+    (i : ℕ)
+    (fits : length (lineText f) ≤ length o)
+    (now : out ≡ over (digitsOf (take i f)) o)
+  where
+    written : i ≤ length f → length (digitsOf (take i f)) ≡ 2 * i
+    written h = digits-length (take i f) ∙ ap (λ (n : ℕ). 2 * n) (length-take-le i f h)
 
-  pub byte-on
-      : (p q : ℕ)
-      → p ≡ digitOf (getD f i 0 / 16)
-      → q ≡ digitOf (getD f i 0 % 16)
-      → i < length f
-      → set (set out (2 * i) p) (2 * i + 1) q ≡ over (digitsOf (take (i + 1) f)) o
-  byte-on p q ep eq h =
-      let xs = digitsOf (take i f) in
-      let long : length xs ≡ 2 * i = written (omega arith) in
-      let longer : length (xs ++ (p ∷ [])) ≡ 2 * i + 1 = omega (arith, length-append xs (p ∷ [])) in
-      let pair : digitsOf (getD f i 0 ∷ []) ≡ p ∷ (q ∷ []) = rw (ep, eq) in
-      let more : digitsOf (take (i + 1) f) ≡ (xs ++ (p ∷ [])) ++ (q ∷ []) =
-      ap (λ (n : ℕ). digitsOf (take n f)) (add-one i)
-      ∙ ap digitsOf (take-suc f i 0 h)
-      ∙ digits-append (take i f) (getD f i 0 ∷ [])
-      ∙ ap (λ (r : List ℕ). xs ++ r) pair
-      ∙ sym (append-assoc xs (p ∷ []) (q ∷ [])) in
-      ap (λ (l : List ℕ). set (set l (2 * i) p) (2 * i + 1) q) now
-      ∙ ap (λ (l : List ℕ). set l (2 * i + 1) q) (over-next xs o (2 * i) p long (omega (arith, text-length f)))
-      ∙ over-next (xs ++ (p ∷ [])) o (2 * i + 1) q longer (omega (arith, text-length f))
-      ∙ ap (λ (l : List ℕ). over l o) (sym more)
+    pub byte-on
+        : (p q : ℕ)
+        → p ≡ digitOf (getD f i 0 / 16)
+        → q ≡ digitOf (getD f i 0 % 16)
+        → i < length f
+        → set (set out (2 * i) p) (2 * i + 1) q ≡ over (digitsOf (take (i + 1) f)) o
+    byte-on p q ep eq h =
+        let xs = digitsOf (take i f) in
+        let long : length xs ≡ 2 * i = written (omega arith) in
+        let longer : length (xs ++ (p ∷ [])) ≡ 2 * i + 1 = omega (arith, length-append xs (p ∷ [])) in
+        let pair : digitsOf (getD f i 0 ∷ []) ≡ p ∷ (q ∷ []) = rw (ep, eq) in
+        let more : digitsOf (take (i + 1) f) ≡ (xs ++ (p ∷ [])) ++ (q ∷ []) =
+        ap (λ (n : ℕ). digitsOf (take n f)) (add-one i)
+        ∙ ap digitsOf (take-suc f i 0 h)
+        ∙ digits-append (take i f) (getD f i 0 ∷ [])
+        ∙ ap (λ (r : List ℕ). xs ++ r) pair
+        ∙ sym (append-assoc xs (p ∷ []) (q ∷ [])) in
+        ap (λ (l : List ℕ). set (set l (2 * i) p) (2 * i + 1) q) now
+        ∙ ap (λ (l : List ℕ). set l (2 * i + 1) q) (over-next xs o (2 * i) p long (omega (arith, text-length f)))
+        ∙ over-next (xs ++ (p ∷ [])) o (2 * i + 1) q longer (omega (arith, text-length f))
+        ∙ ap (λ (l : List ℕ). over l o) (sym more)
 
-  pub feed-on : i ≡ length f → set out (2 * i) FEED ≡ over (lineText f) o
-  feed-on h =
-      ap (λ (l : List ℕ). set l (2 * i) FEED) now
-      ∙ over-next (digitsOf (take i f)) o (2 * i) FEED (written (omega arith)) (omega (arith, text-length f))
-      ∙ ap (λ (l : List ℕ). over (digitsOf l ++ (FEED ∷ [])) o) (take-all i f (omega arith))
+    pub feed-on : i ≡ length f → set out (2 * i) FEED ≡ over (lineText f) o
+    feed-on h =
+        ap (λ (l : List ℕ). set l (2 * i) FEED) now
+        ∙ over-next (digitsOf (take i f)) o (2 * i) FEED (written (omega arith)) (omega (arith, text-length f))
+        ∙ ap (λ (l : List ℕ). over (digitsOf l ++ (FEED ∷ [])) o) (take-all i f (omega arith))
 
 -- a text written into the part that starts where the text before it ended
 pub over-part

@@ -62,7 +62,9 @@ module _ (n : Nest) (count many deep : ℕ) (h : HasNumbers n count many deep) w
   pub point-is
       : (kind : ℕ)
       → pointFault n kind
-      ≡ firstOf (when (leb 1 many) 3) (firstOf (when (misplacedBy count deep kind) 4) (when (tooManyBy count deep kind) 5))
+      ≡ firstOf
+      (when (leb 1 many) 3)
+      (firstOf (when (misplacedBy count deep kind) 4) (when (tooManyBy count deep kind) 5))
   point-is kind = rw (h .count-is, h .many-is, h .depth-is)
 
   pub dependence-is
@@ -72,7 +74,8 @@ module _ (n : Nest) (count many deep : ℕ) (h : HasNumbers n count many deep) w
   dependence-is e = rw (h .count-is, h .many-is, h .depth-is)
 
   pub dependence-open : (e : Dep) → closedBy count deep ≡ false → 4 ≡ dependenceFault n e
-  dependence-open e z = when-open (closedBy count deep) (leb DEPENDENCES many) (depFault (n .points) e) z ∙ sym (dependence-is e)
+  dependence-open e z =
+      when-open (closedBy count deep) (leb DEPENDENCES many) (depFault (n .points) e) z ∙ sym (dependence-is e)
 
   pub dependence-full : (e : Dep) → closedBy count deep ≡ true → DEPENDENCES ≤ many → 5 ≡ dependenceFault n e
   dependence-full e z m =

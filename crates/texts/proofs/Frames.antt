@@ -1,5 +1,6 @@
 -- Frames as the line reader hands them on: which kind they are of, what they refuse, what they add to a nest.
--- Main statements: `is-point`, `no-point`, `frame-bad`, `frame-point`, `frame-dependence`, `with-point`, `with-dependence`.
+-- Main statements: `is-point`, `no-point`, `frame-bad`, `frame-point`, `frame-dependence`, `with-point`,
+-- `with-dependence`, `independent-is`, `carried-is`.
 use mathlib.Core.Path.{_≡_, sym, _∙_, ap}
 use mathlib.Core.Bool.{Bool, true, false, _&&_, _||_, not}
 use mathlib.Core.List.{List, [], _∷_, _++_}
@@ -14,7 +15,8 @@ use Rattle.nests.specs.Kinds.{STATEMENT, INDEPENDENT, CARRIED}
 use Rattle.nests.specs.Nests.{Dep, dep, Nest, nest}
 use Rattle.lines.specs.declared.Frame.{Frame}
 use Rattle.lines.specs.Reading.{IsFrame}
-use Rattle.texts.specs.NestTexts.{isPoint, kindOf, kindGood, depOf, pointFault, dependenceFault, frameFault, withFrame}
+use Rattle.texts.specs.NestTexts.{isPoint, kindOf, kindGood, depOf}
+use Rattle.texts.specs.NestTexts.{pointFault, dependenceFault, frameFault, withFrame}
 
 -- the kinds of points
 pub is-point : (k : ℕ) → 1 ≤ k → k < 4 → isPoint k ≡ true

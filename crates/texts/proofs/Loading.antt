@@ -24,8 +24,10 @@ use Rattle.lines.specs.Lines.{Line, linesOf, isGood, frameOf}
 use Rattle.lines.specs.Reading.{lineAt}
 use Rattle.lines.proofs.Reading.{no-line, bad-line, good-line, Good-line}
 use Rattle.texts.specs.declared.Reading.{Reading}
-use Rattle.texts.specs.NestTexts.{isPoint, kindOf, kindGood, depOf, pointFault, dependenceFault, frameFault, withFrame, lineFault, got, readLines, readNest}
-use Rattle.texts.specs.Reads.{IsRead, RefusedAs, EndedAs, HasNumbers, closedBy, misplacedBy, tooManyBy, FrameFault, HasRoom, FrameAdded}
+use Rattle.texts.specs.NestTexts.{isPoint, kindOf, kindGood, depOf, pointFault, dependenceFault, frameFault}
+use Rattle.texts.specs.NestTexts.{withFrame, lineFault, Got, got, readLines, readNest}
+use Rattle.texts.specs.Reads.{IsRead, RefusedAs, EndedAs, HasNumbers, closedBy, misplacedBy, tooManyBy}
+use Rattle.texts.specs.Reads.{FrameFault, HasRoom, FrameAdded}
 use Rattle.texts.proofs.Shapes.{depth-more}
 use Rattle.texts.proofs.Faults.{bad-first, good-first}
 use Rattle.texts.proofs.Frames.{is-point}
@@ -53,11 +55,16 @@ stays-deep d k h =
 depth-with : (n : Nest) (l : List ℕ) → depth (withFrame n l .points) ≡ deeper (depth (n .points)) (kindOf l)
 depth-with n l = go (isPoint (kindOf l)) refl
   where
+    with-point : Nest
+    with-point = nest (n .points ++ (kindOf l ∷ [])) (n .deps)
+
+    with-dependence : Nest
+    with-dependence = nest (n .points) (n .deps ++ (depOf l ∷ []))
+
     go
         : (t : Bool)
         → isPoint (kindOf l) ≡ t
-        → depth (pick t (nest (n .points ++ (kindOf l ∷ [])) (n .deps)) (nest (n .points) (n .deps ++ (depOf l ∷ []))) .points)
-        ≡ deeper (depth (n .points)) (kindOf l)
+        → depth (pick t with-point with-dependence .points) ≡ deeper (depth (n .points)) (kindOf l)
     go true e = depth-more (n .points) (kindOf l)
     go false e = sym (stays-deep (depth (n .points)) (kindOf l) e)
 
@@ -76,10 +83,8 @@ point-room n k h =
     let place = when (misplacedBy count (depth (n .points)) k) 4 in
     let many = when (tooManyBy count (depth (n .points)) k) 5 in
     let none : many ≡ 0 = first-zero place many (first-zero early (firstOf place many) h .1) .1 in
-    leb-false
-    POINTS
-    count
-    (or-false (leb POINTS count) (eqb k DO && leb DEPTH (depth (n .points))) (when-zero (tooManyBy count (depth (n .points)) k) 4 none) .0)
+    let few : tooManyBy count (depth (n .points)) k ≡ false = when-zero (tooManyBy count (depth (n .points)) k) 4 none in
+    leb-false POINTS count (or-false (leb POINTS count) (eqb k DO && leb DEPTH (depth (n .points))) few .0)
 
 dependence-room : (n : Nest) (e : Dep) → dependenceFault n e ≡ 0 → length (n .deps) < DEPENDENCES
 dependence-room n e h =
@@ -108,9 +113,12 @@ unfolding readLines
 read-none k n = refl
 
 module _ (k : ℕ) (n : Nest) (l : Line) (ls : List Line) where
-  read-by : (e : ℕ) → lineFault n l ≡ e → readLines k n (l ∷ ls) ≡ pick (eqb e 0) (readLines (suc k) (withFrame n (frameOf (l .bytes))) ls) (got e k empty)
+  abbrev decided : ℕ → Got
+  decided e = pick (eqb e 0) (readLines (suc k) (withFrame n (frameOf (l .bytes))) ls) (got e k empty)
+
+  read-by : (e : ℕ) → lineFault n l ≡ e → readLines k n (l ∷ ls) ≡ decided e
   unfolding readLines
-  read-by e h = ap (λ (x : ℕ). pick (eqb x 0) (readLines (suc k) (withFrame n (frameOf (l .bytes))) ls) (got x k empty)) h
+  read-by e h = ap decided h
 
   read-stop : (e : ℕ) → lineFault n l ≡ e → (e ≡ 0 → ⊥) → readLines k n (l ∷ ls) ≡ got e k empty
   read-stop e h z = read-by e h ∙ rw (ne-eqb e 0 z)
@@ -168,11 +176,12 @@ module _ (s : List ℕ) (n : DN.Nest) (deep at line : ℕ) (p : Loading s n deep
   pub at-refusal : (k : ℕ) (r : Reading) → lineAt s at ≡ RV.Refused k → RefusedAs k line r → IsRead s r
   at-refusal k r h e =
       let b = bad-line s at k h in
+      let fault = fault-bad (nestIn n) (b .first) (b .bad) in
       record {
         got-is =
             e .got-is
             ∙ ap (λ (x : ℕ). got x line empty) (b .number)
-            ∙ sym (read-stop line (nestIn n) (b .first) (b .rest) 1 (fault-bad (nestIn n) (b .first) (b .bad)) (omega arith))
+            ∙ sym (read-stop line (nestIn n) (b .first) (b .rest) 1 fault (omega arith))
             ∙ ap (readLines line (nestIn n)) (sym (b .lines))
             ∙ p .rest;
         counted = e .counted;
@@ -213,13 +222,19 @@ module _ (s : List ℕ) (n : DN.Nest) (deep at line : ℕ) (p : Loading s n deep
         record {
           counted = p .counted;
           for-point = λ t. omega (arith, p .counted .count-is, room-point (nestIn n) spelled none (sym kind ∙ t));
-          for-dependence = λ t. omega (arith, p .counted .many-is, room-dependence (nestIn n) spelled none (sym kind ∙ t));
+          for-dependence =
+              λ t. omega (arith, p .counted .many-is, room-dependence (nestIn n) spelled none (sym kind ∙ t));
         }
 
     pub next-inside : (at < f .next) × (f .next ≤ length s)
     next-inside = omega (arith, good .on, good .inside)
 
-    pub on : (m : DN.Nest) (d : ℕ) → e ≡ 0 → FrameAdded n f m → d ≡ deeper deep (f .kind) → Loading s m d (f .next) (line + 1)
+    pub on
+        : (m : DN.Nest) (d : ℕ)
+        → e ≡ 0
+        → FrameAdded n f m
+        → d ≡ deeper deep (f .kind)
+        → Loading s m d (f .next) (line + 1)
     unfolding spelled
     on m d z q w =
         let added : nestIn m ≡ withFrame (nestIn n) spelled = q .nest-is spelled (good .frame-is) in

@@ -77,16 +77,19 @@ placing n s ws h =
 module _ (n : ℕ) (s ws : List ℕ) (last at line : ℕ) (p : Placing n s ws last at line) where
   pub placed-all : lineAt s at ≡ RV.End → placed 0 0 (gapsIn ws) ≡ readPlacement n s
   placed-all h =
-      sym (place-none line last n (gapsIn ws)) ∙ ap (placeLines line last n (gapsIn ws)) (sym (no-line s at h)) ∙ p .rest
+      sym (place-none line last n (gapsIn ws))
+      ∙ ap (placeLines line last n (gapsIn ws)) (sym (no-line s at h))
+      ∙ p .rest
 
   pub placed-bad : (k : ℕ) (r : PlacementReading) → lineAt s at ≡ RV.Refused k → UnplacedAs k line r → IsPlaced n s r
   placed-bad k r h e =
       let b = bad-line s at k h in
+      let fault = fault-bad last n (b .first) (b .bad) in
       record {
         placed-is =
             e .placed-is
             ∙ ap (λ (x : ℕ). placed x line []) (b .number)
-            ∙ sym (place-stop line last n (gapsIn ws) (b .first) (b .rest) 1 (fault-bad last n (b .first) (b .bad)) (omega arith))
+            ∙ sym (place-stop line last n (gapsIn ws) (b .first) (b .rest) 1 fault (omega arith))
             ∙ ap (placeLines line last n (gapsIn ws)) (sym (b .lines))
             ∙ p .rest;
       }
@@ -124,7 +127,8 @@ module _ (n : ℕ) (s ws : List ℕ) (last at line : ℕ) (p : Placing n s ws la
     unfolding gapOf
     place-on vs z g q =
         let same : f .a ≡ gapOf (good .first) = good .frame-is .a-is in
-        let up : last < f .a = omega (arith, barrier-rises last n (frameOf (good .first .bytes)) (sym fault-is ∙ z), same) in
+        let rises = barrier-rises last n (frameOf (good .first .bytes)) (sym fault-is ∙ z) in
+        let up : last < f .a = omega (arith, rises, same) in
         let lines = linesOf (drop (f .next) s) in
         let gaps : gapsIn vs ≡ gapsIn ws ++ (gapOf (good .first) ∷ []) =
         gaps-put-last ws vs (f .a) g q (λ i a b. p .above i (omega arith))

@@ -18,7 +18,8 @@ use Rattle.lines.specs.Reading.{IsFrame}
 use Rattle.placements.specs.Words.{gapsIn}
 use Rattle.texts.specs.declared.Reading.{Reading}
 use Rattle.texts.specs.declared.PlacementReading.{PlacementReading}
-use Rattle.texts.specs.NestTexts.{isPoint, depOf, pointFault, dependenceFault, frameFault, withFrame, got, readNest}
+use Rattle.texts.specs.NestTexts.{isPoint, depOf, pointFault, dependenceFault, frameFault, withFrame}
+use Rattle.texts.specs.NestTexts.{got, readNest}
 use Rattle.texts.specs.PlacementTexts.{barrierFault, placed, readPlacement}
 
 -- the reading of a nest text: its number and line, and the nest, which is empty where the text is refused
@@ -43,7 +44,8 @@ pub record RefusedAs (number line : ℕ) (r : Reading) : Type 0 where
 
 pub record EndedAs (n : DN.Nest) (deep line : ℕ) (r : Reading) : Type 0 where
   pub got-is
-      : got (r .number) (r .line) (nestIn (r .nest)) ≡ pick (closedBy (n .count) deep) (got 0 0 (nestIn n)) (got 4 line empty)
+      : got (r .number) (r .line) (nestIn (r .nest))
+      ≡ pick (closedBy (n .count) deep) (got 0 0 (nestIn n)) (got 4 line empty)
   pub counted : IsCounted (r .nest)
 
 -- the numbers that the reader keeps of the nest so far: points, dependences, depth

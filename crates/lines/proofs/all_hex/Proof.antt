@@ -33,14 +33,16 @@ loop-less c = omega arith
 loop-again : tie.Need-loop-again Inv-loop μ-loop
 loop-again c =
     let l = c .before .before .before .before .loop in
-    let is : isHex (getD (c .before .before .before .before .before .before .args .line .now) (l .i) 0) ≡ true = sym (c .before .is-hex .ensures) ∙ c .if1 .taken in
-    (omega arith, sym (hex-on (c .before .before .before .before .before .before .args .line .now) (l .i) (c .before .before .before .loop-test .taken) is) ∙ l .inv .1)
+    let xs = c .before .before .before .before .before .before .args .line .now in
+    let is : isHex (getD xs (l .i) 0) ≡ true = sym (c .before .is-hex .ensures) ∙ c .if1 .taken in
+    (omega arith, sym (hex-on xs (l .i) (c .before .before .before .loop-test .taken) is) ∙ l .inv .1)
 
 returns : tie.Need-returns Inv-loop μ-loop
 returns c =
     let l = c .before .before .before .before .loop in
-    let is : isHex (getD (c .before .before .before .before .before .before .args .line .now) (l .i) 0) ≡ false = sym (c .before .is-hex .ensures) ∙ c .if1 .left in
-    sym (hex-stop (c .before .before .before .before .before .before .args .line .now) (l .i) (c .before .before .before .loop-test .taken) is) ∙ l .inv .1
+    let xs = c .before .before .before .before .before .before .args .line .now in
+    let is : isHex (getD xs (l .i) 0) ≡ false = sym (c .before .is-hex .ensures) ∙ c .if1 .left in
+    sym (hex-stop xs (l .i) (c .before .before .before .loop-test .taken) is) ∙ l .inv .1
 
 returns-2 : tie.Need-returns-2 Inv-loop μ-loop
 returns-2 c =

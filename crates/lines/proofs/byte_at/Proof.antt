@@ -43,7 +43,8 @@ add-result c = search needs
 returns-2 : tie.Need-returns-2
 returns-2 c =
     let a = c .before .before .before .before .before .before .args in
-    omega (arith, frame-at (a .line .now) (a .i) (c .before .before .before .before .if1 .left), c .before .before .value .ensures .0, c .value2 .ensures .0)
+    let is = frame-at (a .line .now) (a .i) (c .before .before .before .before .if1 .left) in
+    omega (arith, is, c .before .before .value .ensures .0, c .value2 .ensures .0)
 
 pub byte-at-spec : {M : Type 1} → statement M
 byte-at-spec =

@@ -23,7 +23,9 @@ shared-slice-read-if1 c = omega arith
 
 returns : tie.Need-returns Inv-loop μ-loop
 returns c =
-    omega (arith, end-here (c .before .before .before .before .args .text .now) (c .before .before .before .loop .i) (c .before .before .loop-test .taken) (c .if1 .taken))
+    let l = c .before .before .before .loop in
+    let s = c .before .before .before .before .args .text .now in
+    omega (arith, end-here s (l .i) (c .before .before .loop-test .taken) (c .if1 .taken))
 
 add-i : tie.Need-add-i Inv-loop μ-loop
 add-i c = omega arith
@@ -34,7 +36,8 @@ loop-less c = omega arith
 loop-again : tie.Need-loop-again Inv-loop μ-loop
 loop-again c =
     let l = c .before .before .before .loop in
-    (omega arith, end-on (c .before .before .before .before .args .text .now) (l .i) (c .before .before .loop-test .taken) (c .if1 .left) ∙ l .inv .1)
+    let s = c .before .before .before .before .args .text .now in
+    (omega arith, end-on s (l .i) (c .before .before .loop-test .taken) (c .if1 .left) ∙ l .inv .1)
 
 returns-2 : tie.Need-returns-2 Inv-loop μ-loop
 returns-2 c = omega (arith, end-past (c .before .before .args .text .now) (c .before .loop .i) (c .loop-test .left))

@@ -5,7 +5,7 @@ use mathlib.Core.List.{List}
 use Prim.Native.Nat.{ℕ, _-_}
 use lib.ListN.{take, drop}
 use Rattle.lines.specs.Lines.{allHex}
-use Rattle.lines.proofs.Digits.{digits-all-hex}
+use Rattle.lines.proofs.Digits.{digits-parts}
 use Rattle.lines.proofs.Reading.{past-end, unended, not-digits, is-frame}
 use borrow.Author.Needs.{needs}
 use Rattle.lines.proofs.read_line.Statement.{statement}
@@ -43,7 +43,7 @@ lineIn c =
 
 of-digits : (c : tie.Then3) → allHex (lineIn c) ≡ true
 unfolding lineIn
-of-digits c = digits-all-hex (lineIn c) (sym (c .before .is-digits .ensures) ∙ c .if3 .taken)
+of-digits c = digits-parts (lineIn c) (sym (c .before .is-digits .ensures) ∙ c .if3 .taken) .hex
 
 byte-at-requires : tie.Need-byte-at-requires
 unfolding lineIn
@@ -67,6 +67,7 @@ add-t17 c = search needs
 returns-3 : tie.Need-returns-3
 returns-3 c =
     let s = c .before .before .before .before .before .before .before .before .before .before .before in
+    let t = c .before .before .before .before in
     is-frame
     (s .args .text .now)
     (s .args .at)
@@ -78,7 +79,7 @@ returns-3 c =
     (c .before .byte-at3 .result)
     (c .byte-at4 .result)
     (c .before .before .before .before .before .before .before .if2 .left)
-    (sym (c .before .before .before .before .before .is-digits .ensures) ∙ c .before .before .before .before .if3 .taken)
+    (sym (t .before .is-digits .ensures) ∙ t .if3 .taken)
     (c .before .before .before .byte-at .ensures)
     (c .before .before .byte-at2 .ensures)
     (c .before .byte-at3 .ensures)

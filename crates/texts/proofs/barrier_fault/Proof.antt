@@ -23,7 +23,8 @@ returns-3 : tie.Need-returns-3
 returns-3 c l i =
     let a = c .before .before .before .before .before .before .args in
     let k = c .before .before .before .before .before .match .keys1 in
-    barrier-good (a .last) (a .points) (a .f) l i k (c .before .before .before .if1 .taken) (c .before .if2 .left) (c .if3 .left)
+    let e = c .before .before .before .if1 .taken in
+    barrier-good (a .last) (a .points) (a .f) l i k e (c .before .if2 .left) (c .if3 .left)
 
 returns-4 : tie.Need-returns-4
 returns-4 c l i =

@@ -41,9 +41,10 @@ returns-2 c =
     let a = c .before .before .before .args in
     let e = c .with-dependence .ensures in
     let d = c .before .dependence-of in
+    let is = other (c .before) in
     record {
       nest-is =
-          λ l i. e .nest-is ∙ with-dependence (nestIn (a .nest)) (a .f) l i (depIn (d .result)) (other (c .before)) (d .ensures l i);
+          λ l i. e .nest-is ∙ with-dependence (nestIn (a .nest)) (a .f) l i (depIn (d .result)) is (d .ensures l i);
       counted = e .counted;
     }
 
