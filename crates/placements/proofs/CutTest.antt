@@ -1,5 +1,6 @@
 -- The cut test: the lowest gap of the placement among those of the dependence.
--- Main statements: `lowest-between`, `lowest-either`, `cut-lowest`, `cut-line`, `cut-back`, `cuts-by`.
+-- Main statements: `lowest-between`, `lowest-either`, `cuts-by`, `cut-lowest`, `cut-line`, `cut-back`,
+-- `cut-before`.
 use mathlib.Core.Path.{_≡_, refl, sym, ap, _∙_}
 use mathlib.Core.Bool.{Bool, true, false, _&&_, _||_}
 use mathlib.Core.List.{List, [], _∷_}
@@ -17,7 +18,8 @@ use Rattle.nests.specs.Loops.{endOf}
 use Rattle.nests.specs.Gaps.{hasGap}
 use Rattle.placements.specs.Placements.{cuts, cutBy}
 use Rattle.placements.specs.Words.{GAPS, holds, kept, gapsOf, gapsIn, LowestFrom, LowestIn}
-use Rattle.placements.specs.Answers.{foundOf}
+use Rattle.placements.specs.declared.Cut as DC
+use Rattle.placements.specs.Answers.{cutOf, isCut, CutSays, foundOf}
 
 -- ---- the lowest gap of a range
 
@@ -144,28 +146,78 @@ module _ (ps : List ℕ) (e : Dep) where
           let d : hasGap ps e g ≡ true = rw z at b in
           rw (c, d) (sym z)
 
+  -- gap 0 cuts nothing
+  pub no-gap-zero : hasGap ps e 0 ≡ false
+  no-gap-zero = false-by (λ h. go (eqb (e .kind) INDEPENDENT) h)
+    where
+      go
+          : (t : Bool)
+          → pick t (between (suc (e .s)) 0 (e .t)) (between (suc (e .d)) 0 (e .t) || between (suc (e .s)) 0 (endOf ps (e .d))) ≡ true
+          → ⊥
+      go true h = omega (arith, between-true (suc (e .s)) 0 (e .t) h .0)
+      go false h =
+          ⊎-elim
+          (λ (z : between (suc (e .d)) 0 (e .t) ≡ true). omega (arith, between-true (suc (e .d)) 0 (e .t) z .0))
+          (λ (z : between (suc (e .s)) 0 (endOf ps (e .d)) ≡ true). omega (arith, between-true (suc (e .s)) 0 (endOf ps (e .d)) z .0))
+          (or-true (between (suc (e .d)) 0 (e .t)) (between (suc (e .s)) 0 (endOf ps (e .d))) h)
+
+  pub gap-positive : (i : ℕ) → hasGap ps e i ≡ true → 0 < i
+  gap-positive zero k = never (sym no-gap-zero ∙ k)
+  gap-positive (suc i) k = omega arith
+
+  -- cut, and by which gap
+  pub cuts-by : (gs : List ℕ) → cuts ps e gs ≡ ltb 0 (cutBy ps e gs)
+  cuts-by [] = refl
+  cuts-by (g ∷ gs) = go (hasGap ps e g) refl (cuts-by gs)
+    where
+      go
+          : (t : Bool)
+          → hasGap ps e g ≡ t
+          → cuts ps e gs ≡ ltb 0 (cutBy ps e gs)
+          → (t || cuts ps e gs) ≡ ltb 0 (pick t g (cutBy ps e gs))
+      go true h r = sym (lt-ltb 0 g (gap-positive g h))
+      go false h r = r
+
   -- the lowest gap among those of the dependence is the gap that cuts
-  pub cut-lowest : (ws : List ℕ) (r : ℕ) → LowestIn ws (hasGap ps e) r → foundOf r ≡ cutBy ps e (gapsIn ws)
+  pub record Told (ws : List ℕ) (r : ℕ) : Type 0 where
+    pub by-gap : foundOf r ≡ cutBy ps e (gapsIn ws)
+    pub cut : ltb r GAPS ≡ cuts ps e (gapsIn ws)
+
+  pub cut-lowest : (ws : List ℕ) (r : ℕ) → LowestIn ws (hasGap ps e) r → Told ws r
   unfolding gapsIn
   cut-lowest ws r p =
       ⊎-elim
       (λ (z : suc r ≤ GAPS).
       let u = p .held z in
-      let c : cutBy ps e (gapsOf (holds ws) GAPS 0) ≡ r =
+      let c : cutBy ps e (gapsIn ws) ≡ r =
       cut-at (holds ws) GAPS 0 r (omega arith) (omega arith) (u .1) (u .0) (λ i a b h. p .none i (omega arith) h b) in
-      rw (lt-ltb r GAPS z) (sym c))
+      record {
+        by-gap = rw (lt-ltb r GAPS z) (sym c);
+        cut = lt-ltb r GAPS z ∙ sym (cuts-by (gapsIn ws) ∙ rw c (lt-ltb 0 r (gap-positive r (u .0))));
+      })
       (λ (z : GAPS < suc r).
-      let c : cutBy ps e (gapsOf (holds ws) GAPS 0) ≡ 0 =
+      let c : cutBy ps e (gapsIn ws) ≡ 0 =
       cut-none (holds ws) GAPS 0 (λ i a b h. p .none i (omega arith) h (omega arith)) in
-      rw (le-ltb r GAPS (omega arith)) (sym c))
+      record {
+        by-gap = rw (le-ltb r GAPS (omega arith)) (sym c);
+        cut = le-ltb r GAPS (omega arith) ∙ sym (cuts-by (gapsIn ws) ∙ rw c);
+      })
       (le-or (suc r) GAPS)
+
+  -- as an answer of the code
+  pub answer
+      : (ws : List ℕ) (a : DC.Cut) (r : ℕ)
+      → (cutOf a ≡ foundOf r) × (isCut a ≡ ltb r GAPS)
+      → Told ws r
+      → CutSays ps e (gapsIn ws) a
+  answer ws a r p t = record { by-gap = p .0 ∙ t .by-gap; cut = p .1 ∙ t .cut }
 
   -- the two kinds
   pub cut-line
       : (ws : List ℕ) (r : ℕ)
       → e .kind ≡ INDEPENDENT
       → LowestIn ws (λ (g : ℕ). between (e .s + 1) g (e .t)) r
-      → foundOf r ≡ cutBy ps e (gapsIn ws)
+      → Told ws r
   cut-line ws r k p =
       cut-lowest
       ws
@@ -179,7 +231,7 @@ module _ (ps : List ℕ) (e : Dep) where
       → LowestIn ws (λ (g : ℕ). between (e .d + 1) g (e .t)) a
       → LowestIn ws (λ (g : ℕ). between (e .s + 1) g end) b
       → ((a < b) × (r ≡ a)) ⊎ ((b ≤ a) × (r ≡ b))
-      → foundOf r ≡ cutBy ps e (gapsIn ws)
+      → Told ws r
   cut-back ws end a b r k f p q w =
       cut-lowest
       ws
@@ -201,36 +253,38 @@ module _ (ps : List ℕ) (e : Dep) where
       q
       w))
 
-  -- ---- whether it is cut
-
-  -- gap 0 cuts nothing
-  pub no-gap-zero : hasGap ps e 0 ≡ false
-  no-gap-zero = false-by (λ h. go (eqb (e .kind) INDEPENDENT) h)
+  -- a gap of the first interval that is at most s comes before the second
+  pub cut-before
+      : (ws : List ℕ) (r : ℕ)
+      → (e .kind ≡ INDEPENDENT → ⊥)
+      → LowestIn ws (λ (g : ℕ). between (e .d + 1) g (e .t)) r
+      → r ≤ e .s
+      → r < GAPS
+      → Told ws r
+  cut-before ws r k p h l =
+      cut-lowest
+      ws
+      r
+      (record {
+        fits = p .fits;
+        held = λ m. (at-first (p .held m .0), p .held m .1);
+        none = λ i a b c. p .none i a (only-first i c b) c;
+      })
     where
-      go
-          : (t : Bool)
-          → pick t (between (suc (e .s)) 0 (e .t)) (between (suc (e .d)) 0 (e .t) || between (suc (e .s)) 0 (endOf ps (e .d))) ≡ true
-          → ⊥
-      go true h = omega (arith, between-true (suc (e .s)) 0 (e .t) h .0)
-      go false h =
-          ⊎-elim
-          (λ (z : between (suc (e .d)) 0 (e .t) ≡ true). omega (arith, between-true (suc (e .d)) 0 (e .t) z .0))
-          (λ (z : between (suc (e .s)) 0 (endOf ps (e .d)) ≡ true). omega (arith, between-true (suc (e .s)) 0 (endOf ps (e .d)) z .0))
-          (or-true (between (suc (e .d)) 0 (e .t)) (between (suc (e .s)) 0 (endOf ps (e .d))) h)
+      kinds : eqb (e .kind) INDEPENDENT ≡ false
+      kinds = ne-eqb (e .kind) INDEPENDENT k
 
-  -- cut, and by which gap
-  pub cuts-by : (gs : List ℕ) → cuts ps e gs ≡ ltb 0 (cutBy ps e gs)
-  cuts-by [] = refl
-  cuts-by (g ∷ gs) = go (hasGap ps e g) refl (cuts-by gs)
-    where
-      go
-          : (t : Bool)
-          → hasGap ps e g ≡ t
-          → cuts ps e gs ≡ ltb 0 (cutBy ps e gs)
-          → (t || cuts ps e gs) ≡ ltb 0 (pick t g (cutBy ps e gs))
-      go true h r = sym (lt-ltb 0 g (positive g h))
-        where
-          positive : (i : ℕ) → hasGap ps e i ≡ true → 0 < i
-          positive zero k = never (sym no-gap-zero ∙ k)
-          positive (suc i) k = omega arith
-      go false h r = r
+      at-first : between (e .d + 1) r (e .t) ≡ true → hasGap ps e r ≡ true
+      at-first z =
+          let y : between (suc (e .d)) r (e .t) ≡ true = rw add-one at z in
+          rw kinds (or-left (between (suc (e .s)) r (endOf ps (e .d))) y)
+
+      only-first : (i : ℕ) → i < r → hasGap ps e i ≡ true → between (e .d + 1) i (e .t) ≡ true
+      only-first i c z =
+          rw
+          add-one
+          (⊎-elim
+          (λ (y : between (suc (e .d)) i (e .t) ≡ true). y)
+          (λ (y : between (suc (e .s)) i (endOf ps (e .d)) ≡ true).
+          absurd (omega (arith, between-true (suc (e .s)) i (endOf ps (e .d)) y .0)))
+          (or-true (between (suc (e .d)) i (e .t)) (between (suc (e .s)) i (endOf ps (e .d))) (rw kinds at z)))

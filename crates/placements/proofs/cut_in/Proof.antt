@@ -1,10 +1,10 @@
 -- `cut_in` meets its contract: an independent dependence has one interval of gaps, a carried one two, of which the lower
 -- gap counts.
-use mathlib.Core.Path.{refl, _∙_}
+use mathlib.Core.Path.{refl}
 use mathlib.Core.Logic.{inl, inr}
 use borrow.Author.Needs.{needs}
 use Rattle.nests.specs.Stored.{depIn}
-use Rattle.placements.proofs.CutTest.{cut-line, cut-back}
+use Rattle.placements.proofs.CutTest.{answer, cut-line, cut-back}
 use Rattle.placements.proofs.cut_in.Statement.{statement}
 use Rattle.placements.proofs.cut_in.Tie as tie
 
@@ -27,7 +27,9 @@ returns : tie.Need-returns
 returns c =
     let a = c .before .before .before .before .before .before .args in
     let l = c .before .lowest-in in
-    λ ps h. c .found .ensures ∙ cut-line ps (depIn (a .e)) (a .p .words) (l .result) (c .before .before .if1 .taken) (l .ensures)
+    λ ps h.
+    answer ps (depIn (a .e)) (a .p .words) (c .found .result) (l .result) (c .found .ensures)
+    (cut-line ps (depIn (a .e)) (a .p .words) (l .result) (c .before .before .if1 .taken) (l .ensures))
 
 cast-d : tie.Need-cast-d
 cast-d c = search needs
@@ -53,8 +55,8 @@ returns-2 c =
     let l = c .before .before .before .lowest-in2 in
     let m = c .before .before .lowest-in3 in
     λ ps h.
-    c .found2 .ensures ∙
-    cut-back
+    answer ps (depIn (a .e)) (a .p .words) (c .found2 .result) (l .result) (c .found2 .ensures)
+    (cut-back
     ps
     (depIn (a .e))
     (a .p .words)
@@ -66,7 +68,7 @@ returns-2 c =
     (h (c .before .before .before .before .before .if1 .left))
     (l .ensures)
     (m .ensures)
-    (inl (c .before .if2 .taken, refl))
+    (inl (c .before .if2 .taken, refl)))
 
 found-requires-3 : tie.Need-found-requires-3
 found-requires-3 c κs = search needs
@@ -77,8 +79,8 @@ returns-3 c =
     let l = c .before .before .before .lowest-in2 in
     let m = c .before .before .lowest-in3 in
     λ ps h.
-    c .found3 .ensures ∙
-    cut-back
+    answer ps (depIn (a .e)) (a .p .words) (c .found3 .result) (m .result) (c .found3 .ensures)
+    (cut-back
     ps
     (depIn (a .e))
     (a .p .words)
@@ -90,7 +92,7 @@ returns-3 c =
     (h (c .before .before .before .before .before .if1 .left))
     (l .ensures)
     (m .ensures)
-    (inr (c .before .if2 .left, refl))
+    (inr (c .before .if2 .left, refl)))
 
 pub cut-in-spec : {M : Type 1} → statement M
 cut-in-spec =
