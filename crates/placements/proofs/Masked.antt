@@ -1,5 +1,5 @@
 -- A loop's count as the ones of the placement under the loop's mask.
--- Main statements: `words-tally`, `count-tally`, `count-masked`.
+-- Main statements: `words-tally`, `count-tally`, `count-masked`, `gaps-size`.
 use mathlib.Core.Path.{_≡_, refl, sym, ap, _∙_}
 use mathlib.Core.Bool.{Bool, true, false, _&&_}
 use mathlib.Core.List.{List, [], _∷_}
@@ -90,3 +90,22 @@ count-masked n ws ms d h m =
         let z = rising-in 0 (length (n .points)) (gapsIn ws) j h (in-gaps ws j l ∙ e) in
         m j (z .0) (z .1)
     go j l false e = refl
+
+-- how many gaps there are
+size-of : (x : ℕ → Bool) (k g : ℕ) → length (gapsOf x k g) ≡ tally x k g
+unfolding gapsOf tally
+size-of x zero g = refl
+size-of x (suc k) g = go (x g) (size-of x k (suc g))
+  where
+    go : (t : Bool) → length (gapsOf x k (suc g)) ≡ tally x k (suc g) → length (kept t g (gapsOf x k (suc g))) ≡ one t + tally x k (suc g)
+    go true r = omega arith
+    go false r = omega arith
+
+pub gaps-size : (ws : List ℕ) → tally (λ (g : ℕ). holds ws g && holds ws g) GAPS 0 ≡ length (gapsIn ws)
+unfolding gapsIn
+gaps-size ws =
+    tally-same (λ (g : ℕ). holds ws g && holds ws g) (holds ws) GAPS 0 (λ j a b. twice (holds ws j)) ∙ sym (size-of (holds ws) GAPS 0)
+  where
+    twice : (t : Bool) → (t && t) ≡ t
+    twice true = refl
+    twice false = refl

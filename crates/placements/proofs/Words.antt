@@ -70,6 +70,10 @@ holds-put ws g i h = go (eq-or (i / 64) (g / 64))
 
 -- ---- the list of the gaps at which a test holds
 
+pub gapsOf-step : (x : ℕ → Bool) (k g : ℕ) → gapsOf x (suc k) g ≡ kept (x g) g (gapsOf x k (suc g))
+unfolding gapsOf
+gapsOf-step x k g = refl
+
 -- the same test, the same list
 pub gapsOf-same : (x y : ℕ → Bool) (k g : ℕ) → ((i : ℕ) → g ≤ i → i < g + k → x i ≡ y i) → gapsOf x k g ≡ gapsOf y k g
 unfolding gapsOf

@@ -134,7 +134,8 @@ pub fn cut_in(end: usize, p: Placement, e: Dependence) -> Cut
     found(b)
 }
 
-// The lowest gap of the placement that cuts the dependence.
+// The lowest gap of the placement that cuts the dependence. The ENDDO is looked for only where the first interval of a
+// carried dependence has no gap.
 pub fn cut_by(points: &[u8], p: Placement, e: Dependence) -> Cut
     ensures { λ r. ⌜ CutSays (now (points .entry)) (depIn e) (gapsIn (p .words)) r ⌝ }
 {
@@ -142,6 +143,12 @@ pub fn cut_by(points: &[u8], p: Placement, e: Dependence) -> Cut
         return cut_in(0, p, e);
     }
     let d = e.d as usize;
+    let s = e.s as usize;
+    let t = e.t as usize;
+    let a = p.lowest_in(d + 1, t);
+    if a <= s {
+        return found(a);
+    }
     let end = nests::end_of(points, d);
     cut_in(end, p, e)
 }
@@ -207,6 +214,13 @@ pub fn loop_count(p: Placement, mask: Placement) -> usize
     let a = p.words;
     let m = mask.words;
     shared(a[0], m[0]) + shared(a[1], m[1]) + shared(a[2], m[2]) + shared(a[3], m[3])
+}
+
+// How many gaps the placement has: all of them lie under itself as a mask.
+pub fn size(p: Placement) -> usize
+    ensures { λ r. ⌜ r ≡ length (gapsIn (p .words)) ⌝ }
+{
+    loop_count(p, p)
 }
 
 // The count of loop d in the placement.

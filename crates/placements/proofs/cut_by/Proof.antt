@@ -1,5 +1,10 @@
--- `cut_by` meets its contract: `cut_in` at the ENDDO of the loop that carries the dependence.
+-- `cut_by` meets its contract: `cut_in` at the ENDDO of the loop that carries the dependence, unless a gap of the first
+-- interval decides.
+use Prim.Native.Nat.{_<_}
+use native.Mathlib.Omega.{arith}
 use borrow.Author.Needs.{needs}
+use Rattle.nests.specs.Stored.{depIn}
+use Rattle.placements.proofs.Cuts.{answer, cut-before}
 use Rattle.placements.proofs.cut_by.Statement.{statement}
 use Rattle.placements.proofs.cut_by.Tie as tie
 
@@ -12,15 +17,59 @@ returns c = c .cut-in .ensures (c .before .before .before .before .args .points 
 cast-d : tie.Need-cast-d
 cast-d c = search needs
 
+cast-s : tie.Need-cast-s
+cast-s c = search needs
+
+cast-t : tie.Need-cast-t
+cast-t c = search needs
+
+add-lowest-in : tie.Need-add-lowest-in
+add-lowest-in c = search needs
+
+lowest-in-requires : tie.Need-lowest-in-requires
+lowest-in-requires c κs = search needs
+
+found-requires : tie.Need-found-requires
+found-requires c κs = search needs
+
+returns-2 : tie.Need-returns-2
+returns-2 c =
+    let a = c .before .before .before .before .before .before .before .before .before .args in
+    let l = c .before .before .lowest-in in
+    let n = c .before .before .before .before .before .before .if1 .left in
+    answer (a .points .now) (depIn (a .e)) (a .p .words) (c .found .result) (l .result) (c .found .ensures)
+    (cut-before
+    (a .points .now)
+    (depIn (a .e))
+    (a .p .words)
+    (l .result)
+    n
+    (l .ensures)
+    (c .before .if2 .taken)
+    (omega arith))
+
 end-of-requires : tie.Need-end-of-requires
 end-of-requires c κs = search needs
 
 cut-in-requires-2 : tie.Need-cut-in-requires-2
 cut-in-requires-2 c κs = search needs
 
-returns-2 : tie.Need-returns-2
-returns-2 c = c .cut-in2 .ensures (c .before .before .before .before .before .before .args .points .now) (λ h. c .before .end-of .ensures)
+returns-3 : tie.Need-returns-3
+returns-3 c = c .cut-in2 .ensures (c .before .before .before .before .before .before .before .before .before .before .args .points .now) (λ h. c .before .end-of .ensures)
 
 pub cut-by-spec : {M : Type 1} → statement M
 cut-by-spec =
-    tie.close (tie.spec cut-in-requires returns cast-d end-of-requires cut-in-requires-2 returns-2)
+    tie.close
+    (tie.spec
+    cut-in-requires
+    returns
+    cast-d
+    cast-s
+    cast-t
+    add-lowest-in
+    lowest-in-requires
+    found-requires
+    returns-2
+    end-of-requires
+    cut-in-requires-2
+    returns-3)
