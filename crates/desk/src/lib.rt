@@ -139,7 +139,7 @@ pub fn mark_placement(desk: Desk, text: &[u8]) -> Marked
     }
     let placement = reading.placement;
     let key = desk.key;
-    Marked::Given(verdict(nest, key, placement))
+    Marked::Given(judge(nest, key, placement))
 }
 
 // Writes the key as text from the start of the buffer. Numbers 10, 11, 9.
@@ -170,7 +170,7 @@ pub fn reset(desk: Desk) -> Desk
 }
 
 // How a placement stands beside the key.
-fn verdict(nest: Nest, key: Placement, placement: Placement) -> Verdict
+fn judge(nest: Nest, key: Placement, placement: Placement) -> Verdict
     requires { ⌜ IsCounted nest ⌝ }
     requires { ⌜ isValid (nestIn nest) ≡ true ⌝ }
     requires { ⌜ areGaps (nestIn nest) (gapsIn (key .words)) ≡ true ⌝ }
