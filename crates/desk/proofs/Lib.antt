@@ -1,3 +1,6 @@
 -- Laws of desks.
 pub mod Held
 pub mod Loads
+pub mod Ready
+pub mod Answers
+pub mod Judged
