@@ -4,3 +4,4 @@ pub mod Loads
 pub mod Ready
 pub mod Answers
 pub mod Judged
+pub mod Made
