@@ -1,14 +1,13 @@
 -- The refusals of a dependence, case by case in the order in which the code finds them.
 -- Main statements: `no-source`, `no-target`, `no-loop`, `back-before`, `back-inside`, `back-outside`, `line-forward`,
 -- `line-back`.
-use mathlib.Core.Path.{_≡_, refl, sym, _∙_}
-use mathlib.Core.Bool.{Bool, true, false, _&&_, not}
+use mathlib.Core.Path.{_≡_, refl, sym}
+use mathlib.Core.Bool.{Bool, true, false, _&&_}
 use mathlib.Core.List.{List}
 use mathlib.Core.Logic.{_⊎_, inl, inr}
 use Prim.Native.Nat.{ℕ, _≤_, _<_}
 use native.Mathlib.Omega.{arith}
-use lib.Dec.{eqb, ltb, leb}
-use lib.ListN.{length, getD}
+use lib.Dec.{ltb}
 use borrow.Author.Tests.{eq-eqb, ne-eqb, lt-ltb, le-ltb, le-leb, lt-leb}
 use Rattle.laws.proofs.Tests.{never}
 use Rattle.nests.specs.Kinds.{CARRIED}

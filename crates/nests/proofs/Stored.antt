@@ -1,6 +1,6 @@
 -- Laws of the nest as the code stores it: what one more point or dependence makes of it, and its dependences one by one.
 -- Main statements: `point-added`, `dependence-added`, `depsIn-length`, `depsIn-at`, `counted-many`, `counted-points`.
-use mathlib.Core.Path.{_≡_, refl, sym, ap, _∙_}
+use mathlib.Core.Path.{_≡_, refl, ap}
 use mathlib.Core.List.{List, [], _∷_, _++_}
 use Prim.Native.Nat.{ℕ, zero, suc, _+_, _≤_, _<_}
 use native.Mathlib.Numerals.{add-one}

@@ -1,8 +1,8 @@
 -- The cut test: the lowest gap of the placement among those of the dependence.
 -- Main statements: `lowest-between`, `lowest-either`, `cuts-by`, `cut-lowest`, `cut-line`, `cut-back`,
 -- `cut-before`.
-use mathlib.Core.Path.{_≡_, refl, sym, ap, _∙_}
-use mathlib.Core.Bool.{Bool, true, false, _&&_, _||_}
+use mathlib.Core.Path.{_≡_, refl, sym, _∙_}
+use mathlib.Core.Bool.{Bool, true, false, _||_}
 use mathlib.Core.List.{List, [], _∷_}
 use mathlib.Core.Logic.{_⊎_, inl, inr, ⊎-elim}
 use Prim.Native.Nat.{ℕ, zero, suc, _+_, _≤_, _<_}
@@ -11,7 +11,7 @@ use native.Mathlib.Omega.{arith}
 use lib.Dec.{eqb, ltb, leb}
 use borrow.Author.Tests.{eq-eqb, ne-eqb, lt-ltb, le-ltb, le-leb, leb-true}
 use Rattle.laws.specs.Choice.{pick, between}
-use Rattle.laws.proofs.Tests.{test, le-or, never, and-intro, and-true, or-true, or-left, or-right, false-by}
+use Rattle.laws.proofs.Tests.{le-or, never, and-intro, and-true, or-true, or-left, or-right, false-by}
 use Rattle.nests.specs.Kinds.{INDEPENDENT}
 use Rattle.nests.specs.Nests.{Dep}
 use Rattle.nests.specs.Loops.{endOf}

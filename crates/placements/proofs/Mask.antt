@@ -3,18 +3,17 @@
 use mathlib.Core.Path.{_≡_, refl, sym, ap, _∙_}
 use mathlib.Core.Bool.{Bool, true, false, _&&_, _||_}
 use mathlib.Core.List.{List}
-use mathlib.Core.Logic.{_⊎_, inl, inr, ⊎-elim}
-use Prim.Native.Nat.{ℕ, zero, suc, _+_, _-_, _≤_, _<_}
-use native.Mathlib.Numerals.{add-one}
+use mathlib.Core.Logic.{⊎-elim}
+use Prim.Native.Nat.{ℕ, suc, _+_, _-_, _≤_, _<_}
 use native.Mathlib.Omega.{arith}
 use lib.Dec.{eqb, ltb}
 use lib.ListN.{length, getD}
 use borrow.Author.Tests.{eq-eqb, ne-eqb, eqb-true, lt-ltb, le-ltb, ltb-true}
 use Rattle.laws.specs.Choice.{pick}
-use Rattle.laws.proofs.Tests.{test, le-or, eq-or, le-by, bool-by, and-intro, and-true, false-by, never}
+use Rattle.laws.proofs.Tests.{le-or, eq-or, le-by, bool-by, and-intro, and-true, false-by}
 use Rattle.nests.specs.Loops.{isDo, endOf, ownerOf, deeper}
 use Rattle.nests.specs.Valid.{isShape}
-use Rattle.nests.proofs.Levels.{lev, lev-step, lev-up, lev-deep, point-in}
+use Rattle.nests.proofs.Levels.{lev, lev-step, lev-up, lev-deep}
 use Rattle.nests.proofs.Loops.{end-after, end-there, range-above, owner-lower, owner-below, owner-holds, owner-inside}
 use Rattle.placements.specs.Words.{holds}
 use Rattle.placements.specs.Answers.{IsMask}

@@ -1,16 +1,15 @@
 -- A loop's count as the ones of the placement under the loop's mask.
 -- Main statements: `words-tally`, `count-tally`, `count-masked`, `gaps-size`.
-use mathlib.Core.Path.{_≡_, refl, sym, ap, _∙_}
+use mathlib.Core.Path.{_≡_, refl, sym, _∙_}
 use mathlib.Core.Bool.{Bool, true, false, _&&_}
-use mathlib.Core.List.{List, [], _∷_}
-use Prim.Native.Nat.{ℕ, zero, suc, _+_, _*_, _≤_, _<_}
+use mathlib.Core.List.{List}
+use Prim.Native.Nat.{ℕ, zero, suc, _+_, _*_, _<_}
 use native.Mathlib.Omega.{arith}
 use lib.Dec.{eqb}
 use lib.ListN.{length, getD}
 use Rattle.laws.specs.Bits.{bit, one, tally}
-use Rattle.laws.specs.Choice.{when}
 use Rattle.laws.proofs.Bits.{tally-same, tally-moved, tally-add}
-use Rattle.nests.specs.Nests.{Dep, Nest, nest}
+use Rattle.nests.specs.Nests.{Nest}
 use Rattle.nests.specs.Loops.{ownerOf}
 use Rattle.placements.specs.Placements.{loopCount, areGapsFrom}
 use Rattle.placements.specs.Words.{GAPS, holds, kept, gapsOf, gapsIn}

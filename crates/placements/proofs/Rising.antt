@@ -4,13 +4,13 @@ use mathlib.Core.Path.{_≡_, refl, sym, ap, _∙_}
 use mathlib.Core.Bool.{Bool, true, false, _&&_, _||_}
 use mathlib.Core.List.{List, [], _∷_}
 use mathlib.Core.Logic.{_⊎_, inl, inr, ⊎-elim}
-use Prim.Native.Nat.{ℕ, zero, suc, _+_, _/_, _≤_, _<_}
+use Prim.Native.Nat.{ℕ, suc, _≤_, _<_}
 use native.Mathlib.Omega.{arith}
 use lib.Dec.{eqb, ltb}
 use lib.ListN.{length, length-set}
 use borrow.Author.Tests.{eqb-true, eq-eqb, ne-eqb, lt-ltb, ltb-true}
 use Rattle.laws.specs.Choice.{isIn}
-use Rattle.laws.proofs.Tests.{test, le-or, eq-or, bool-by, or-true, and-true, false-by, never}
+use Rattle.laws.proofs.Tests.{le-or, eq-or, or-true, and-true, false-by, never}
 use Rattle.placements.specs.Placements.{areGapsFrom}
 use Rattle.placements.specs.Words.{GAPS, holds, gapsIn}
 use Rattle.placements.proofs.Words.{holds-empty, holds-put, putIn, in-gaps, in-gaps-beyond, gaps-rising}

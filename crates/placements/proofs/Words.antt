@@ -1,19 +1,19 @@
 -- Laws of a placement's words and of the rising list of their gaps.
 -- Main statements: `holds-put`, `holds-empty`, `in-gaps`, `gaps-same`, `gaps-none`, `gaps-put-last`, `gaps-rising`.
 use mathlib.Core.Path.{_≡_, refl, sym, ap, _∙_}
-use mathlib.Core.Bool.{Bool, true, false, _&&_, _||_}
+use mathlib.Core.Bool.{Bool, true, false, _||_}
 use mathlib.Core.List.{List, [], _∷_, _++_, append-nil}
 use mathlib.Core.Logic.{_⊎_, inl, inr, ⊎-elim}
-use Prim.Native.Nat.{ℕ, zero, suc, _+_, _-_, _*_, _/_, _%_, _^_, _≤_, _<_}
+use Prim.Native.Nat.{ℕ, zero, suc, _+_, _-_, _/_, _%_, _^_, _≤_, _<_}
 use native.Mathlib.Omega.{arith}
 use lib.Bits.{bitOr}
-use lib.Dec.{eqb, ltb}
+use lib.Dec.{eqb}
 use lib.ListN.{length, getD, set, List·getD-eq-default}
 use lib.Seq.{getD-set-same, getD-set-other}
-use borrow.Author.Tests.{eqb-true, eqb-false, eq-eqb, ne-eqb, lt-ltb, ltb-true}
+use borrow.Author.Tests.{eqb-true, eq-eqb, ne-eqb, lt-ltb}
 use Rattle.laws.specs.Choice.{isIn}
 use Rattle.laws.specs.Bits.{bit}
-use Rattle.laws.proofs.Tests.{test, le-or, eq-or, bool-by, or-true, and-intro, and-true, never}
+use Rattle.laws.proofs.Tests.{le-or, eq-or, bool-by, never}
 use Rattle.laws.proofs.Bits.{bit-or, bit-one, bit-zero}
 use Rattle.placements.specs.Placements.{areGapsFrom}
 use Rattle.placements.specs.Words.{GAPS, holds, kept, gapsOf, gapsIn}

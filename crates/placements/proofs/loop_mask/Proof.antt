@@ -1,7 +1,6 @@
 -- `loop_mask` meets its contract. The invariant: the own gaps passed are in the mask (`Masking`). The measure is what is
 -- left of the loop's range.
-use mathlib.Core.Path.{_≡_, sym, _∙_}
-use Prim.Native.Nat.{suc, _+_, _-_, _≤_, _<_}
+use Prim.Native.Nat.{suc, _-_, _≤_, _<_}
 use native.Mathlib.Omega.{arith}
 use lib.ListN.{length}
 use Rattle.nests.specs.Loops.{endOf}
@@ -33,7 +32,9 @@ empty-requires : tie.Need-empty-requires Inv-loop μ-loop
 empty-requires c κs = tt
 
 add-g : tie.Need-add-g Inv-loop μ-loop
-add-g c = omega (arith, point-in (c .before .before .args .points .now) (c .before .before .args .d) 0 (c .before .before .pre .1 .0))
+add-g c =
+    let b2 = c .before .before in
+    omega (arith, point-in (b2 .args .points .now) (b2 .args .d) 0 (b2 .pre .1 .0))
 
 loop-holds : tie.Need-loop-holds Inv-loop μ-loop
 loop-holds c =
