@@ -12,7 +12,7 @@ use borrow.Author.Tests.{eq-eqb, ne-eqb, lt-ltb, le-ltb, le-leb, lt-leb}
 use Rattle.laws.proofs.Tests.{never}
 use Rattle.nests.specs.Kinds.{CARRIED}
 use Rattle.nests.specs.Nests.{Dep}
-use Rattle.nests.specs.Loops.{isDo, endOf}
+use Rattle.nests.specs.Loops.{isDo, endOf, inLoop}
 use Rattle.nests.specs.Valid.{isSource, isTarget, depFault}
 
 module _ (ps : List ℕ) (e : Dep) where
@@ -61,8 +61,15 @@ module _ (ps : List ℕ) (e : Dep) where
             gone true false c d w = refl
             gone false b c d w = refl
 
+            s-in : Bool
+            s-in = ltb (e .s) (endOf ps (e .d))
+
+            t-in : Bool
+            t-in = ltb (e .t) (endOf ps (e .d))
+
             out
                 : (e .t ≤ e .d) ⊎ (endOf ps (e .d) ≤ e .s)
-                → ((ltb (e .d) (e .s) && ltb (e .s) (endOf ps (e .d))) && (ltb (e .d) (e .t) && ltb (e .t) (endOf ps (e .d)))) ≡ false
-            out (inl p) = gone (ltb (e .d) (e .s)) (ltb (e .s) (endOf ps (e .d))) (ltb (e .d) (e .t)) (ltb (e .t) (endOf ps (e .d))) (inr (le-ltb (e .d) (e .t) p))
-            out (inr p) = gone (ltb (e .d) (e .s)) (ltb (e .s) (endOf ps (e .d))) (ltb (e .d) (e .t)) (ltb (e .t) (endOf ps (e .d))) (inl (le-ltb (e .s) (endOf ps (e .d)) p))
+                → (inLoop ps (e .d) (e .s) && inLoop ps (e .d) (e .t)) ≡ false
+            out (inl p) = gone (ltb (e .d) (e .s)) s-in (ltb (e .d) (e .t)) t-in (inr (le-ltb (e .d) (e .t) p))
+            out (inr p) =
+                gone (ltb (e .d) (e .s)) s-in (ltb (e .d) (e .t)) t-in (inl (le-ltb (e .s) (endOf ps (e .d)) p))

@@ -37,7 +37,10 @@ module _ (ps : List ℕ) (d depth i : ℕ) (p : Scanned ps d depth i) where
       let z : endFrom i depth (drop i ps) ≡ i = rw (drop-cons ps i 0 h, eq-eqb (getD ps i 0) 2 e, eq-eqb depth 1 f) in
       sym z ∙ p .rest
 
-  pub scan-on : i < length ps → ((getD ps i 0 ≡ 2 → ⊥) ⊎ (depth ≡ 1 → ⊥)) → Scanned ps d (deeper depth (getD ps i 0)) (i + 1)
+  pub scan-on
+      : i < length ps
+      → ((getD ps i 0 ≡ 2 → ⊥) ⊎ (depth ≡ 1 → ⊥))
+      → Scanned ps d (deeper depth (getD ps i 0)) (i + 1)
   scan-on h w =
       record {
         rest = rw add-one (sym (step w) ∙ p .rest);
@@ -52,7 +55,9 @@ module _ (ps : List ℕ) (d depth i : ℕ) (p : Scanned ps d depth i) where
           go true q = q
           go false q = refl
 
-      step : (getD ps i 0 ≡ 2 → ⊥) ⊎ (depth ≡ 1 → ⊥) → endFrom i depth (drop i ps) ≡ endFrom (suc i) (deeper depth (getD ps i 0)) (drop (suc i) ps)
+      step
+          : (getD ps i 0 ≡ 2 → ⊥) ⊎ (depth ≡ 1 → ⊥)
+          → endFrom i depth (drop i ps) ≡ endFrom (suc i) (deeper depth (getD ps i 0)) (drop (suc i) ps)
       step v = rw (drop-cons ps i 0 h, stays v)
 
   pub scan-done : length ps ≤ i → i ≡ endOf ps d

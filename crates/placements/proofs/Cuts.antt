@@ -100,7 +100,8 @@ module _ (ps : List ℕ) (e : Dep) where
       → cutBy ps e (gapsOf x k g) ≡ 0
   unfolding gapsOf
   cut-none x zero g h = refl
-  cut-none x (suc k) g h = go (x g) (hasGap ps e g) refl refl (cut-none x k (suc g) (λ i a b. h i (omega arith) (omega arith)))
+  cut-none x (suc k) g h =
+      go (x g) (hasGap ps e g) refl refl (cut-none x k (suc g) (λ i a b. h i (omega arith) (omega arith)))
     where
       go
           : (t y : Bool)
@@ -152,13 +153,18 @@ module _ (ps : List ℕ) (e : Dep) where
     where
       go
           : (t : Bool)
-          → pick t (between (suc (e .s)) 0 (e .t)) (between (suc (e .d)) 0 (e .t) || between (suc (e .s)) 0 (endOf ps (e .d))) ≡ true
+          → pick
+          t
+          (between (suc (e .s)) 0 (e .t))
+          (between (suc (e .d)) 0 (e .t) || between (suc (e .s)) 0 (endOf ps (e .d))) ≡
+          true
           → ⊥
       go true h = omega (arith, between-true (suc (e .s)) 0 (e .t) h .0)
       go false h =
           ⊎-elim
           (λ (z : between (suc (e .d)) 0 (e .t) ≡ true). omega (arith, between-true (suc (e .d)) 0 (e .t) z .0))
-          (λ (z : between (suc (e .s)) 0 (endOf ps (e .d)) ≡ true). omega (arith, between-true (suc (e .s)) 0 (endOf ps (e .d)) z .0))
+          (λ (z : between (suc (e .s)) 0 (endOf ps (e .d)) ≡ true).
+          omega (arith, between-true (suc (e .s)) 0 (endOf ps (e .d)) z .0))
           (or-true (between (suc (e .d)) 0 (e .t)) (between (suc (e .s)) 0 (endOf ps (e .d))) h)
 
   pub gap-positive : (i : ℕ) → hasGap ps e i ≡ true → 0 < i
@@ -222,7 +228,13 @@ module _ (ps : List ℕ) (e : Dep) where
       cut-lowest
       ws
       r
-      (lowest-same ws (λ (g : ℕ). between (e .s + 1) g (e .t)) (hasGap ps e) r (λ g. rw (eq-eqb (e .kind) INDEPENDENT k, add-one)) p)
+      (lowest-same
+      ws
+      (λ (g : ℕ). between (e .s + 1) g (e .t))
+      (hasGap ps e)
+      r
+      (λ g. rw (eq-eqb (e .kind) INDEPENDENT k, add-one))
+      p)
 
   pub cut-back
       : (ws : List ℕ) (end a b r : ℕ)

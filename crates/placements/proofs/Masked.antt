@@ -37,7 +37,8 @@ module _ (ws ms : List ℕ) where
       (λ j a b. rw (at-word ws (k * 64 + j) k j refl (omega arith), at-word ms (k * 64 + j) k j refl (omega arith)))
 
   pub words-tally
-      : tally (both-in 0) 64 0 + tally (both-in 1) 64 0 + tally (both-in 2) 64 0 + tally (both-in 3) 64 0 ≡ tally both GAPS 0
+      : tally (both-in 0) 64 0 + tally (both-in 1) 64 0 + tally (both-in 2) 64 0 + tally (both-in 3) 64 0 ≡
+      tally both GAPS 0
   words-tally =
       let a : tally both 256 0 ≡ tally both 64 0 + tally both 192 64 = tally-add both 64 192 0 in
       let b : tally both 192 64 ≡ tally both 64 64 + tally both 128 128 = tally-add both 64 128 64 in
@@ -96,14 +97,18 @@ unfolding gapsOf tally
 size-of x zero g = refl
 size-of x (suc k) g = go (x g) (size-of x k (suc g))
   where
-    go : (t : Bool) → length (gapsOf x k (suc g)) ≡ tally x k (suc g) → length (kept t g (gapsOf x k (suc g))) ≡ one t + tally x k (suc g)
+    go
+        : (t : Bool)
+        → length (gapsOf x k (suc g)) ≡ tally x k (suc g)
+        → length (kept t g (gapsOf x k (suc g))) ≡ one t + tally x k (suc g)
     go true r = omega arith
     go false r = omega arith
 
 pub gaps-size : (ws : List ℕ) → tally (λ (g : ℕ). holds ws g && holds ws g) GAPS 0 ≡ length (gapsIn ws)
 unfolding gapsIn
 gaps-size ws =
-    tally-same (λ (g : ℕ). holds ws g && holds ws g) (holds ws) GAPS 0 (λ j a b. twice (holds ws j)) ∙ sym (size-of (holds ws) GAPS 0)
+    tally-same (λ (g : ℕ). holds ws g && holds ws g) (holds ws) GAPS 0 (λ j a b. twice (holds ws j)) ∙
+    sym (size-of (holds ws) GAPS 0)
   where
     twice : (t : Bool) → (t && t) ≡ t
     twice true = refl

@@ -1,5 +1,6 @@
 -- The dependences tried one by one, for the first that is not cut.
--- Main statements: `Tried`, what a turn keeps; `tried-start`, `tried-cut`, `tried-uncut`, `tried-done`, `carried-by-loop`.
+-- Main statements: `Tried`, what a turn keeps; `tried-start`, `tried-cut`, `tried-uncut`, `tried-done`;
+-- `carried-by-loop`.
 use mathlib.Core.Path.{_≡_, refl, sym, _∙_}
 use mathlib.Core.Bool.{true, false, _&&_}
 use mathlib.Core.List.{List, [], _∷_}
@@ -79,4 +80,7 @@ pub carried-by-loop
     → (e .kind ≡ INDEPENDENT → ⊥)
     → isDo ps (e .d) ≡ true
 carried-by-loop ps ds i e es h q n =
-    ⊎-elim (λ (z : Line ps e). absurd (n (z .kind-is))) (λ (z : Back ps e). z .loop) (dep-fits ps e (dep-at ps ds i e es h q))
+    ⊎-elim
+    (λ (z : Line ps e). absurd (n (z .kind-is)))
+    (λ (z : Back ps e). z .loop)
+    (dep-fits ps e (dep-at ps ds i e es h q))

@@ -4,7 +4,8 @@ use mathlib.Core.Logic.{inl, inr}
 use native.Mathlib.Omega.{arith}
 use borrow.Author.Needs.{needs}
 use Rattle.nests.specs.Stored.{depIn}
-use Rattle.nests.proofs.Faults.{no-source, no-target, no-loop, back-before, back-inside, back-outside, line-forward, line-back}
+use Rattle.nests.proofs.Faults.{no-source, no-target, no-loop}
+use Rattle.nests.proofs.Faults.{back-before, back-inside, back-outside, line-forward, line-back}
 use Rattle.nests.proofs.dep_fault.Statement.{statement}
 use Rattle.nests.proofs.dep_fault.Tie as tie
 
@@ -38,7 +39,8 @@ returns c =
     let b13 = b8 .before .before .before .before .before in
     let a = b13 .args in
     back-before (a .points .now) (depIn (a .e)) (sym (b8 .is-source .ensures) ∙ b7 .if1 .taken)
-    (sym (b6 .is-target .ensures) ∙ b5 .if2 .taken) (b3 .if3 .taken) (sym (b2 .is-do .ensures) ∙ b1 .if4 .taken) (c .if5 .taken)
+    (sym (b6 .is-target .ensures) ∙ b5 .if2 .taken) (b3 .if3 .taken) (sym (b2 .is-do .ensures) ∙ b1 .if4 .taken)
+    (c .if5 .taken)
 
 end-of-requires : tie.Need-end-of-requires
 end-of-requires c κs = search needs
@@ -57,7 +59,8 @@ returns-2 c =
     let b16 = b11 .before .before .before .before .before in
     let a = b16 .args in
     back-inside (a .points .now) (depIn (a .e)) (sym (b11 .is-source .ensures) ∙ b10 .if1 .taken)
-    (sym (b9 .is-target .ensures) ∙ b8 .if2 .taken) (b6 .if3 .taken) (sym (b5 .is-do .ensures) ∙ b4 .if4 .taken) (b3 .if5 .left) (b1 .if6 .taken) (omega arith)
+    (sym (b9 .is-target .ensures) ∙ b8 .if2 .taken) (b6 .if3 .taken) (sym (b5 .is-do .ensures) ∙ b4 .if4 .taken)
+    (b3 .if5 .left) (b1 .if6 .taken) (omega arith)
 
 returns-3 : tie.Need-returns-3
 returns-3 c =
@@ -72,7 +75,8 @@ returns-3 c =
     let b16 = b11 .before .before .before .before .before in
     let a = b16 .args in
     back-outside (a .points .now) (depIn (a .e)) (sym (b11 .is-source .ensures) ∙ b10 .if1 .taken)
-    (sym (b9 .is-target .ensures) ∙ b8 .if2 .taken) (b6 .if3 .taken) (sym (b5 .is-do .ensures) ∙ b4 .if4 .taken) (b3 .if5 .left) (inr (omega arith))
+    (sym (b9 .is-target .ensures) ∙ b8 .if2 .taken) (b6 .if3 .taken) (sym (b5 .is-do .ensures) ∙ b4 .if4 .taken)
+    (b3 .if5 .left) (inr (omega arith))
 
 returns-4 : tie.Need-returns-4
 returns-4 c =
@@ -87,7 +91,8 @@ returns-4 c =
     let b15 = b10 .before .before .before .before .before in
     let a = b15 .args in
     back-outside (a .points .now) (depIn (a .e)) (sym (b10 .is-source .ensures) ∙ b9 .if1 .taken)
-    (sym (b8 .is-target .ensures) ∙ b7 .if2 .taken) (b5 .if3 .taken) (sym (b4 .is-do .ensures) ∙ b3 .if4 .taken) (b2 .if5 .left) (inl (c .if6 .left))
+    (sym (b8 .is-target .ensures) ∙ b7 .if2 .taken) (b5 .if3 .taken) (sym (b4 .is-do .ensures) ∙ b3 .if4 .taken)
+    (b2 .if5 .left) (inl (c .if6 .left))
 
 returns-5 : tie.Need-returns-5
 returns-5 c =

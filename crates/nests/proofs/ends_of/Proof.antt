@@ -1,5 +1,5 @@
--- `ends_of` meets its contract. The invariant: the entries of the DOs passed are there (`Filled`). The measure is what is
--- left of the points.
+-- `ends_of` meets its contract. The invariant: the entries of the DOs passed are there (`Filled`). The measure is what
+-- is left of the points.
 use mathlib.Core.Path.{refl}
 use Prim.Native.Nat.{_-_}
 use native.Mathlib.Omega.{arith}
@@ -40,7 +40,8 @@ loop-again c =
     let b4 = c .before .before .before .before in
     let b6 = b4 .before .before in
     let l = b4 .loop in
-    fill-do (b6 .args .points .now) (l .ends) (l .d) (l .inv) (c .end-of .result) (omega (arith, b6 .pre)) (c .end-of .ensures)
+    fill-do (b6 .args .points .now) (l .ends) (l .d) (l .inv) (c .end-of .result)
+    (omega (arith, b6 .pre)) (c .end-of .ensures)
 
 add-d-2 : tie.Need-add-d-2 Inv-loop μ-loop
 add-d-2 c = omega (arith, c .before .before .before .before .before .pre)

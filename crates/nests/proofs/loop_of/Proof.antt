@@ -1,6 +1,7 @@
 -- `loop_of` meets its contract. The invariant: back to i no level is below the gap's (`Back`). The measure is i.
 use native.Mathlib.Omega.{arith}
-use Rattle.nests.proofs.Backward.{Back, back-start, back-found, back-over-do, back-over-end, back-over-other, back-ends}
+use Rattle.nests.proofs.Backward.{Back, back-start, back-found, back-ends}
+use Rattle.nests.proofs.Backward.{back-over-do, back-over-end, back-over-other}
 use Rattle.nests.proofs.loop_of.Statement.{statement}
 use Rattle.nests.proofs.loop_of.Tie as tie
 
@@ -100,7 +101,8 @@ returns-2 c =
     let a = b2 .args in
     let p = b2 .pre in
     let l = b1 .loop in
-    absurd (back-ends (a .points .now) (p .0) (a .g) (p .1 .0) (p .1 .1) (l .depth) (l .i) (c .loop-test .left) (l .inv))
+    absurd (back-ends (a .points .now) (p .0) (a .g) (p .1 .0) (p .1 .1) (l .depth) (l .i)
+    (c .loop-test .left) (l .inv))
 
 pub loop-of-spec : {M : Type 1} → statement M
 loop-of-spec =

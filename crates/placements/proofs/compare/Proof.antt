@@ -14,7 +14,8 @@ use Rattle.nests.proofs.Loops.{end-has-do, owner-is-do}
 use Rattle.placements.specs.Placements.{loopCount}
 use Rattle.placements.specs.Words.{gapsIn}
 use Rattle.placements.proofs.Masked.{count-masked}
-use Rattle.placements.proofs.Comparing.{Compares, compare-start, compare-other, compare-same, compare-differ, compare-done}
+use Rattle.placements.proofs.Comparing.{Compares, compare-start, compare-other, compare-done}
+use Rattle.placements.proofs.Comparing.{compare-same, compare-differ}
 use Rattle.placements.proofs.compare.Statement.{statement}
 use Rattle.placements.proofs.compare.Tie as tie
 
@@ -33,7 +34,9 @@ shared-slice-read-if1 : tie.Need-shared-slice-read-if1 Inv-loop μ-loop
 shared-slice-read-if1 c = omega arith
 
 -- the point is an ENDDO
-ends : (c : tie.Then1 Inv-loop μ-loop) → isEnd (c .before .before .before .before .before .args .points .now) (c .before .before .before .loop .e) ≡ true
+ends
+    : (c : tie.Then1 Inv-loop μ-loop)
+    → let l = c .before .before .before in isEnd (l .before .before .args .points .now) (l .loop .e) ≡ true
 ends c =
     let b3 = c .before .before .before in
     let b5 = b3 .before .before in
@@ -54,9 +57,9 @@ loop-mask-requires c κs =
     let ps = b6 .args .points .now in
     let s = b6 .pre .0 .0 in
     let e = b4 .loop .e in
-    let f = end-not-first ps s e (ends (b1)) in
+    let f = end-not-first ps s e (ends b1) in
     let o = c .loop-of .ensures in
-    (b6 .pre .0, (rw o (owner-is-do ps s e f (b3 .loop-test .taken)), rw o (sym (end-has-do ps s e (ends (b1))))))
+    (b6 .pre .0, (rw o (owner-is-do ps s e f (b3 .loop-test .taken)), rw o (sym (end-has-do ps s e (ends b1)))))
 
 loop-count-requires : tie.Need-loop-count-requires Inv-loop μ-loop
 loop-count-requires c κs = tt
@@ -67,8 +70,10 @@ loop-count-requires-2 c κs = tt
 -- the ones under the mask are the loop's counts
 ours
     : (c : tie.After-loop-count2 Inv-loop μ-loop) (ds : List Dep)
-    → c .before .loop-count .result
-    ≡ loopCount (nest (c .before .before .before .before .before .before .before .before .before .args .points .now) ds) (gapsIn (c .before .before .before .before .before .before .before .before .before .args .key .words)) (c .before .before .before .loop-of .result)
+    → let d = c .before .before .before in
+    let a = d .before .before .before .before .before .before .args in
+    c .before .loop-count .result ≡
+    loopCount (nest (a .points .now) ds) (gapsIn (a .key .words)) (d .loop-of .result)
 ours c ds =
     let b1 = c .before in
     let b2 = b1 .before in
@@ -81,8 +86,9 @@ ours c ds =
 
 theirs
     : (c : tie.After-loop-count2 Inv-loop μ-loop) (ds : List Dep)
-    → c .loop-count2 .result
-    ≡ loopCount (nest (c .before .before .before .before .before .before .before .before .before .args .points .now) ds) (gapsIn (c .before .before .before .before .before .before .before .before .before .args .other .words)) (c .before .before .before .loop-of .result)
+    → let d = c .before .before .before in
+    let a = d .before .before .before .before .before .before .args in
+    c .loop-count2 .result ≡ loopCount (nest (a .points .now) ds) (gapsIn (a .other .words)) (d .loop-of .result)
 theirs c ds =
     let b2 = c .before .before in
     let b3 = b2 .before in
@@ -161,7 +167,8 @@ returns-2 c =
     let b3 = b1 .before .before in
     let a = b3 .args in
     let l = b1 .loop in
-    compare-done (a .points .now) (gapsIn (a .key .words)) (gapsIn (a .other .words)) (l .e) (l .inv) (c .loop-test .left)
+    compare-done (a .points .now) (gapsIn (a .key .words)) (gapsIn (a .other .words)) (l .e) (l .inv)
+    (c .loop-test .left)
 
 pub compare-spec : {M : Type 1} → statement M
 compare-spec =

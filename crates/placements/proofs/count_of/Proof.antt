@@ -22,7 +22,8 @@ returns c =
     let a = b4 .args in
     λ ds.
     c .loop-count .ensures ∙
-    count-masked (nest (a .points .now) ds) (a .p .words) (b1 .loop-mask .result .words) (a .d) (b4 .pre .1 .1) (b1 .loop-mask .ensures)
+    count-masked (nest (a .points .now) ds) (a .p .words) (b1 .loop-mask .result .words) (a .d) (b4 .pre .1 .1)
+    (b1 .loop-mask .ensures)
 
 pub count-of-spec : {M : Type 1} → statement M
 count-of-spec = tie.close (tie.spec end-of-requires loop-mask-requires loop-count-requires returns)

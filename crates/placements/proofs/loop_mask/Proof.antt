@@ -1,5 +1,5 @@
--- `loop_mask` meets its contract. The invariant: the own gaps passed are in the mask (`Masking`). The measure is what is
--- left of the loop's range.
+-- `loop_mask` meets its contract. The invariant: the own gaps passed are in the mask (`Masking`). The measure is what
+-- is left of the loop's range.
 use Prim.Native.Nat.{suc, _-_, _≤_, _<_}
 use native.Mathlib.Omega.{arith}
 use lib.ListN.{length}
@@ -18,7 +18,8 @@ abbrev μ-loop : tie.MeasureT-loop
 -- in a turn the point after the gap is there, and the depth is small
 inside
     : (c : tie.In-loop Inv-loop μ-loop)
-    → (c .before .loop .g < length (c .before .before .before .before .args .points .now)) × ((0 < c .before .loop .depth) × (c .before .loop .depth ≤ 8))
+    → let l = c .before .loop in
+    (l .g < length (c .before .before .before .before .args .points .now)) × ((0 < l .depth) × (l .depth ≤ 8))
 inside c =
     let a = c .before .before .before .before .args in
     let p = c .before .before .before .before .pre in

@@ -1,4 +1,5 @@
--- `uncut` meets its contract. The invariant: the dependences before i are cut (`Tried`). The measure is how many are left.
+-- `uncut` meets its contract. The invariant: the dependences before i are cut (`Tried`). The measure is how many are
+-- left.
 use mathlib.Core.Path.{_≡_, sym, ap, _∙_}
 use mathlib.Core.List.{_∷_}
 use Prim.Native.Nat.{suc, _-_}
@@ -11,7 +12,8 @@ use Rattle.nests.specs.Stored.{depIn, nestIn}
 use Rattle.nests.proofs.Stored.{depsIn-at, counted-many, counted-points}
 use Rattle.placements.specs.Words.{gapsIn}
 use Rattle.placements.specs.Answers.{isCut, CutSays}
-use Rattle.placements.proofs.Trying.{Tried, tried-start, tried-cut, tried-uncut, tried-done, valid-deps, carried-by-loop}
+use Rattle.placements.proofs.Trying.{Tried, tried-start, tried-cut, tried-uncut, tried-done}
+use Rattle.placements.proofs.Trying.{valid-deps, carried-by-loop}
 use Rattle.placements.proofs.uncut.Statement.{statement}
 use Rattle.placements.proofs.uncut.Tie as tie
 
@@ -62,7 +64,9 @@ tried c =
 
 here
     : (c : tie.After-cut-in Inv-loop μ-loop)
-    → let ds = nestIn (c .before .before .before .before .before .before .before .before .args .t1) .deps in drop (c .before .before .before .before .loop .i) ds ≡ tried c ∷ drop (suc (c .before .before .before .before .loop .i)) ds
+    → let l = c .before .before .before .before in
+    let ds = nestIn (l .before .before .before .before .args .t1) .deps in
+    drop (l .loop .i) ds ≡ tried c ∷ drop (suc (l .loop .i)) ds
 here c =
     let b3 = c .before .before .before in
     let b4 = b3 .before in
@@ -74,7 +78,8 @@ here c =
 -- what the cut test says of it
 told
     : (c : tie.After-cut-in Inv-loop μ-loop)
-    → CutSays (nestIn (c .before .before .before .before .before .before .before .before .args .t1) .points) (tried c) (gapsIn (c .before .before .before .before .before .before .before .before .args .p .words)) (c .cut-in .result)
+    → let a = c .before .before .before .before .before .before .before .before .args in
+    CutSays (nestIn (a .t1) .points) (tried c) (gapsIn (a .p .words)) (c .cut-in .result)
 told c =
     let b4 = c .before .before .before .before in
     let b5 = b4 .before in
@@ -85,7 +90,15 @@ told c =
     (λ k.
     b5 .ends-of .ensures
     (tried c .d)
-    (carried-by-loop (n .points) (n .deps) (b4 .loop .i) (tried c) (drop (suc (b4 .loop .i)) (n .deps)) (valid-deps n (b8 .pre .1)) (here c) k))
+    (carried-by-loop
+    (n .points)
+    (n .deps)
+    (b4 .loop .i)
+    (tried c)
+    (drop (suc (b4 .loop .i)) (n .deps))
+    (valid-deps n (b8 .pre .1))
+    (here c)
+    k))
 
 enum-told : tie.Need-enum-told Inv-loop μ-loop
 enum-told c = c .match .keys1

@@ -6,7 +6,8 @@ use mir.Syntax.{w64}
 use mir.Val.{Fits}
 use lib.ListN.{getD}
 use borrow.Author.Needs.{needs}
-use Rattle.placements.proofs.Lowest.{Passed, First, Later, low-beyond, low-first, pass-first, low-later, pass-later, low-none}
+use Rattle.placements.proofs.Lowest.{Passed, First, Later, low-beyond, low-none}
+use Rattle.placements.proofs.Lowest.{low-first, pass-first, low-later, pass-later}
 use Rattle.placements.proofs.Placement.lowest_from.Statement.{statement}
 use Rattle.placements.proofs.Placement.lowest_from.Tie as tie
 
@@ -31,22 +32,26 @@ word-fits c i =
     f .fits
 
 -- what is known where the first word has a bit
-first : (c : tie.Then2 Inv-loop μ-loop) → First (c .before .before .before .args .t1 .words) (c .before .before .before .args .lo)
+first : (c : tie.Then2 Inv-loop μ-loop) → let a = c .before .before .before .args in First (a .t1 .words) (a .lo)
 first c =
     let b2 = c .before .before in
     let b3 = b2 .before in
     let a = b3 .args in
-    low-first (a .t1 .words) (word-fits (b3)) (a .lo) (b2 .if1 .taken) (c .if2 .taken)
+    low-first (a .t1 .words) (word-fits b3) (a .lo) (b2 .if1 .taken) (c .if2 .taken)
 
 -- and where a later word has one
-later : (c : tie.Then3 Inv-loop μ-loop) → Later (c .before .before .before .before .before .before .before .args .t1 .words) (c .before .before .before .before .before .before .before .args .lo) (c .before .before .before .loop .i)
+later
+    : (c : tie.Then3 Inv-loop μ-loop)
+    → let l = c .before .before .before in
+    let a = l .before .before .before .before .args in
+    Later (a .t1 .words) (a .lo) (l .loop .i)
 later c =
     let b2 = c .before .before in
     let b3 = b2 .before in
     let b7 = b3 .before .before .before .before in
     let a = b7 .args in
     let l = b3 .loop in
-    low-later (a .t1 .words) (word-fits (b7)) (a .lo) (l .i) (b2 .loop-test .taken) (l .inv) (c .if3 .taken)
+    low-later (a .t1 .words) (word-fits b7) (a .lo) (l .i) (b2 .loop-test .taken) (l .inv) (c .if3 .taken)
 
 cast-result : tie.Need-cast-result Inv-loop μ-loop
 cast-result c = omega (arith, first c .0)
@@ -64,7 +69,7 @@ loop-holds : tie.Need-loop-holds Inv-loop μ-loop
 loop-holds c =
     let b2 = c .before .before in
     let b3 = b2 .before in
-    pass-first (b3 .args .t1 .words) (word-fits (b3)) (b3 .args .lo) (b2 .if1 .taken) (c .if2 .left)
+    pass-first (b3 .args .t1 .words) (word-fits b3) (b3 .args .lo) (b2 .if1 .taken) (c .if2 .left)
 
 mul-w : tie.Need-mul-w Inv-loop μ-loop
 mul-w c = omega arith
@@ -96,7 +101,7 @@ loop-again c =
     let b7 = b3 .before .before .before .before in
     let a = b7 .args in
     let l = b3 .loop in
-    pass-later (a .t1 .words) (word-fits (b7)) (a .lo) (l .i) (l .inv) (c .if3 .left)
+    pass-later (a .t1 .words) (word-fits b7) (a .lo) (l .i) (l .inv) (c .if3 .left)
 
 returns-3 : tie.Need-returns-3 Inv-loop μ-loop
 returns-3 c =
@@ -104,7 +109,7 @@ returns-3 c =
     let b5 = b1 .before .before .before .before in
     let a = b5 .args in
     let l = b1 .loop in
-    low-none (a .t1 .words) (word-fits (b5)) (a .lo) (l .i) (c .loop-test .left) (l .inv)
+    low-none (a .t1 .words) (word-fits b5) (a .lo) (l .i) (c .loop-test .left) (l .inv)
 
 returns-4 : tie.Need-returns-4 Inv-loop μ-loop
 returns-4 c = low-beyond (c .before .args .t1 .words) (c .before .args .lo) (c .if1 .left)
