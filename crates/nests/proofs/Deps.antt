@@ -1,21 +1,25 @@
--- Dependences that are placed well: an independent one runs forward, a carried one has both points inside its loop. The order
--- of a carried one's two points plays no part.
--- Main definition: `Fits`. Main statements: `dep-fits`, `deps-fit`.
-use mathlib.Core.Path.{_≡_, refl, sym, ap, _∙_}
-use mathlib.Core.Bool.{Bool, true, false, _&&_, _||_, not}
+-- Dependences that are placed well: an independent one runs forward, a carried one has both points inside its loop. The
+-- order of a carried one's two points plays no part.
+-- Main definition: `Fits`. Main statements: `dep-fits`, `deps-fit`, `valid-is`, and the gaps as facts:
+-- `line-gap`, `gap-of-line`, `back-gap`, `gap-before-target`, `gap-after-source`, `target-gap`.
+use mathlib.Core.Path.{_≡_}
+use mathlib.Core.Bool.{true, _&&_, _||_, not}
 use mathlib.Core.List.{List, [], _∷_}
 use mathlib.Core.Logic.{_⊎_, inl, inr, ⊎-elim}
-use Prim.Native.Nat.{ℕ, zero, suc, _≤_, _<_}
+use Prim.Native.Nat.{ℕ, suc, _≤_, _<_}
 use native.Mathlib.Omega.{arith}
 use lib.Dec.{eqb, ltb, leb}
 use lib.ListN.{length, getD}
-use borrow.Author.Tests.{ltb-true, leb-true, eqb-true}
-use Rattle.laws.specs.Choice.{pick}
-use Rattle.laws.proofs.Tests.{and-true, or-true, never-both}
-use Rattle.nests.specs.Kinds.{STATEMENT, DO, ENDDO, INDEPENDENT, CARRIED}
-use Rattle.nests.specs.Nests.{Dep}
-use Rattle.nests.specs.Loops.{isDo, isEnd, endOf, inLoop}
-use Rattle.nests.specs.Valid.{isSource, isTarget, namesPoints, runsRight, isDep, areDeps}
+use borrow.Author.Tests.{ltb-true, eqb-true, leb-true}
+use Rattle.laws.specs.Choice.{between}
+use Rattle.laws.specs.Members.{Among}
+use Rattle.laws.proofs.Ranges.{in-between, between-in}
+use Rattle.laws.proofs.Tests.{and-true, or-true, or-left, or-right}
+use Rattle.nests.specs.Kinds.{STATEMENT, ENDDO, INDEPENDENT, CARRIED, POINTS, DEPENDENCES}
+use Rattle.nests.specs.Nests.{Dep, Nest}
+use Rattle.nests.specs.Loops.{isDo, endOf, inLoop}
+use Rattle.nests.specs.Gaps.{hasGap}
+use Rattle.nests.specs.Valid.{isSource, isTarget, namesPoints, runsRight, isDep, areDeps, isShape, isValid}
 
 -- an independent dependence
 pub record Line (ps : List ℕ) (e : Dep) : Type 0 where
@@ -41,20 +45,21 @@ in-loop ps d p h =
     (ltb-true d p (z .0), ltb-true p (endOf ps d) (z .1))
 
 module _ (ps : List ℕ) (e : Dep) (names : namesPoints ps e ≡ true) (right : runsRight ps e ≡ true) where
+  target-and-loop : (isTarget ps (e .t) ≡ true) × ((not (eqb (e .kind) CARRIED) || isDo ps (e .d)) ≡ true)
+  target-and-loop =
+      let carrier = not (eqb (e .kind) CARRIED) || isDo ps (e .d) in
+      and-true (isTarget ps (e .t)) carrier (and-true (isSource ps (e .s)) (isTarget ps (e .t) && carrier) names .1)
+
   target-there : e .t < length ps
   target-there =
-      let a = and-true (isSource ps (e .s)) (isTarget ps (e .t) && (not (eqb (e .kind) CARRIED) || isDo ps (e .d))) names in
-      let b = and-true (isTarget ps (e .t)) (not (eqb (e .kind) CARRIED) || isDo ps (e .d)) (a .1) in
-      let c = and-true (ltb (e .t) (length ps)) (eqb (getD ps (e .t) 0) STATEMENT || eqb (getD ps (e .t) 0) ENDDO) (b .0) in
-      ltb-true (e .t) (length ps) (c .0)
+      let sort = eqb (getD ps (e .t) 0) STATEMENT || eqb (getD ps (e .t) 0) ENDDO in
+      ltb-true (e .t) (length ps) (and-true (ltb (e .t) (length ps)) sort (target-and-loop .0) .0)
 
   line-fits : e .kind ≡ INDEPENDENT → Line ps e
   line-fits k = record { kind-is = k; forward = ltb-true (e .s) (e .t) (rw k at right); target-there = target-there }
 
   back-fits : e .kind ≡ CARRIED → Back ps e
   back-fits k =
-      let a = and-true (isSource ps (e .s)) (isTarget ps (e .t) && (not (eqb (e .kind) CARRIED) || isDo ps (e .d))) names in
-      let b = and-true (isTarget ps (e .t)) (not (eqb (e .kind) CARRIED) || isDo ps (e .d)) (a .1) in
       let c : (leb (e .t) (e .s) && (inLoop ps (e .d) (e .s) && inLoop ps (e .d) (e .t))) ≡ true = rw k at right in
       let f = and-true (leb (e .t) (e .s)) (inLoop ps (e .d) (e .s) && inLoop ps (e .d) (e .t)) c in
       let g = and-true (inLoop ps (e .d) (e .s)) (inLoop ps (e .d) (e .t)) (f .1) in
@@ -62,7 +67,7 @@ module _ (ps : List ℕ) (e : Dep) (names : namesPoints ps e ≡ true) (right : 
       let t = in-loop ps (e .d) (e .t) (g .1) in
       record {
         kind-is = k;
-        loop = rw k at (b .1);
+        loop = rw k at (target-and-loop .1);
         source-after = s .0;
         source-before = s .1;
         target-after = t .0;
@@ -71,7 +76,8 @@ module _ (ps : List ℕ) (e : Dep) (names : namesPoints ps e ≡ true) (right : 
 
 pub dep-fits : (ps : List ℕ) (e : Dep) → isDep ps e ≡ true → Fits ps e
 dep-fits ps e h =
-    let a = and-true ((eqb (e .kind) INDEPENDENT && eqb (e .d) 0) || eqb (e .kind) CARRIED) (namesPoints ps e && runsRight ps e) h in
+    let kinds = (eqb (e .kind) INDEPENDENT && eqb (e .d) 0) || eqb (e .kind) CARRIED in
+    let a = and-true kinds (namesPoints ps e && runsRight ps e) h in
     let b = and-true (namesPoints ps e) (runsRight ps e) (a .1) in
     ⊎-elim
     (λ (z : (eqb (e .kind) INDEPENDENT && eqb (e .d) 0) ≡ true).
@@ -79,3 +85,61 @@ dep-fits ps e h =
     inl (line-fits ps e (b .0) (b .1) (eqb-true (e .kind) INDEPENDENT (k .0))))
     (λ (z : eqb (e .kind) CARRIED ≡ true). inr (back-fits ps e (b .0) (b .1) (eqb-true (e .kind) CARRIED z)))
     (or-true (eqb (e .kind) INDEPENDENT && eqb (e .d) 0) (eqb (e .kind) CARRIED) (a .0))
+
+pub deps-fit : (ps : List ℕ) (ds : List Dep) → areDeps ps ds ≡ true → (e : Dep) → Among e ds → Fits ps e
+deps-fit ps [] h e a = absurd a
+deps-fit ps (x ∷ xs) h e a =
+    let z = and-true (isDep ps x) (areDeps ps xs) h in
+    ⊎-elim (λ (q : e ≡ x). rw q (dep-fits ps x (z .0))) (λ (q : Among e xs). deps-fit ps xs (z .1) e q) a
+
+-- what a valid nest is
+pub record Valid (n : Nest) : Type 0 where
+  pub shape : isShape (n .points) ≡ true
+  pub few-points : length (n .points) ≤ POINTS
+  pub few-deps : length (n .deps) ≤ DEPENDENCES
+  pub all-deps : areDeps (n .points) (n .deps) ≡ true
+
+pub valid-is : (n : Nest) → isValid n ≡ true → Valid n
+valid-is n h =
+    let points = leb (length (n .points)) POINTS in
+    let many = leb (length (n .deps)) DEPENDENCES in
+    let deps = areDeps (n .points) (n .deps) in
+    let a = and-true (isShape (n .points)) (points && (many && deps)) h in
+    let b = and-true points (many && deps) (a .1) in
+    let c = and-true many deps (b .1) in
+    record {
+      shape = a .0;
+      few-points = leb-true (length (n .points)) POINTS (b .0);
+      few-deps = leb-true (length (n .deps)) DEPENDENCES (c .0);
+      all-deps = c .1;
+    }
+
+-- the gaps of a well placed dependence, as facts
+pub line-gap : (ps : List ℕ) (e : Dep) (g : ℕ) → e .kind ≡ INDEPENDENT → hasGap ps e g ≡ true → (e .s < g) × (g ≤ e .t)
+line-gap ps e g k h = in-between (suc (e .s)) g (e .t) (rw k at h)
+
+pub gap-of-line : (ps : List ℕ) (e : Dep) (g : ℕ) → e .kind ≡ INDEPENDENT → e .s < g → g ≤ e .t → hasGap ps e g ≡ true
+gap-of-line ps e g k p q = rw k (between-in (suc (e .s)) g (e .t) p q)
+
+pub back-gap :
+    (ps : List ℕ) (e : Dep) (g : ℕ) → e .kind ≡ CARRIED → hasGap ps e g ≡ true →
+    ((e .d < g) × (g ≤ e .t)) ⊎ ((e .s < g) × (g ≤ endOf ps (e .d)))
+back-gap ps e g k h = ⊎-elim
+    (λ (z : between (suc (e .d)) g (e .t) ≡ true). inl (in-between (suc (e .d)) g (e .t) z))
+    (λ (z : between (suc (e .s)) g (endOf ps (e .d)) ≡ true). inr (in-between (suc (e .s)) g (endOf ps (e .d)) z))
+    (or-true (between (suc (e .d)) g (e .t)) (between (suc (e .s)) g (endOf ps (e .d))) (rw k at h))
+
+pub gap-before-target :
+    (ps : List ℕ) (e : Dep) (g : ℕ) → e .kind ≡ CARRIED → e .d < g → g ≤ e .t → hasGap ps e g ≡ true
+gap-before-target ps e g k p q =
+    rw k (or-left (between (suc (e .s)) g (endOf ps (e .d))) (between-in (suc (e .d)) g (e .t) p q))
+
+pub gap-after-source :
+    (ps : List ℕ) (e : Dep) (g : ℕ) → e .kind ≡ CARRIED → e .s < g → g ≤ endOf ps (e .d) → hasGap ps e g ≡ true
+gap-after-source ps e g k p q =
+    rw k (or-right (between (suc (e .d)) g (e .t)) (between-in (suc (e .s)) g (endOf ps (e .d)) p q))
+
+-- each has the gap before its target
+pub target-gap : (ps : List ℕ) (e : Dep) → Fits ps e → hasGap ps e (e .t) ≡ true
+target-gap ps e (inl l) = gap-of-line ps e (e .t) (l .kind-is) (l .forward) (omega arith)
+target-gap ps e (inr b) = gap-before-target ps e (e .t) (b .kind-is) (b .target-after) (omega arith)

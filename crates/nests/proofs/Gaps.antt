@@ -1,19 +1,20 @@
--- The gaps of a loop: its own and those of the loops directly inside it; the walk over them from right to left; the home of
--- an independent dependence.
--- Main statements: `child-law`, `plain-law`, `own-or-child`, `loop-in-child`, `children-apart`, `home-law`, `home-passes`,
--- and, from left to right, `owner-after-do`, `owner-after-end`, `owner-after-plain`.
+-- The gaps of a loop: its own and those of the loops directly inside it; the walk over them from right to left; the
+-- home of an independent dependence.
+-- Main statements: `child-law`, `plain-law`, `own-or-child`, `loop-in-child`, `children-apart`, `home-law`,
+-- `home-passes`, and, from left to right, `owner-after-do`, `owner-after-end`, `owner-after-plain`.
 use mathlib.Core.Path.{_≡_, refl, sym, ap, _∙_}
-use mathlib.Core.Bool.{Bool, true, false}
+use mathlib.Core.Bool.{true, false}
 use mathlib.Core.List.{List}
 use mathlib.Core.Logic.{_⊎_, inl, inr, ⊎-elim}
 use Prim.Native.Nat.{ℕ, zero, suc, _≤_, _<_}
 use native.Mathlib.Omega.{arith}
 use lib.ListN.{length}
-use Rattle.laws.proofs.Tests.{never-both, le-or, eq-or, le-by, lt-by, false-by}
+use Rattle.laws.proofs.Tests.{never-both, eq-or, lt-by, false-by}
 use Rattle.nests.specs.Loops.{isDo, isEnd, endOf, ownerFrom, ownerOf}
 use Rattle.nests.specs.Valid.{isShape}
 use Rattle.nests.proofs.Levels.{point-in, end-not-first}
-use Rattle.nests.proofs.Loops.{Owner, end-after, end-there, end-is-end, nested, owner-search, owner-law, owner-is, owner-is-do, owner-below, owner-holds, owner-inside, end-has-do, owner-of-end}
+use Rattle.nests.proofs.Loops.{Owner, end-after, end-there, end-is-end, nested, owner-search, owner-law}
+use Rattle.nests.proofs.Loops.{owner-is, owner-is-do, owner-below, owner-inside, end-has-do, owner-of-end}
 
 -- L is a loop directly inside d, and p its ENDDO
 pub record Child (ps : List ℕ) (d p L : ℕ) : Type 0 where
@@ -80,18 +81,24 @@ module _ (ps : List ℕ) (shape : isShape ps ≡ true) where
       ends : endOf ps L ≡ p
       ends = end-has-do ps shape p h
 
+      below : L < p
+      below = owner-below ps shape p a (omega arith)
+
       inside : d < L
       inside = lt-by λ z. ⊎-elim
           (λ (y : L ≡ d). let q : endOf ps d ≡ p = rw y at ends in omega (arith, o .holds))
-          (λ (y : L ≡ d → ⊥). omega (arith, nested ps shape L d loop (o .loop) (omega arith) (omega (arith, o .below, ends)), ends, o .holds))
+          (λ (y : L ≡ d → ⊥).
+          let q : d ≤ endOf ps L = omega (arith, o .below, ends) in
+          omega (arith, nested ps shape L d loop (o .loop) (omega arith) q, ends, o .holds))
           (eq-or L d)
 
       owned : ownerOf ps L ≡ d
       owned =
-          let q : d ≤ ownerOf ps L = owner-inside ps shape d L (o .loop) inside (omega (arith, owner-below ps shape p a (omega arith), o .holds)) in
+          let u = ownerOf ps L in
+          let x = owner-law ps shape L (omega (arith, inside)) (omega (arith, below)) in
           let r = parent-around L loop (omega (arith, inside)) in
-          let x = owner-law ps shape L (omega (arith, inside)) (omega (arith, owner-below ps shape p a (omega arith))) in
-          let s : ownerOf ps L ≤ d = o .most (ownerOf ps L) (x .loop) (omega (arith, x .below, owner-below ps shape p a (omega arith))) (omega (arith, ends)) in
+          let q : d ≤ u = owner-inside ps shape d L (o .loop) inside (omega (arith, below, o .holds)) in
+          let s : u ≤ d = o .most u (x .loop) (omega (arith, x .below, below)) (omega (arith, ends)) in
           omega arith
 
   -- before the gap after any other point lies the loop's own DO, or a point that is no DO after another of its gaps
@@ -109,18 +116,22 @@ module _ (ps : List ℕ) (shape : isShape ps ≡ true) where
           l : d < p
           l = omega (arith, o .below)
 
-          x : Owner ps p p (ownerOf ps p)
+          u : ℕ
+          u = ownerOf ps p
+
+          x : Owner ps p p u
           x = owner-law ps shape p (omega (arith, l)) (omega arith)
 
-          beyond : suc p ≤ endOf ps (ownerOf ps p)
+          beyond : suc p ≤ endOf ps u
           beyond = ⊎-elim
-              (λ (z : p ≡ endOf ps (ownerOf ps p)). never-both (rw (← z) at (end-is-end ps shape (ownerOf ps p) (x .loop))) h)
-              (λ (z : p ≡ endOf ps (ownerOf ps p) → ⊥). omega (arith, x .holds))
-              (eq-or p (endOf ps (ownerOf ps p)))
+              (λ (z : p ≡ endOf ps u). never-both (rw (← z) at (end-is-end ps shape u (x .loop))) h)
+              (λ (z : p ≡ endOf ps u → ⊥). omega (arith, x .holds))
+              (eq-or p (endOf ps u))
 
-          same : ownerOf ps p ≡ d
+          same : u ≡ d
           same =
-              omega (arith, o .most (ownerOf ps p) (x .loop) (omega (arith, x .below)) beyond, owner-inside ps shape d p (o .loop) l (omega (arith, o .holds)))
+              let q : u ≤ d = o .most u (x .loop) (omega (arith, x .below)) beyond in
+              omega (arith, owner-inside ps shape d p (o .loop) l (omega (arith, o .holds)))
 
           flat : isDo ps p ≡ false
           flat = false-by λ z. omega (arith, l, o .most p z (omega arith) (end-after ps shape p z))
@@ -146,7 +157,8 @@ module _ (ps : List ℕ) (shape : isShape ps ≡ true) where
   owner-after-child d L c =
       let p = endOf ps L in
       let l : suc p < length ps = child-ends-there d L c in
-      owner-after-end p l (end-is-end ps shape L (c .loop)) ∙ ap (ownerOf ps) (owner-of-end ps shape L (c .loop)) ∙ c .owned
+      let q : ownerOf ps p ≡ L = owner-of-end ps shape L (c .loop) in
+      owner-after-end p l (end-is-end ps shape L (c .loop)) ∙ ap (ownerOf ps) q ∙ c .owned
 
   -- the gaps of a loop's range are its own and those of the loops directly inside it
   pub loop-in-child :
@@ -157,17 +169,20 @@ module _ (ps : List ℕ) (shape : isShape ps ≡ true) where
       climb zero x b k l m = absurd (omega arith)
       climb (suc n) x b k l m = go (eq-or (ownerOf ps x) d) (climb n (ownerOf ps x))
         where
-          o : Owner ps x x (ownerOf ps x)
+          u : ℕ
+          u = ownerOf ps x
+
+          o : Owner ps x x u
           o = owner-law ps shape x (omega arith) (point-in ps x 0 k)
 
           go :
-              (ownerOf ps x ≡ d) ⊎ ((ownerOf ps x ≡ d) → ⊥) →
-              (ownerOf ps x ≤ n → isDo ps (ownerOf ps x) ≡ true → d < ownerOf ps x → ownerOf ps x ≤ endOf ps d → LoopInChild ps d (ownerOf ps x)) →
+              (u ≡ d) ⊎ ((u ≡ d) → ⊥) → (u ≤ n → isDo ps u ≡ true → d < u → u ≤ endOf ps d → LoopInChild ps d u) →
               LoopInChild ps d x
           go (inl e) r =
-              record { at = x; child = record { loop = k; inside = l; ends = refl; owned = e }; after = omega arith; within = omega arith }
+              let c : Child ps d (endOf ps x) x = record { loop = k; inside = l; ends = refl; owned = e } in
+              record { at = x; child = c; after = omega arith; within = omega arith }
           go (inr e) r =
-              let q : d ≤ ownerOf ps x = owner-inside ps shape d x h l m in
+              let q : d ≤ u = owner-inside ps shape d x h l m in
               let c = r (omega (arith, o .below)) (o .loop) (omega arith) (omega (arith, o .below)) in
               record {
                 at = c .at;
@@ -178,16 +193,24 @@ module _ (ps : List ℕ) (shape : isShape ps ≡ true) where
 
   pub own-or-child :
       (d g : ℕ) → isDo ps d ≡ true → d < g → g ≤ endOf ps d → (ownerOf ps g ≡ d) ⊎ InChild ps d g
-  own-or-child d g h l m = ⊎-elim (λ (z : ownerOf ps g ≡ d). inl z) (λ (z : (ownerOf ps g ≡ d) → ⊥). inr (inner z)) (eq-or (ownerOf ps g) d)
+  own-or-child d g h l m = ⊎-elim (λ (z : u ≡ d). inl z) (λ (z : (u ≡ d) → ⊥). inr (inner z)) (eq-or u d)
     where
-      o : Owner ps g g (ownerOf ps g)
+      u : ℕ
+      u = ownerOf ps g
+
+      o : Owner ps g g u
       o = owner-law ps shape g (omega arith) (omega (arith, end-there ps shape d h))
 
-      inner : ((ownerOf ps g ≡ d) → ⊥) → InChild ps d g
+      inner : ((u ≡ d) → ⊥) → InChild ps d g
       inner z =
-          let q : d ≤ ownerOf ps g = owner-inside ps shape d g h l m in
-          let c = loop-in-child d (ownerOf ps g) h (o .loop) (omega arith) (omega (arith, o .below)) in
-          record { at = c .at; child = c .child; after = omega (arith, c .after, o .below); within = omega (arith, c .within, o .holds) }
+          let q : d ≤ u = owner-inside ps shape d g h l m in
+          let c = loop-in-child d u h (o .loop) (omega arith) (omega (arith, o .below)) in
+          record {
+            at = c .at;
+            child = c .child;
+            after = omega (arith, c .after, o .below);
+            within = omega (arith, c .within, o .holds);
+          }
 
   -- the home of an independent dependence from s to t: the innermost loop whose range holds all its gaps
   pub home-law : (s t : ℕ) → t < length ps → Owner ps (suc s) t (ownerFrom (suc s) t ps)

@@ -1,24 +1,28 @@
 -- Levels: the depth after some points, and what a well shaped list of points says of it.
 -- Main definition: `lev`. Main statements: `lev-step`, `lev-up`, `lev-down`, `lev-same`, `lev-inside`, `lev-deep`,
 -- `lev-last`, `last-below`.
-use mathlib.Core.Path.{_≡_, refl, sym, ap, _∙_}
+use mathlib.Core.Path.{_≡_, refl, _∙_}
 use mathlib.Core.Bool.{Bool, true, false, _&&_}
 use mathlib.Core.List.{List, [], _∷_}
 use mathlib.Core.Logic.{_⊎_, inl, inr, ⊎-elim}
-use Prim.Native.Nat.{ℕ, zero, suc, _+_, _-_, _≤_, _<_}
+use Prim.Native.Nat.{ℕ, zero, suc, _-_, _≤_, _<_}
 use native.Mathlib.Omega.{arith}
-use lib.Dec.{eqb, ltb, leb}
-use lib.ListN.{length, getD, take, drop}
-use borrow.Author.Tests.{ltb-true, eqb-true, eq-eqb, ne-eqb}
+use lib.Dec.{eqb, ltb}
+use lib.ListN.{length, getD, take}
+use borrow.Author.Tests.{ltb-true, eqb-true}
 use Rattle.laws.specs.Choice.{pick}
-use Rattle.laws.proofs.Tests.{test, never, le-or, and-true}
+use Rattle.laws.proofs.Tests.{never, le-or, and-true}
 use Rattle.nests.specs.Kinds.{DO, ENDDO, STATEMENT, DEPTH}
-use Rattle.nests.specs.Loops.{isDo, isEnd, deeper, depthFrom}
+use Rattle.nests.specs.Loops.{isDo, isEnd, deeper, depthFrom, depth}
 use Rattle.nests.specs.Valid.{closes, isShape}
 
 -- the depth after the first i points
 unfoldable pub lev : List ℕ → ℕ → ℕ
 lev ps i = depthFrom 0 (take i ps)
+
+pub lev-depth : (ps : List ℕ) (i : ℕ) → lev ps i ≡ depth (take i ps)
+unfolding lev
+lev-depth ps i = refl
 
 -- one point more, from any depth
 depth-step : (d : ℕ) (ps : List ℕ) (i : ℕ) →
@@ -65,7 +69,10 @@ first-of d p ps h = go (eqb p DO) (eqb p ENDDO) refl refl h
   where
     go :
         (a b : Bool) → eqb p DO ≡ a → eqb p ENDDO ≡ b →
-        pick a (ltb (suc d) DEPTH && closes (suc (suc d)) ps) (pick b (closes d ps) (eqb p STATEMENT && closes (suc d) ps)) ≡
+        pick
+        a
+        (ltb (suc d) DEPTH && closes (suc (suc d)) ps)
+        (pick b (closes d ps) (eqb p STATEMENT && closes (suc d) ps)) ≡
         true → First d p ps
     go true b x y k =
         let z = and-true (ltb (suc d) DEPTH) (closes (suc (suc d)) ps) k in
@@ -92,7 +99,8 @@ rest-end = record {
     elim-deep h zero = h
     elim-deep h (suc i) = h
 
-rest-cons : (d e p : ℕ) (ps : List ℕ) → deeper (suc d) p ≡ e → (suc d ≤ DEPTH → e ≤ DEPTH) → Rest e ps → Rest (suc d) (p ∷ ps)
+rest-cons :
+    (d e p : ℕ) (ps : List ℕ) → deeper (suc d) p ≡ e → (suc d ≤ DEPTH → e ≤ DEPTH) → Rest e ps → Rest (suc d) (p ∷ ps)
 rest-cons d e p ps q b r = record { inside = inside; last = last; deep = deep }
   where
     last : depthFrom (deeper (suc d) p) (take (length ps) ps) ≡ 0
@@ -212,5 +220,8 @@ last-below f k (suc (suc g)) h l = go (le-or k (f (suc g))) (last-below f k (suc
     go (inl a) r = record { at = r .at; before = omega (arith, r .before); low = r .low; after = after }
       where
         after : (j : ℕ) → r .at < j → j < suc (suc g) → k ≤ f j
-        after j b c = ⊎-elim (λ (z : j ≤ g). r .after j b (omega arith)) (λ (z : g < j). let e : j ≡ suc g = omega arith in rw e a) (le-or j g)
+        after j b c = ⊎-elim
+            (λ (z : j ≤ g). r .after j b (omega arith))
+            (λ (z : g < j). let e : j ≡ suc g = omega arith in rw e a)
+            (le-or j g)
     go (inr a) r = record { at = suc g; before = omega arith; low = a; after = λ j b c. absurd (omega arith) }

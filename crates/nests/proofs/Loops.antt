@@ -1,23 +1,23 @@
 -- Loops by levels: a loop's ENDDO is where the level first falls back to the level of its DO; a gap belongs to the last
 -- point before it with a lower level. From here on nothing unfolds `endOf` or `ownerFrom`.
--- Main statements: `do-has-end`, `range-above`, `range-back`, `end-is`, `owner-among`, `nested`, `nested-or-disjoint`,
--- `end-has-do`, `owner-of-end`, `outermost`.
-use mathlib.Core.Path.{_≡_, refl, sym, ap, _∙_}
+-- Main statements: `end-after`, `end-there`, `end-is-end`, `range-above`, `range-back`, `end-is`, `outermost`, `nested`,
+-- `nested-or-disjoint`, `owner-law`, `owner-inside`, `owner-lower`, `end-has-do`, `owner-of-end`.
+use mathlib.Core.Path.{_≡_, refl, ap}
 use mathlib.Core.Bool.{Bool, true, false, _&&_}
-use mathlib.Core.List.{List, [], _∷_}
+use mathlib.Core.List.{List}
 use mathlib.Core.Logic.{_⊎_, inl, inr, ⊎-elim}
 use Prim.Native.Nat.{ℕ, zero, suc, _+_, _-_, _≤_, _<_}
 use native.Mathlib.Omega.{arith}
-use lib.Dec.{eqb, ltb, leb}
-use lib.ListN.{length, getD, take, drop}
+use lib.Dec.{eqb, leb}
+use lib.ListN.{length, getD, drop}
 use lib.Seq.{drop-cons}
-use borrow.Author.Tests.{leb-true, leb-false, le-leb, eqb-true, eqb-false, eq-eqb, ne-eqb}
+use borrow.Author.Tests.{leb-true, le-leb, eqb-true, eqb-false}
 use Rattle.laws.specs.Choice.{pick}
-use Rattle.laws.proofs.Tests.{test, never, never-both, le-or, le-by, lt-by, eq-by, false-by, and-true, and-false, and-intro}
-use Rattle.nests.specs.Kinds.{DO, ENDDO}
+use Rattle.laws.proofs.Tests.{never-both, le-or, le-by, lt-by, and-true, and-intro}
 use Rattle.nests.specs.Loops.{isDo, isEnd, deeper, endFrom, endOf, ownerFrom, ownerOf}
 use Rattle.nests.specs.Valid.{isShape}
-use Rattle.nests.proofs.Levels.{lev, lev-step, lev-up, lev-falls, lev-same, lev-zero, lev-inside, lev-last, point-in, starts-with-do, end-not-first, do-where-rises, Last, last-below}
+use Rattle.nests.proofs.Levels.{lev, lev-up, lev-falls, lev-same, lev-zero, lev-inside, lev-last, point-in}
+use Rattle.nests.proofs.Levels.{starts-with-do, end-not-first, do-where-rises, Last, last-below}
 
 -- e is the first point at or after i at which the level falls back to b
 record Falls (ps : List ℕ) (b i e : ℕ) : Type 0 where
@@ -27,7 +27,8 @@ record Falls (ps : List ℕ) (b i e : ℕ) : Type 0 where
   back : lev ps (suc e) ≡ b
   above : (j : ℕ) → i ≤ j → j ≤ e → b < lev ps j
 
-falls-now : (ps : List ℕ) (b i : ℕ) → i < length ps → isEnd ps i ≡ true → lev ps (suc i) ≡ b → b < lev ps i → Falls ps b i i
+falls-now :
+    (ps : List ℕ) (b i : ℕ) → i < length ps → isEnd ps i ≡ true → lev ps (suc i) ≡ b → b < lev ps i → Falls ps b i i
 falls-now ps b i l e h u = record { from = omega arith; there = l; ends = e; back = h; above = above }
   where
     above : (j : ℕ) → i ≤ j → j ≤ i → b < lev ps j
@@ -38,7 +39,10 @@ falls-later ps b i e u f =
     record { from = omega (arith, f .from); there = f .there; ends = f .ends; back = f .back; above = above }
   where
     above : (j : ℕ) → i ≤ j → j ≤ e → b < lev ps j
-    above j p q = ⊎-elim (λ (z : suc i ≤ j). f .above j z q) (λ (z : j < suc i). let y : j ≡ i = omega arith in rw y u) (le-or (suc i) j)
+    above j p q = ⊎-elim
+        (λ (z : suc i ≤ j). f .above j z q)
+        (λ (z : j < suc i). let y : j ≡ i = omega arith in rw y u)
+        (le-or (suc i) j)
 
 -- the search of `endFrom` finds it, at k levels above b
 end-search :
@@ -59,7 +63,8 @@ end-search ps w (suc n) b i k l h =
         Falls ps b i (pick (isEnd ps i && eqb (suc k) 1) i (rest (deeper (suc k) (getD ps i 0))))
     go true y p q r =
         let z : getD ps i 0 ≡ 1 = eqb-true (getD ps i 0) 1 p in
-        rw z (falls-later ps b i (rest (suc (suc k))) (omega arith) (r (suc k) (omega arith) (omega (arith, lev-up ps i p))))
+        let f = r (suc k) (omega arith) (omega (arith, lev-up ps i p)) in
+        rw z (falls-later ps b i (rest (suc (suc k))) (omega arith) f)
     go false true p q r =
         let z : getD ps i 0 ≡ 2 = eqb-true (getD ps i 0) 2 q in
         rw z (shut (eqb (suc k) 1) refl)
@@ -71,9 +76,11 @@ end-search ps w (suc n) b i k l h =
         shut false e =
             let z = eqb-false (suc k) 1 e in
             let y : suc k - 1 ≡ suc (k - 1) = omega arith in
-            rw y (falls-later ps b i (rest (suc (k - 1))) (omega arith) (r (k - 1) (omega arith) (omega (arith, lev-falls ps w i q))))
+            let f = r (k - 1) (omega arith) (omega (arith, lev-falls ps w i q)) in
+            rw y (falls-later ps b i (rest (suc (k - 1))) (omega arith) f)
     go false false p q r =
-        rw (q, p) (falls-later ps b i (rest (suc k)) (omega arith) (r k (omega arith) (omega (arith, lev-same ps i p q))))
+        let f = r k (omega arith) (omega (arith, lev-same ps i p q)) in
+        rw (q, p) (falls-later ps b i (rest (suc k)) (omega arith) f)
 
 -- a DO's range, by levels
 record Range (ps : List ℕ) (d : ℕ) : Type 0 where
@@ -110,7 +117,8 @@ pub record Owner (ps : List ℕ) (k g h : ℕ) : Type 0 where
 owner-now : (ps : List ℕ) (k g : ℕ) → isDo ps k ≡ true → g ≤ endOf ps k → Owner ps (suc k) g k
 owner-now ps k g h e = record { loop = h; below = omega arith; holds = e; most = λ d a b c. omega arith }
 
-owner-later : (ps : List ℕ) (k g h : ℕ) → (isDo ps k && leb g (endOf ps k)) ≡ false → Owner ps k g h → Owner ps (suc k) g h
+owner-later :
+    (ps : List ℕ) (k g h : ℕ) → (isDo ps k && leb g (endOf ps k)) ≡ false → Owner ps k g h → Owner ps (suc k) g h
 owner-later ps k g h e o =
     record { loop = o .loop; below = omega (arith, o .below); holds = o .holds; most = most }
   where
@@ -122,6 +130,19 @@ owner-later ps k g h e o =
             let a′ : isDo ps k ≡ true = rw z at a in
             let c′ : g ≤ endOf ps k = rw z at c in
             never-both (and-intro a′ (le-leb g (endOf ps k) c′)) e
+
+-- the search stays below its bound
+pub owner-from-below : (ps : List ℕ) (k g : ℕ) → ownerFrom (suc k) g ps ≤ k
+owner-from-below ps zero g = go (isDo ps 0 && leb g (endOf ps 0))
+  where
+    go : (t : Bool) → elim t [ true ↦ 0 | false ↦ 0 ] ≤ 0
+    go true = omega arith
+    go false = omega arith
+owner-from-below ps (suc k) g = go (isDo ps (suc k) && leb g (endOf ps (suc k))) (owner-from-below ps k g)
+  where
+    go : (t : Bool) → ownerFrom (suc k) g ps ≤ k → elim t [ true ↦ suc k | false ↦ ownerFrom (suc k) g ps ] ≤ suc k
+    go true h = omega arith
+    go false h = omega arith
 
 -- two of them are the same loop
 pub owner-unique : {ps : List ℕ} {k g h x : ℕ} → Owner ps k g h → Owner ps k g x → h ≡ x
@@ -150,12 +171,14 @@ module _ (ps : List ℕ) (shape : isShape ps ≡ true) where
   pub end-beyond :
       (d g : ℕ) → isDo ps d ≡ true → ((j : ℕ) → d < j → j ≤ g → lev ps d < lev ps j) → d < g → g ≤ endOf ps d
   end-beyond d g h u l =
-      le-by λ z. let b = u (suc (endOf ps d)) (omega (arith, end-after d h)) (omega arith) in omega (arith, range-back d h)
+      le-by λ z.
+      let b = u (suc (endOf ps d)) (omega (arith, end-after d h)) (omega arith) in
+      omega (arith, range-back d h)
 
   -- where the level first falls back, the loop ends
   pub end-is :
-      (d e : ℕ) → isDo ps d ≡ true → d < e → ((j : ℕ) → d < j → j ≤ e → lev ps d < lev ps j) → lev ps (suc e) ≤ lev ps d →
-      endOf ps d ≡ e
+      (d e : ℕ) → isDo ps d ≡ true → d < e → ((j : ℕ) → d < j → j ≤ e → lev ps d < lev ps j) →
+      lev ps (suc e) ≤ lev ps d → endOf ps d ≡ e
   end-is d e h l u b =
       let z : endOf ps d ≤ e = le-by λ y. let x = range-above d (suc e) h (omega arith) (omega arith) in omega arith in
       omega (arith, end-beyond d e h u l)
@@ -178,7 +201,8 @@ module _ (ps : List ℕ) (shape : isShape ps ≡ true) where
       (d x : ℕ) → isDo ps d ≡ true → isDo ps x ≡ true → d < x → x ≤ endOf ps d → endOf ps x < endOf ps d
   nested d x h k l m =
       lt-by λ z. ⊎-elim
-      (λ (y : suc (endOf ps d) ≤ endOf ps x). omega (arith, range-above x (suc (endOf ps d)) k (omega arith) y, range-back d h, u))
+      (λ (y : suc (endOf ps d) ≤ endOf ps x).
+      omega (arith, range-above x (suc (endOf ps d)) k (omega arith) y, range-back d h, u))
       (λ (y : endOf ps x < suc (endOf ps d)). same (omega arith))
       (le-or (suc (endOf ps d)) (endOf ps x))
     where
@@ -208,7 +232,8 @@ module _ (ps : List ℕ) (shape : isShape ps ≡ true) where
       go : (t : Bool) → Owner ps 1 g (elim t [ true ↦ 0 | false ↦ 0 ])
       go true = owner-now ps 0 g (starts-with-do ps shape) (omega (arith, outermost))
       go false = owner-now ps 0 g (starts-with-do ps shape) (omega (arith, outermost))
-  owner-search (suc (suc k)) g a b = go (isDo ps (suc k) && leb g (endOf ps (suc k))) refl (owner-search (suc k) g (omega arith) b)
+  owner-search (suc (suc k)) g a b =
+      go (isDo ps (suc k) && leb g (endOf ps (suc k))) refl (owner-search (suc k) g (omega arith) b)
     where
       go :
           (t : Bool) → (isDo ps (suc k) && leb g (endOf ps (suc k))) ≡ t → Owner ps (suc k) g (ownerFrom (suc k) g ps) →
@@ -269,7 +294,8 @@ module _ (ps : List ℕ) (shape : isShape ps ≡ true) where
   owner-lower g a b =
       let o = owner-law g a b in
       let h = ownerOf ps g in
-      omega (arith, lev-up ps h (o .loop), owner-last g (suc h) a b (omega arith) (o .below), range-above h g (o .loop) (o .below) (o .holds))
+      let u = owner-last g (suc h) a b (omega arith) (o .below) in
+      omega (arith, lev-up ps h (o .loop), range-above h g (o .loop) (o .below) (o .holds))
 
   -- every ENDDO has its DO before it: the loop that the gap before it belongs to
   pub end-has-do : (e : ℕ) → isEnd ps e ≡ true → endOf ps (ownerOf ps e) ≡ e
@@ -279,7 +305,8 @@ module _ (ps : List ℕ) (shape : isShape ps ≡ true) where
       let o = owner-law e a b in
       let d = ownerOf ps e in
       let c = owner-lower e a b in
-      end-is d e (o .loop) (o .below) (λ j p q. omega (arith, owner-last e j a b p q)) (omega (arith, lev-falls ps shape e h))
+      let f = lev-falls ps shape e h in
+      end-is d e (o .loop) (o .below) (λ j p q. omega (arith, owner-last e j a b p q)) (omega arith)
 
   pub owner-is-do : (g : ℕ) → 0 < g → g < length ps → isDo ps (ownerOf ps g) ≡ true
   owner-is-do g a b = owner-law g a b .loop
@@ -289,6 +316,13 @@ module _ (ps : List ℕ) (shape : isShape ps ≡ true) where
 
   pub owner-holds : (g : ℕ) → 0 < g → g < length ps → g ≤ endOf ps (ownerOf ps g)
   owner-holds g a b = owner-law g a b .holds
+
+  -- the DO of an ENDDO
+  pub end-owner-is-do : (e : ℕ) → isEnd ps e ≡ true → isDo ps (ownerOf ps e) ≡ true
+  end-owner-is-do e h = owner-is-do e (end-not-first ps shape e h) (point-in ps e 1 h)
+
+  pub end-owner-before : (e : ℕ) → isEnd ps e ≡ true → ownerOf ps e < e
+  end-owner-before e h = owner-below e (end-not-first ps shape e h) (point-in ps e 1 h)
 
   -- any loop whose range holds g is the gap's loop or lies around it
   pub owner-inside : (d g : ℕ) → isDo ps d ≡ true → d < g → g ≤ endOf ps d → d ≤ ownerOf ps g

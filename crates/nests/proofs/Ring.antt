@@ -1,35 +1,27 @@
 -- In a nest of one loop the gaps of each dependence are one unbroken run of the ring 1 … n - 1.
--- An independent dependence's run goes from s + 1 to t. A carried one's goes from s + 1 to n - 1 and on from 1 to t; where t
--- lies after s the two parts meet and it is the whole ring.
+-- An independent dependence's run goes from s + 1 to t. A carried one's goes from s + 1 to n - 1 and on from 1 to t;
+-- where t lies after s the two parts meet and it is the whole ring.
 -- Main statement: `ring-run`.
-use mathlib.Core.Path.{_≡_, refl, sym, ap, _∙_}
-use mathlib.Core.Bool.{Bool, true, false, _&&_, _||_, not}
+use mathlib.Core.Path.{_≡_, refl, _∙_}
+use mathlib.Core.Bool.{true, false, _||_, not}
 use mathlib.Core.List.{List, [], _∷_}
 use mathlib.Core.Logic.{_⊎_, inl, inr, ⊎-elim}
 use Prim.Native.Nat.{ℕ, zero, suc, _+_, _-_, _≤_, _<_}
 use native.Mathlib.Omega.{arith}
-use native.Mathlib.Nat.{suc-add, zero-add}
-use lib.Dec.{eqb, ltb, leb}
-use lib.ListN.{length, getD}
-use borrow.Author.Tests.{ltb-true, lt-ltb, le-ltb, leb-true, le-leb, eqb-true, eq-eqb}
-use Rattle.laws.specs.Choice.{pick, between, isIn}
-use Rattle.laws.proofs.Tests.{never, never-both, le-or, eq-or, and-true, and-intro, or-true, or-left, or-right, bool-by}
-use Rattle.nests.specs.Kinds.{INDEPENDENT, DO}
+use lib.Dec.{eqb}
+use lib.ListN.{length}
+use borrow.Author.Tests.{lt-ltb, le-ltb, eqb-true, eq-eqb}
+use Rattle.laws.specs.Choice.{between, isIn}
+use Rattle.laws.proofs.Ranges.{in-between, between-in}
+use Rattle.laws.proofs.Tests.{never, le-or, eq-or, and-true, or-true, or-left, or-right, bool-by}
+use Rattle.nests.specs.Kinds.{DO}
 use Rattle.nests.specs.Nests.{Dep}
 use Rattle.nests.specs.Loops.{isDo, endOf}
 use Rattle.nests.specs.Gaps.{hasGap}
 use Rattle.nests.specs.Valid.{isShape, isDep}
 use Rattle.nests.specs.Ring.{noDo, oneLoop, nextGap, runOf, Interval}
-use Rattle.nests.proofs.Loops.{outermost, end-there}
+use Rattle.nests.proofs.Loops.{outermost}
 use Rattle.nests.proofs.Deps.{Line, Back, Fits, dep-fits}
-
-pub in-between : (a x b : ℕ) → between a x b ≡ true → (a ≤ x) × (x ≤ b)
-in-between a x b h =
-    let z = and-true (leb a x) (leb x b) h in
-    (leb-true a x (z .0), leb-true x b (z .1))
-
-pub between-in : (a x b : ℕ) → a ≤ x → x ≤ b → between a x b ≡ true
-between-in a x b p q = and-intro (le-leb a x p) (le-leb x b q)
 
 next-up : (m g : ℕ) → g < m → nextGap m g ≡ suc g
 next-up m g l = rw (lt-ltb g m l)
@@ -58,7 +50,7 @@ line-in m a (suc zero) g l p q = or-left false (eq-eqb g a (omega arith))
 line-in m a (suc (suc k)) g l p q = ⊎-elim
     (λ (z : g ≡ a). or-left (isIn g (runOf m (nextGap m a) (suc k))) (eq-eqb g a z))
     (λ (z : g ≡ a → ⊥).
-    let y : isIn g (runOf m (suc a) (suc k)) ≡ true = line-in m (suc a) (suc k) g (omega arith) (omega arith) (omega arith) in
+    let y = line-in m (suc a) (suc k) g (omega arith) (omega arith) (omega arith) in
     let n : nextGap m a ≡ suc a = next-up m a (omega arith) in
     or-right (eqb g a) (rw n y))
     (eq-or g a)
@@ -132,7 +124,9 @@ round-run m s t g p q =
   where
     to : (between 1 g t || between (suc s) g m) ≡ true → isIn g (runOf m (suc s) (suc (m - suc s) + t)) ≡ true
     to h = round-in m (suc s) (m - suc s) t g (omega arith) (⊎-elim
-        (λ (z : between 1 g t ≡ true). let y = in-between 1 g t z in inr (line-in m 1 t g (omega arith) (y .0) (omega arith)))
+        (λ (z : between 1 g t ≡ true).
+        let y = in-between 1 g t z in
+        inr (line-in m 1 t g (omega arith) (y .0) (omega arith)))
         (λ (z : between (suc s) g m ≡ true). inl (in-between (suc s) g m z))
         (or-true (between 1 g t) (between (suc s) g m) h))
 
@@ -190,8 +184,14 @@ module _ (ps : List ℕ) (shape : isShape ps ≡ true) (e : Dep) where
         start-last = omega (arith, l .forward, l .target-there);
         size-first = omega (arith, l .forward);
         size-last = omega (arith, l .target-there);
-        gaps = λ g. rw (l .kind-is) (line-run (length ps - 1) (e .s) (e .t) g (omega (arith, l .forward)) (omega (arith, l .target-there)));
+        gaps = gaps;
       }
+    where
+      gaps : (g : ℕ) → hasGap ps e g ≡ isIn g (runOf (length ps - 1) (suc (e .s)) (e .t - e .s))
+      gaps g =
+          let p : e .s ≤ e .t = omega (arith, l .forward) in
+          let q : e .t ≤ length ps - 1 = omega (arith, l .target-there) in
+          rw (l .kind-is) (line-run (length ps - 1) (e .s) (e .t) g p q)
 
   -- of a dependence carried by the only loop, its points in either order
   back-interval : e .d ≡ 0 → Back ps e → Interval ps e
@@ -231,11 +231,12 @@ module _ (ps : List ℕ) (shape : isShape ps ≡ true) (e : Dep) where
             gaps = λ g. gaps g ∙ whole-run (length ps - 1) (e .s) (e .t) g q (omega (arith, target));
           }
 
--- 01, "The nest and its gaps": "The gaps of a dependence then lie there without a break, at most the whole ring: its circular
--- interval." The order of a carried dependence's points is not used.
+-- of a well placed dependence, a carried one's points in either order
 pub fits-run : (ps : List ℕ) (e : Dep) → isShape ps ≡ true → oneLoop ps ≡ true → Fits ps e → Interval ps e
 fits-run ps e shape one (inl l) = line-interval ps shape e l
 fits-run ps e shape one (inr b) = back-interval ps shape e (one-loop-is-first ps one (e .d) (b .loop)) b
 
+-- 01, "The nest and its gaps": "The gaps of a dependence then lie there without a break, at most the whole ring: its
+-- circular interval."
 pub ring-run : (ps : List ℕ) (e : Dep) → isShape ps ≡ true → oneLoop ps ≡ true → isDep ps e ≡ true → Interval ps e
 ring-run ps e shape one h = fits-run ps e shape one (dep-fits ps e h)

@@ -41,7 +41,8 @@ cnt-skip f l zero h e =
     rw z
 cnt-skip f l (suc n) h e = go (le-or l n) (cnt-skip f l n)
   where
-    go : (l ≤ n) ⊎ (n < l) → (l ≤ n → ((g : ℕ) → l < g → g ≤ n → f g ≡ false) → cnt f n ≡ cnt f l) → cnt f (suc n) ≡ cnt f l
+    go : (l ≤ n) ⊎ (n < l) → (l ≤ n → ((g : ℕ) → l < g → g ≤ n → f g ≡ false) → cnt f n ≡ cnt f l) →
+        cnt f (suc n) ≡ cnt f l
     go (inl z) r = cnt-skips f n (e (suc n) (omega arith) (omega arith)) ∙ r z (λ g p q. e g p (omega arith))
     go (inr z) r =
         let y : suc n ≡ l = omega arith in
@@ -73,11 +74,14 @@ cnt-some f (suc n) g p q h = go (eq-or g (suc n)) (cnt-some f n g p)
         omega (arith, more, r y h)
 
 -- a test that also passes at one place where the other fails counts one more
-pub cnt-put : (f h : ℕ → Bool) (n p : ℕ) → 0 < p → p ≤ n → f p ≡ true → h p ≡ false → ((g : ℕ) → (g ≡ p → ⊥) → f g ≡ h g) → cnt f n ≡ suc (cnt h n)
+pub cnt-put : (f h : ℕ → Bool) (n p : ℕ) → 0 < p → p ≤ n → f p ≡ true → h p ≡ false →
+    ((g : ℕ) → (g ≡ p → ⊥) → f g ≡ h g) → cnt f n ≡ suc (cnt h n)
 cnt-put f h zero p a b yes′ no′ e = absurd (omega arith)
 cnt-put f h (suc n) p a b yes′ no′ e = go (eq-or p (suc n)) (cnt-put f h n p a)
   where
-    go : (p ≡ suc n) ⊎ ((p ≡ suc n) → ⊥) → (p ≤ n → f p ≡ true → h p ≡ false → ((g : ℕ) → (g ≡ p → ⊥) → f g ≡ h g) → cnt f n ≡ suc (cnt h n)) → cnt f (suc n) ≡ suc (cnt h (suc n))
+    go : (p ≡ suc n) ⊎ ((p ≡ suc n) → ⊥) →
+        (p ≤ n → f p ≡ true → h p ≡ false → ((g : ℕ) → (g ≡ p → ⊥) → f g ≡ h g) → cnt f n ≡ suc (cnt h n)) →
+        cnt f (suc n) ≡ suc (cnt h (suc n))
     go (inl z) r =
         let y : f (suc n) ≡ true = rw z at yes′ in
         let w : h (suc n) ≡ false = rw z at no′ in

@@ -1,8 +1,25 @@
--- The planner's theorem.
+-- The planner's theorem, from the bottom to the top: the nest and the claim; walks; what a table's row says; what every
+-- settled placement owes (Exchange, Bounds); what is laid (Ring, Attained); computed tables; the theorem;
+-- and the same of a nest's own points and dependences (Instance, Cuts, NestKey).
 pub mod World
 pub mod Counts
 pub mod Claim
 pub mod Walk
 pub mod Exchange
 pub mod Choices
-mod Trial
+pub mod Rows
+pub mod Bounds
+pub mod Ring
+pub mod AttainedBody
+pub mod AttainedFront
+pub mod AttainedSweep
+pub mod Attained
+pub mod AttainedEmpty
+pub mod Alike
+pub mod AlikeRows
+pub mod Tables
+pub mod Theorem
+pub mod Papers
+pub mod Instance
+pub mod Cuts
+pub mod NestKey

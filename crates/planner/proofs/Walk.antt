@@ -10,11 +10,29 @@ use lib.Dec.{eqb, ltb, leb}
 use borrow.Author.Tests.{ltb-true, ltb-false, leb-true, leb-false, eqb-true, eqb-false}
 use Rattle.laws.specs.Choice.{pick, firstOf}
 use Rattle.laws.proofs.Tests.{test, never, le-or, eq-or, and-true, and-false}
-use Rattle.planner.specs.Sweep.{Loops, Tables, State, put, stepPlain, seek, free, inner, outer, childAt, stepChild, next, step, walk, start, sweep}
+use Rattle.planner.specs.Sweep.{
+  Loops,
+  Tables,
+  State,
+  put,
+  stepPlain,
+  seek,
+  free,
+  inner,
+  outer,
+  childAt,
+  stepChild,
+  next,
+  step,
+  walk,
+  start,
+  sweep,
+}
 use Rattle.planner.proofs.World.{Child, Plain, LoopLaws}
 
 -- the step at an own gap: a barrier or none
-pub plain-cases : (P : State → Type 0) (need : ℕ → ℕ) (p : ℕ) (s : State) → (need (suc p) < s .f → P (put p s)) → (s .f ≤ need (suc p) → P s) → P (stepPlain need p s)
+pub plain-cases : (P : State → Type 0) (need : ℕ → ℕ) (p : ℕ) (s : State) → (need (suc p) < s .f → P (put p s)) →
+    (s .f ≤ need (suc p) → P s) → P (stepPlain need p s)
 unfolding stepPlain
 plain-cases P need p s yes′ no′ = go (ltb (need (suc p)) (s .f)) refl
   where
@@ -40,7 +58,8 @@ seek-is need f L zero =
     }
 seek-is need f L (suc p) = go (ltb L (suc p)) (ltb (need (suc p)) f) refl refl (seek need f L p) (seek-is need f L p)
   where
-    go : (t u : Bool) → ltb L (suc p) ≡ t → ltb (need (suc p)) f ≡ u → (r : ℕ) → Sought need f L p r → Sought need f L (suc p) (pick t (pick u (suc p) r) 0)
+    go : (t u : Bool) → ltb L (suc p) ≡ t → ltb (need (suc p)) f ≡ u → (r : ℕ) → Sought need f L p r →
+        Sought need f L (suc p) (pick t (pick u (suc p) r) 0)
     go true true e i r k =
         record {
           low = λ h. ltb-true L (suc p) e;
@@ -84,11 +103,14 @@ pub record Outer (need left : ℕ → ℕ) (f L p b : ℕ) : Type 0 where
   pub above : (a : ℕ) → L < a → a ≤ suc p → b < a → f ≤ need a
 
 module _ (P : State → Type 0) (need left : ℕ → ℕ) (lay : ℕ → ℕ → Bool) (L p : ℕ) (s : State) where
-  child-at : (b : ℕ) → Sought need (s .f) L (suc p) b → (Free need (s .f) L p → P (free left lay L s)) → ((b : ℕ) → Inner need left (s .f) L p b → P (inner left lay b s)) → ((b : ℕ) → Outer need left (s .f) L p b → P (outer left lay L p s)) → P (childAt left lay L p s b)
+  child-at : (b : ℕ) → Sought need (s .f) L (suc p) b → (Free need (s .f) L p → P (free left lay L s)) →
+      ((b : ℕ) → Inner need left (s .f) L p b → P (inner left lay b s)) →
+      ((b : ℕ) → Outer need left (s .f) L p b → P (outer left lay L p s)) → P (childAt left lay L p s b)
   unfolding childAt
   child-at b k F I O = go (eqb b 0) (leb b p && ltb 0 (left b)) refl refl
     where
-      go : (t u : Bool) → eqb b 0 ≡ t → (leb b p && ltb 0 (left b)) ≡ u → P (pick t (free left lay L s) (pick u (inner left lay b s) (outer left lay L p s)))
+      go : (t u : Bool) → eqb b 0 ≡ t → (leb b p && ltb 0 (left b)) ≡ u →
+          P (pick t (free left lay L s) (pick u (inner left lay b s) (outer left lay L p s)))
       go true u e i =
           let z : b ≡ 0 = eqb-true b 0 e in
           F record { above = λ a h m. k .above a h m (omega arith) }
@@ -96,14 +118,24 @@ module _ (P : State → Type 0) (need left : ℕ → ℕ) (lay : ℕ → ℕ →
           let z : b ≡ 0 → ⊥ = eqb-false b 0 e in
           let y : 0 < b = omega (arith, z) in
           let j = and-true (leb b p) (ltb 0 (left b)) i in
-          I b record { low = k .low y; high = leb-true b p (j .0); uncut = k .uncut y; there = ltb-true 0 (left b) (j .1); above = k .above }
+          I b record {
+            low = k .low y;
+            high = leb-true b p (j .0);
+            uncut = k .uncut y;
+            there = ltb-true 0 (left b) (j .1);
+            above = k .above;
+          }
       go false false e i =
           let z : b ≡ 0 → ⊥ = eqb-false b 0 e in
           let y : 0 < b = omega (arith, z) in
-          let l : b ≤ p → left b ≡ 0 = λ h. ⊎-elim (λ (q : leb b p ≡ false). absurd (omega (arith, leb-false b p q))) (λ (q : ltb 0 (left b) ≡ false). omega (arith, ltb-false 0 (left b) q)) (and-false (leb b p) (ltb 0 (left b)) i) in
+          let l : b ≤ p → left b ≡ 0 = λ h. ⊎-elim (λ (q : leb b p ≡ false). absurd (omega (arith, leb-false b p q)))
+          (λ (q : ltb 0 (left b) ≡ false). omega (arith, ltb-false 0 (left b) q))
+          (and-false (leb b p) (ltb 0 (left b)) i) in
           O b record { low = k .low y; high = k .high; uncut = k .uncut y; lacks = l; above = k .above }
 
-  pub child-cases : (Free need (s .f) L p → P (free left lay L s)) → ((b : ℕ) → Inner need left (s .f) L p b → P (inner left lay b s)) → ((b : ℕ) → Outer need left (s .f) L p b → P (outer left lay L p s)) → P (stepChild need left lay L p s)
+  pub child-cases : (Free need (s .f) L p → P (free left lay L s)) →
+      ((b : ℕ) → Inner need left (s .f) L p b → P (inner left lay b s)) →
+      ((b : ℕ) → Outer need left (s .f) L p b → P (outer left lay L p s)) → P (stepChild need left lay L p s)
   unfolding stepChild
   child-cases F I O = child-at (seek need (s .f) L (suc p)) (seek-is need (s .f) L (suc p)) F I O
 
@@ -126,9 +158,13 @@ pub record Boundary (B : Loops) (d p : ℕ) : Type 0 where
   pub high : p ≤ B .stop d
   pub owner : d < p → B .own p ≡ d
 
-module _ (B : Loops) (laws : LoopLaws B) (T : Tables) (need : ℕ → ℕ) (d : ℕ) (is-do : B .isDo d ≡ true) (P : ℕ → State → Type 0) (on-plain : (p : ℕ) (s : State) → AtPlain B d p → P (suc p) s → P p (stepPlain need p s)) (on-child : (p l : ℕ) (s : State) → AtChild B d p l → P (suc p) s → P l (stepChild need (T .left l) (T .lay l) l p s)) where
+module _ (B : Loops) (laws : LoopLaws B) (T : Tables) (need : ℕ → ℕ) (d : ℕ) (is-do : B .isDo d ≡ true)
+    (P : ℕ → State → Type 0) (on-plain : (p : ℕ) (s : State) → AtPlain B d p → P (suc p) s → P p (stepPlain need p s))
+    (on-child : (p l : ℕ) (s : State) → AtChild B d p l → P (suc p) s →
+    P l (stepChild need (T .left l) (T .lay l) l p s)) where
   -- one step of the walk
-  along-step : (p : ℕ) (s : State) → d ≤ p → Boundary B d (suc p) → P (suc p) s → Boundary B d (next B p) × (next B p ≤ p) × P (next B p) (step B T need p s)
+  along-step : (p : ℕ) (s : State) → d ≤ p → Boundary B d (suc p) → P (suc p) s →
+      Boundary B d (next B p) × (next B p ≤ p) × P (next B p) (step B T need p s)
   unfolding next step
   along-step p s l b i = go (B .isEnd p) refl
     where
@@ -138,15 +174,24 @@ module _ (B : Loops) (laws : LoopLaws B) (T : Tables) (need : ℕ → ℕ) (d : 
       high : p < B .stop d
       high = b .high
 
-      go : (t : Bool) → B .isEnd p ≡ t → Boundary B d (pick t (B .own p) p) × (pick t (B .own p) p ≤ p) × P (pick t (B .own p) p) (pick t (stepChild need (T .left (B .own p)) (T .lay (B .own p)) (B .own p) p s) (stepPlain need p s))
+      go : (t : Bool) → B .isEnd p ≡ t → Boundary B d (pick t (B .own p) p) × (pick t (B .own p) p ≤ p) × P
+          (pick t (B .own p) p)
+          (pick t (stepChild need (T .left (B .own p)) (T .lay (B .own p)) (B .own p) p s) (stepPlain need p s))
       go true e =
           let c : Child B d p (B .own p) = laws .child d p is-do l high own e in
-          let sh : B .own p < p = omega (arith, laws .long (B .own p) (c .is-do), c .ends) in
-          (record { low = omega (arith, c .below); high = omega arith; owner = λ h. c .owner }, omega arith, on-child p (B .own p) s record { high = high; owner = own; short = sh; child = c } i)
+          let sh : B .own p < p = omega (arith, laws .long (B .own p) (c .is-do), c .ends) in (
+            record { low = omega (arith, c .below); high = omega arith; owner = λ h. c .owner },
+            omega arith,
+            on-child p (B .own p) s record { high = high; owner = own; short = sh; child = c } i,
+          )
       go false e =
           let c : (p ≡ d) ⊎ Plain B d p = laws .plain d p is-do l high own e in
-          let o : d < p → B .own p ≡ d = λ h. ⊎-elim (λ (z : p ≡ d). absurd (omega arith)) (λ (z : Plain B d p). z .owner) c in
-          (record { low = l; high = omega arith; owner = o }, omega arith, on-plain p s record { low = l; high = high; owner = own; before = c } i)
+          let o : d < p → B .own p ≡ d = λ h. ⊎-elim (λ (z : p ≡ d). absurd (omega arith))
+          (λ (z : Plain B d p). z .owner) c in (
+            record { low = l; high = omega arith; owner = o },
+            omega arith,
+            on-plain p s record { low = l; high = high; owner = own; before = c } i,
+          )
 
   along-walk : (k p : ℕ) (s : State) → p ≤ k → Boundary B d p → P p s → P d (walk B T need d k p s)
   unfolding walk
@@ -160,7 +205,9 @@ module _ (B : Loops) (laws : LoopLaws B) (T : Tables) (need : ℕ → ℕ) (d : 
       rw z at i
   along-walk (suc k) (suc p) s h b i = go (ltb p d) refl (along-walk k)
     where
-      go : (t : Bool) → ltb p d ≡ t → ((p : ℕ) (s : State) → p ≤ k → Boundary B d p → P p s → P d (walk B T need d k p s)) → P d (pick t s (walk B T need d k (next B p) (step B T need p s)))
+      go : (t : Bool) → ltb p d ≡ t →
+          ((p : ℕ) (s : State) → p ≤ k → Boundary B d p → P p s → P d (walk B T need d k p s)) →
+          P d (pick t s (walk B T need d k (next B p) (step B T need p s)))
       go true e r =
           let l : d ≤ suc p = b .low in
           let g : p < d = ltb-true p d e in
@@ -172,4 +219,9 @@ module _ (B : Loops) (laws : LoopLaws B) (T : Tables) (need : ℕ → ℕ) (d : 
 
   pub along : P (B .stop d) (start (B .stop d)) → P d (sweep B T need d)
   unfolding sweep
-  along i = along-walk (B .stop d) (B .stop d) (start (B .stop d)) (omega arith) record { low = omega (arith, laws .long d is-do); high = omega arith; owner = λ h. laws .own-stop d is-do } i
+  along i = along-walk (B .stop d) (B .stop d) (start (B .stop d))
+      (omega arith) record {
+        low = omega (arith, laws .long d is-do);
+        high = omega arith;
+        owner = λ h. laws .own-stop d is-do;
+      } i

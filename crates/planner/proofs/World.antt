@@ -44,8 +44,10 @@ pub record LoopLaws (B : Loops) : Type 0 where
   pub own-below : (g : ℕ) → B .own (suc g) ≤ g
   pub owner : (d g : ℕ) → B .isDo d ≡ true → d < g → g ≤ B .stop d → Owner B d g
   pub nested : (d l : ℕ) → B .isDo d ≡ true → B .isDo l ≡ true → d < l → l ≤ B .stop d → B .stop l < B .stop d
-  pub child : (d p : ℕ) → B .isDo d ≡ true → d ≤ p → p < B .stop d → B .own (suc p) ≡ d → B .isEnd p ≡ true → Child B d p (B .own p)
-  pub plain : (d p : ℕ) → B .isDo d ≡ true → d ≤ p → p < B .stop d → B .own (suc p) ≡ d → B .isEnd p ≡ false → (p ≡ d) ⊎ Plain B d p
+  pub child : (d p : ℕ) → B .isDo d ≡ true → d ≤ p → p < B .stop d → B .own (suc p) ≡ d → B .isEnd p ≡ true →
+      Child B d p (B .own p)
+  pub plain : (d p : ℕ) → B .isDo d ≡ true → d ≤ p → p < B .stop d → B .own (suc p) ≡ d → B .isEnd p ≡ false →
+      (p ≡ d) ⊎ Plain B d p
 
 -- a dependence carried by d whose later gaps start above q ends its earlier ones at t
 pub record Behind (W : World) (d q t : ℕ) : Type 0 where
@@ -62,14 +64,18 @@ pub record LineLaws (W : World) (N : Lines) : Type 0 where
   pub line-low : (d a b : ℕ) → W .loops .isDo d ≡ true → W .Line d a b → d < a
   pub line-long : (d a b : ℕ) → W .loops .isDo d ≡ true → W .Line d a b → a ≤ b
   pub line-high : (d a b : ℕ) → W .loops .isDo d ≡ true → W .Line d a b → b ≤ W .loops .stop d
-  pub line-leaves : (d a b l : ℕ) → W .loops .isDo d ≡ true → W .Line d a b → Child (W .loops) d (W .loops .stop l) l → l < a → a ≤ W .loops .stop l → W .loops .stop l < b
+  pub line-leaves : (d a b l : ℕ) → W .loops .isDo d ≡ true → W .Line d a b →
+      Child (W .loops) d (W .loops .stop l) l → l < a → a ≤ W .loops .stop l → W .loops .stop l < b
   pub back-low : (d a t : ℕ) → W .loops .isDo d ≡ true → W .Back d a t → d < a
   pub back-end : (d a t : ℕ) → W .loops .isDo d ≡ true → W .Back d a t → d < t
   pub back-high : (d a t : ℕ) → W .loops .isDo d ≡ true → W .Back d a t → t ≤ W .loops .stop d
   pub reach-least : (d a b : ℕ) → W .loops .isDo d ≡ true → W .Line d a b → N .reach d a ≤ b
-  pub reach-is : (d a : ℕ) → W .loops .isDo d ≡ true → d < a → a ≤ W .loops .stop d → N .reach d a ≤ W .loops .stop d → W .Line d a (N .reach d a)
-  pub limit-least : (d q a t : ℕ) → W .loops .isDo d ≡ true → d < q → q ≤ W .loops .stop d → q < a → W .Back d a t → N .limit d q ≤ t
-  pub limit-is : (d q : ℕ) → W .loops .isDo d ≡ true → d < q → q ≤ W .loops .stop d → (N .limit d q ≡ W .loops .stop d) ⊎ Behind W d q (N .limit d q)
+  pub reach-is : (d a : ℕ) → W .loops .isDo d ≡ true → d < a → a ≤ W .loops .stop d →
+      N .reach d a ≤ W .loops .stop d → W .Line d a (N .reach d a)
+  pub limit-least : (d q a t : ℕ) → W .loops .isDo d ≡ true → d < q → q ≤ W .loops .stop d → q < a → W .Back d a t →
+      N .limit d q ≤ t
+  pub limit-is : (d q : ℕ) → W .loops .isDo d ≡ true → d < q → q ≤ W .loops .stop d →
+      (N .limit d q ≡ W .loops .stop d) ⊎ Behind W d q (N .limit d q)
   pub has-line : (d a b : ℕ) → W .loops .isDo d ≡ true → W .Line d a b → N .has d ≡ true
   pub has-back : (d a t : ℕ) → W .loops .isDo d ≡ true → W .Back d a t → N .has d ≡ true
   pub has-is : (d : ℕ) → W .loops .isDo d ≡ true → N .has d ≡ true → Home W d

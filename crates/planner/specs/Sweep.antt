@@ -73,7 +73,8 @@ unfoldable pub inner : (ℕ → ℕ) → (ℕ → ℕ → Bool) → ℕ → Stat
 inner left lay b s = st (s .c) (left b) (also (lay b) (s .w))
 
 unfoldable pub outer : (ℕ → ℕ) → (ℕ → ℕ → Bool) → ℕ → ℕ → State → State
-outer left lay L p s = st (suc (s .c)) (firstOf (left (suc L)) (suc p)) (also (lay (suc L)) (also (only (suc p)) (s .w)))
+outer left lay L p s = st (suc (s .c)) (firstOf (left (suc L)) (suc p))
+    (also (lay (suc L)) (also (only (suc p)) (s .w)))
 
 unfoldable pub childAt : (ℕ → ℕ) → (ℕ → ℕ → Bool) → ℕ → ℕ → State → ℕ → State
 childAt left lay L p s b =

@@ -1,0 +1,185 @@
+-- What a sweep lays is cut and counted: the loops passed have their costs and their dependences cut, and c is the number
+-- of the loop's own gaps. A gap that is put counts for d alone; what is laid for a child counts for the child's loops alone.
+-- Main statements: `laid-part`, `idle-part`, `put-body`, `join-body`, `skip-body`, `start-body`.
+use mathlib.Core.Path.{_≡_, refl, sym, _∙_, ap}
+use mathlib.Core.Bool.{Bool, true, false, _&&_, _||_}
+use mathlib.Core.Logic.{_⊎_, inl, inr, ⊎-elim}
+use Prim.Native.Nat.{ℕ, zero, suc, _+_, _≤_, _<_}
+use native.Mathlib.Omega.{arith}
+use lib.Dec.{eqb, ltb, leb}
+use borrow.Author.Tests.{eqb-true, eq-eqb}
+use Rattle.laws.proofs.Tests.{test, never, never-both, le-or, eq-or, bool-by, false-by, and-true, or-true, or-left, or-right}
+use Rattle.planner.specs.Sweep.{Loops, Tables, bare, only, also}
+use Rattle.planner.proofs.World.{World, Inside, Owner, Child, Plain, LoopLaws}
+use Rattle.planner.proofs.Counts.{cnt, cnt-same, cnt-none, cnt-put}
+use Rattle.planner.proofs.Claim.{Hit, mineOf, count, Laid, Idle}
+use Rattle.planner.proofs.Exchange.{mine-own, mine-other}
+use Rattle.planner.proofs.Ring.{hit-more}
+
+-- x does what loop l asks: it has l's cost and cuts what has home l
+pub record Done (W : World) (T : Tables) (l : ℕ) (x : ℕ → Bool) : Type 0 where
+  pub exact : count (W .loops) x l ≡ T .cost l
+  pub lines : (a b : ℕ) → W .Line l a b → Hit x a b
+  pub backs : (a t : ℕ) → W .Back l a t → Hit x (suc l) t ⊎ Hit x a (W .loops .stop l)
+
+-- what is laid for loop l: in l's range, and it does what l and all the loops inside l ask
+pub record Part (W : World) (T : Tables) (l : ℕ) (x : ℕ → Bool) : Type 0 where
+  pub low : (g : ℕ) → x g ≡ true → l < g
+  pub high : (g : ℕ) → x g ≡ true → g ≤ W .loops .stop l
+  pub done : (m : ℕ) → Inside (W .loops) l m → Done W T m x
+
+-- what is laid for d down to point m: c own gaps, and what the loops inside from m on ask
+pub record Body (W : World) (T : Tables) (d m c : ℕ) (w : ℕ → Bool) : Type 0 where
+  pub mine : count (W .loops) w d ≡ c
+  pub passed : (l : ℕ) → Inside (W .loops) d l → d < l → m ≤ l → Done W T l w
+
+-- placements that agree on the own gaps of l count the same there
+pub count-same : (B : Loops) (x y : ℕ → Bool) (l : ℕ) → ((g : ℕ) → 0 < g → g ≤ B .stop l → B .own g ≡ l → x g ≡ y g) → count B x l ≡ count B y l
+count-same B x y l h = cnt-same (mineOf B x l) (mineOf B y l) (B .stop l) (λ g i j. go g i j (eq-or (B .own g) l))
+  where
+    go : (g : ℕ) → 0 < g → g ≤ B .stop l → (B .own g ≡ l) ⊎ ((B .own g ≡ l) → ⊥) → mineOf B x l g ≡ mineOf B y l g
+    go g i j (inl z) = mine-own B x l g z ∙ h g i j z ∙ sym (mine-own B y l g z)
+    go g i j (inr z) = mine-other B x l g z ∙ sym (mine-other B y l g z)
+
+-- a placement with no gap of l's own counts nothing there
+pub count-none : (B : Loops) (x : ℕ → Bool) (l : ℕ) → ((g : ℕ) → 0 < g → g ≤ B .stop l → B .own g ≡ l → x g ≡ true → ⊥) → count B x l ≡ 0
+count-none B x l h = cnt-none (mineOf B x l) (B .stop l) (λ g i j. go g i j (eq-or (B .own g) l))
+  where
+    go : (g : ℕ) → 0 < g → g ≤ B .stop l → (B .own g ≡ l) ⊎ ((B .own g ≡ l) → ⊥) → mineOf B x l g ≡ false
+    go g i j (inl z) = mine-own B x l g z ∙ false-by (h g i j z)
+    go g i j (inr z) = mine-other B x l g z
+
+-- of two placements the second: nothing of the first
+pub also-right : (x w : ℕ → Bool) (g : ℕ) → (x g ≡ true → ⊥) → also x w g ≡ w g
+also-right x w g h =
+    let z : x g ≡ false = false-by h in
+    rw z
+
+pub also-left : (x w : ℕ → Bool) (g : ℕ) → (w g ≡ true → ⊥) → also x w g ≡ x g
+also-left x w g h = bool-by (also x w g) (x g) (λ k. ⊎-elim (λ (z : x g ≡ true). z) (λ (z : w g ≡ true). absurd (h z)) (or-true (x g) (w g) k)) (λ k. or-left (w g) k)
+
+pub only-is : (p g : ℕ) → only p g ≡ true → g ≡ p
+only-is p g h = eqb-true g p h
+
+-- more gaps, none of them l's own: what l asks is still done
+pub done-more : (W : World) (T : Tables) (l : ℕ) (x y : ℕ → Bool) → ((g : ℕ) → x g ≡ true → y g ≡ true) → ((g : ℕ) → 0 < g → g ≤ W .loops .stop l → W .loops .own g ≡ l → y g ≡ x g) → Done W T l x → Done W T l y
+done-more W T l x y h i k =
+    record {
+      exact = count-same (W .loops) y x l i ∙ k .exact;
+      lines = λ a b j. hit-more y h (k .lines a b j);
+      backs = λ a t j. ⊎-elim (λ (z : Hit x (suc l) t). inl (hit-more y h z)) (λ (z : Hit x a (W .loops .stop l)). inr (hit-more y h z)) (k .backs a t j);
+    }
+
+-- what the table lays for a loop
+pub laid-part : (W : World) (T : Tables) (l q : ℕ) (x : ℕ → Bool) → Laid W T l q x → Part W T l x
+laid-part W T l q x k = record { low = k .low; high = k .high; done = done }
+  where
+    exact : (m : ℕ) → Inside (W .loops) l m → (m ≤ l) ⊎ (l < m) → count (W .loops) x m ≡ T .cost m
+    exact m i (inl z) =
+        let y : l ≡ m = omega (arith, i .from) in
+        rw y at (k .best .exact)
+    exact m i (inr z) = k .best .settled .inside m i z
+
+    done : (m : ℕ) → Inside (W .loops) l m → Done W T m x
+    done m i =
+        record {
+          exact = exact m i (le-or m l);
+          lines = λ a b j. k .best .settled .sound .lines m a b i j;
+          backs = λ a t j. k .best .settled .sound .backs m a t i j;
+        }
+
+-- nothing, for a loop with nothing to cut
+pub idle-part : (W : World) (T : Tables) (l : ℕ) (x : ℕ → Bool) → ((m : ℕ) → Inside (W .loops) l m → Idle W T m) → ((g : ℕ) → x g ≡ true → ⊥) → Part W T l x
+idle-part W T l x h k =
+    record {
+      low = λ g i. absurd (k g i);
+      high = λ g i. absurd (k g i);
+      done = λ m i. record {
+        exact = count-none (W .loops) x m (λ g u v o. k g) ∙ sym (h m i .free);
+        lines = λ a b j. absurd (h m i .no-line a b j);
+        backs = λ a t j. absurd (h m i .no-back a t j);
+      };
+    }
+
+-- a child's ENDDO is no DO
+pub end-no-do : (B : Loops) → LoopLaws B → (d p l : ℕ) → Child B d p l → B .isDo p ≡ true → ⊥
+end-no-do B laws d p l c h =
+    let y : B .isDo (B .stop l) ≡ true = rw (c .ends) h in
+    let u : l < B .stop l = laws .long l (c .is-do) in
+    omega (arith, laws .long (B .stop l) y, laws .nested l (B .stop l) (c .is-do) y u (omega arith))
+
+module _ (W : World) (laws : LoopLaws (W .loops)) (T : Tables) (d : ℕ) (is-do : W .loops .isDo d ≡ true) where
+  -- an own gap lies above its loop's DO
+  own-above : (g l : ℕ) → 0 < g → W .loops .own g ≡ l → l < g
+  own-above zero l h e = absurd (omega arith)
+  own-above (suc g) l h e = omega (arith, laws .own-below g)
+
+  pub start-body : Body W T d (W .loops .stop d) 0 bare
+  start-body = record { mine = count-none (W .loops) bare d (λ g i j o k. never k); passed = λ l i h j. absurd (omega (arith, i .below)) }
+
+  -- a gap of d's own, just before all that is laid
+  pub put-body : (p c : ℕ) (w : ℕ → Bool) → W .loops .own (suc p) ≡ d → p < W .loops .stop d → ((g : ℕ) → w g ≡ true → suc p < g) → Body W T d (suc p) c w → Body W T d (suc p) (suc c) (also (only (suc p)) w)
+  unfolding mineOf
+  put-body p c w o h low k =
+      record {
+        mine = cnt-put (mineOf (W .loops) y d) (mineOf (W .loops) w d) (W .loops .stop d) (suc p) (omega arith) h yes′ no′ other ∙ ap suc (k .mine);
+        passed = λ l i j u. done-more W T l w y (λ g z. or-right (only (suc p) g) z) (λ g a b e. also-right (only (suc p)) w g (λ z. omega (arith, own-above g l a e, only-is (suc p) g z))) (k .passed l i j u);
+      }
+    where
+      y : ℕ → Bool
+      y = also (only (suc p)) w
+
+      yes′ : mineOf (W .loops) y d (suc p) ≡ true
+      yes′ = mine-own (W .loops) y d (suc p) o ∙ or-left (w (suc p)) (eq-eqb (suc p) (suc p) refl)
+
+      no′ : mineOf (W .loops) w d (suc p) ≡ false
+      no′ = mine-own (W .loops) w d (suc p) o ∙ false-by (λ z. omega (arith, low (suc p) z))
+
+      other : (g : ℕ) → (g ≡ suc p → ⊥) → mineOf (W .loops) y d g ≡ mineOf (W .loops) w d g
+      other g z =
+          let e : y g ≡ w g = also-right (only (suc p)) w g (λ k. z (only-is (suc p) g k)) in
+          rw e
+
+  -- point p is no loop inside d
+  pub skip-body : (p c : ℕ) (w : ℕ → Bool) → (p ≡ d) ⊎ Plain (W .loops) d p → Body W T d (suc p) c w → Body W T d p c w
+  skip-body p c w h k = record { mine = k .mine; passed = λ l i j u. go l i j u (eq-or l p) }
+    where
+      go : (l : ℕ) → Inside (W .loops) d l → d < l → p ≤ l → (l ≡ p) ⊎ ((l ≡ p) → ⊥) → Done W T l w
+      go l i j u (inl z) =
+          ⊎-elim
+          (λ (y : p ≡ d). absurd (omega arith))
+          (λ (y : Plain (W .loops) d p). never-both (i .is-do) (rw z (y .no-do)))
+          h
+      go l i j u (inr z) = k .passed l i j (omega (arith, z))
+
+  -- what is laid for a child, before all that is laid
+  module _ (p l c : ℕ) (x w : ℕ → Bool) (child : Child (W .loops) d p l) (part : Part W T l x) (low : (g : ℕ) → w g ≡ true → p < g) (k : Body W T d (suc p) c w) where
+    -- an own gap of d does not lie in the child, nor does one of a loop after the child
+    not-mine : (g : ℕ) → W .loops .own g ≡ d → x g ≡ true → ⊥
+    not-mine g e h = omega (arith, laws .owner l g (child .is-do) (part .low g h) (part .high g h) .from, child .below)
+
+    not-after : (m g : ℕ) → 0 < g → W .loops .own g ≡ m → suc p ≤ m → x g ≡ true → ⊥
+    not-after m g a e h z = omega (arith, own-above g m a e, part .high g z, child .ends)
+
+    -- a loop inside the child ends with it at the latest
+    ends-by : (m : ℕ) → Inside (W .loops) l m → W .loops .stop m ≤ p
+    ends-by m i =
+        ⊎-elim
+        (λ (z : m ≤ l). (
+        let y : m ≡ l = omega (arith, i .from) in
+        rw y (omega (arith, child .ends))))
+        (λ (z : l < m). omega (arith, laws .nested l m (child .is-do) (i .is-do) z (omega (arith, i .below)), child .ends))
+        (le-or m l)
+
+    in-child : (m : ℕ) → Inside (W .loops) l m → Done W T m (also x w)
+    in-child m i = done-more W T m x (also x w) (λ g z. or-left (w g) z) (λ g a b e. also-left x w g (λ z. omega (arith, low g z, ends-by m i))) (part .done m i)
+
+    after : (m : ℕ) → Inside (W .loops) d m → d < m → suc p ≤ m → Done W T m (also x w)
+    after m i h j = done-more W T m w (also x w) (λ g z. or-right (x g) z) (λ g a b e. also-right x w g (not-after m g a e j)) (k .passed m i h j)
+
+    pub join-body : Body W T d l c (also x w)
+    join-body =
+        record {
+          mine = count-same (W .loops) (also x w) w d (λ g a b e. also-right x w g (not-mine g e)) ∙ k .mine;
+          passed = λ m i h j. ⊎-elim (λ (z : suc p ≤ m). after m i h z) (λ (z : m < suc p). ⊎-elim (λ (y : m ≡ p). absurd (end-no-do (W .loops) laws d p l child (rw y at (i .is-do)))) (λ (y : m ≡ p → ⊥). in-child m record { is-do = i .is-do; from = j; below = omega (arith, y, child .ends) }) (eq-or m p)) (le-or (suc p) m);
+        }

@@ -1,0 +1,54 @@
+-- The planner's theorem of a nest itself: the computed key cuts every dependence, and at each loop where a placement
+-- that cuts every dependence has the key's counts in all the loops inside, that placement has at least as many gaps.
+-- Main definition: `NestKey`. Main statement: `nest-key`.
+use mathlib.Core.Path.{_≡_}
+use mathlib.Core.Bool.{Bool, true}
+use mathlib.Core.List.{List}
+use Prim.Native.Nat.{ℕ, _≤_, _<_}
+use native.Mathlib.Omega.{arith}
+use lib.ListN.{length}
+use Rattle.laws.specs.Members.{Among}
+use Rattle.nests.specs.Nests.{Dep}
+use Rattle.nests.specs.Loops.{isDo, endOf}
+use Rattle.nests.specs.Valid.{isShape}
+use Rattle.nests.proofs.Levels.{starts-with-do, point-in}
+use Rattle.nests.proofs.Loops.{outermost, end-after, end-in-outermost}
+use Rattle.planner.specs.Home.{loopsIn, linesIn, keyIn}
+use Rattle.planner.proofs.World.{Inside}
+use Rattle.planner.proofs.Claim.{count}
+use Rattle.planner.proofs.Theorem.{Key, computed-key}
+use Rattle.planner.proofs.Instance.{worldOf, AllFit, lawful}
+use Rattle.planner.proofs.Cuts.{Cut, cuts-sound, sound-cuts}
+
+pub record NestKey (ps : List ℕ) (ds : List Dep) (x : ℕ → Bool) : Type 0 where
+  pub low : (g : ℕ) → x g ≡ true → 0 < g
+  pub high : (g : ℕ) → x g ≡ true → g < length ps
+  pub cuts : (e : Dep) → Among e ds → Cut ps e x
+  pub least :
+      (y : ℕ → Bool) (d : ℕ) → ((e : Dep) → Among e ds → Cut ps e y) → isDo ps d ≡ true →
+      ((l : ℕ) → isDo ps l ≡ true → d < l → l < endOf ps d → count (loopsIn ps) y l ≡ count (loopsIn ps) x l) →
+      count (loopsIn ps) x d ≤ count (loopsIn ps) y d
+
+pub nest-key : (ps : List ℕ) (ds : List Dep) → isShape ps ≡ true → AllFit ps ds → NestKey ps ds (keyIn ps ds)
+unfolding keyIn
+nest-key ps ds w fit =
+    let k = computed-key (worldOf ps ds) (linesIn ps ds) (lawful ps ds w fit) (length ps) (starts-with-do ps w) below in
+    of-key (keyIn ps ds) k
+  where
+    below : (d : ℕ) → isDo ps d ≡ true → d < length ps
+    below d h = point-in ps d 0 h
+
+    inside : (d : ℕ) → isDo ps d ≡ true → Inside (loopsIn ps) 0 d
+    inside d h =
+        let l : d < endOf ps 0 = omega (arith, end-after ps w d h, end-in-outermost ps w d h) in
+        record { is-do = h; from = omega arith; below = l }
+
+    of-key : (x : ℕ → Bool) → Key (worldOf ps ds) 0 x → NestKey ps ds x
+    of-key x k =
+        record {
+          low = k .low;
+          high = λ g h. omega (arith, k .high g h, outermost ps w);
+          cuts = sound-cuts ps ds x w fit (k .sound);
+          least = λ y d cut h same.
+              k .least y d (cuts-sound ps ds y cut 0) (inside d h) (λ l i j. same l (i .is-do) j (i .below));
+        }

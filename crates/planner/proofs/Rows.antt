@@ -1,0 +1,185 @@
+-- What a table's row of loop d says: with something to cut, the least value and the best fronts; with nothing, zeros.
+-- Main statements: `some-home`, `some-none`, `row-cost`, `row-fronts`, `row-lay`, `row-idle`, `value-front`.
+use mathlib.Core.Path.{_≡_, refl, sym, _∙_, ap}
+use mathlib.Core.Bool.{Bool, true, false, _&&_, _||_}
+use mathlib.Core.Logic.{_⊎_, inl, inr, ⊎-elim}
+use Prim.Native.Nat.{ℕ, zero, suc, _+_, _≤_, _<_}
+use native.Mathlib.Omega.{arith}
+use lib.Dec.{eqb, ltb, leb}
+use borrow.Author.Tests.{ltb-true, ltb-false, leb-true, leb-false, eqb-true, eqb-false, eq-eqb, lt-ltb, le-ltb}
+use Rattle.laws.specs.Choice.{pick, firstOf}
+use Rattle.laws.proofs.Tests.{test, never, never-both, le-or, eq-or, and-true, and-intro, and-false, or-true, or-false}
+use Rattle.planner.specs.Sweep.{
+  Loops,
+  Lines,
+  Tables,
+  State,
+  bare,
+  put,
+  stepPlain,
+  free,
+  inner,
+  outer,
+  stepChild,
+  start,
+  sweep,
+  close,
+  needOf,
+  value,
+  least,
+  Front,
+  front,
+  best,
+  childSome,
+  someOf,
+  costOf,
+  frontOf,
+  leftOf,
+  choiceOf,
+  layOf,
+  IsTable,
+}
+use Rattle.planner.proofs.World.{World, Inside, Child, LoopLaws}
+use Rattle.planner.proofs.Walk.{plain-cases, child-cases, Free, Inner, Outer, AtPlain, AtChild, along}
+use Rattle.planner.proofs.Choices.{Fronts, best-is}
+
+-- a loop directly inside d that holds barriers
+pub record Holder (B : Loops) (T : Tables) (d : ℕ) : Type 0 where
+  pub loop : ℕ
+  pub is-do : B .isDo loop ≡ true
+  pub above : d < loop
+  pub below : loop < B .stop d
+  pub owner : B .own loop ≡ d
+  pub there : 0 < T .left loop (suc loop)
+
+child-some : (B : Loops) (T : Tables) (d n : ℕ) → n ≤ B .stop d → childSome B T d n ≡ true → Holder B T d
+unfolding childSome
+child-some B T d zero b h = never h
+child-some B T d (suc l) b h = go
+    (or-true (ltb d l && (B .isDo l && (eqb (B .own l) d && ltb 0 (T .left l (suc l))))) (childSome B T d l) h)
+    (child-some B T d l (omega arith))
+  where
+    go : ((ltb d l && (B .isDo l && (eqb (B .own l) d && ltb 0 (T .left l (suc l))))) ≡ true) ⊎
+        (childSome B T d l ≡ true) → (childSome B T d l ≡ true → Holder B T d) → Holder B T d
+    go (inr z) r = r z
+    go (inl z) r =
+        let a = and-true (ltb d l) (B .isDo l && (eqb (B .own l) d && ltb 0 (T .left l (suc l)))) z in
+        let c = and-true (B .isDo l) (eqb (B .own l) d && ltb 0 (T .left l (suc l))) (a .1) in
+        let e = and-true (eqb (B .own l) d) (ltb 0 (T .left l (suc l))) (c .1) in
+        record {
+          loop = l;
+          is-do = c .0;
+          above = ltb-true d l (a .0);
+          below = b;
+          owner = eqb-true (B .own l) d (e .0);
+          there = ltb-true 0 (T .left l (suc l)) (e .1);
+        }
+
+child-none : (B : Loops) (T : Tables) (d n l : ℕ) → childSome B T d n ≡ false → l < n → d < l → B .isDo l ≡ true →
+    B .own l ≡ d → T .left l (suc l) ≡ 0
+unfolding childSome
+child-none B T d zero l h a b c e = absurd (omega arith)
+child-none B T d (suc n) l h a b c e = go
+    (or-false (ltb d n && (B .isDo n && (eqb (B .own n) d && ltb 0 (T .left n (suc n))))) (childSome B T d n) h)
+    (child-none B T d n l)
+  where
+    go : ((ltb d n && (B .isDo n && (eqb (B .own n) d && ltb 0 (T .left n (suc n))))) ≡ false) ×
+        (childSome B T d n ≡ false) →
+        (childSome B T d n ≡ false → l < n → d < l → B .isDo l ≡ true → B .own l ≡ d → T .left l (suc l) ≡ 0) →
+        T .left l (suc l) ≡ 0
+    go k r =
+        ⊎-elim
+        (λ (z : T .left l (suc l) ≤ 0). omega arith)
+        (λ (z : 0 < T .left l (suc l)). ⊎-elim
+        (λ (y : l ≡ n). (
+        let all : (ltb d l && (B .isDo l && (eqb (B .own l) d && ltb 0 (T .left l (suc l))))) ≡ true = and-intro
+        (lt-ltb d l b) (and-intro c (and-intro (eq-eqb (B .own l) d e) (lt-ltb 0 (T .left l (suc l)) z))) in
+        never-both (rw y at all) (k .0)))
+        (λ (y : l ≡ n → ⊥). r (k .1) (omega (arith, y)) b c e)
+        (eq-or l n))
+        (le-or (T .left l (suc l)) 0)
+
+-- something to cut: a dependence with home d, or a child that holds barriers; and nothing: neither
+pub some-home : (B : Loops) (N : Lines) (T : Tables) (d : ℕ) → someOf B N T d ≡ true → (N .has d ≡ true) ⊎ Holder B T d
+unfolding someOf
+some-home B N T d h = ⊎-elim (λ (z : N .has d ≡ true). inl z)
+    (λ (z : childSome B T d (B .stop d) ≡ true). inr (child-some B T d (B .stop d) (omega arith) z))
+    (or-true (N .has d) (childSome B T d (B .stop d)) h)
+
+pub record Nothing (B : Loops) (N : Lines) (T : Tables) (d : ℕ) : Type 0 where
+  pub no-home : N .has d ≡ false
+  pub no-child : (l : ℕ) → B .isDo l ≡ true → B .own l ≡ d → d < l → l < B .stop d → T .left l (suc l) ≡ 0
+
+pub some-none : (B : Loops) (N : Lines) (T : Tables) (d : ℕ) → someOf B N T d ≡ false → Nothing B N T d
+unfolding someOf
+some-none B N T d h =
+    let k = or-false (N .has d) (childSome B T d (B .stop d)) h in
+    record { no-home = k .0; no-child = λ l a b c e. child-none B T d (B .stop d) l (k .1) e c a b }
+
+-- a sweep's front is a gap, never 0
+first-pos : (l f : ℕ) → 0 < f → 0 < firstOf l f
+first-pos zero f h = h
+first-pos (suc l) f h = omega arith
+
+pub sweep-front : (B : Loops) → LoopLaws B → (T : Tables) (need : ℕ → ℕ) (d : ℕ) → B .isDo d ≡ true →
+    0 < sweep B T need d .f
+unfolding put free inner outer
+sweep-front B laws T need d is-do =
+    along B laws T need d is-do (λ p s. 0 < s .f)
+    (λ p s at i. plain-cases (λ s. 0 < s .f) need p s (λ h. omega arith) (λ h. i))
+    (λ p l s at i. child-cases (λ s. 0 < s .f) need (T .left l) (T .lay l) l p s
+    (λ k. first-pos (T .left l (suc l)) (s .f) i)
+    (λ b k. k .there)
+    (λ b k. first-pos (T .left l (suc l)) (suc p) (omega arith)))
+    (omega arith)
+
+pub value-front : (B : Loops) → LoopLaws B → (N : Lines) (T : Tables) (d q : ℕ) → B .isDo d ≡ true →
+    0 < value B N T d q .f
+unfolding value close put
+value-front B laws N T d q is-do = go (leb (sweep B T need d .f) (N .limit d q))
+  where
+    need : ℕ → ℕ
+    need = needOf (N .reach d) q (B .stop d)
+
+    go : (t : Bool) → 0 < pick t (sweep B T need d) (put d (sweep B T need d)) .f
+    go true = sweep-front B laws T need d is-do
+    go false = omega arith
+
+-- the row of d
+module _ (B : Loops) (laws : LoopLaws B) (N : Lines) (T : Tables) (table : IsTable B N T) (d : ℕ)
+    (is-do : B .isDo d ≡ true) where
+  pub row-cost : someOf B N T d ≡ true → T .cost d ≡ least (λ q. value B N T d q .c) d (B .stop d)
+  unfolding costOf
+  row-cost h = table .cost-is d is-do ∙ rw h
+
+  front-some : (q : ℕ) → someOf B N T d ≡ true → frontOf B N T d q ≡ best (value B N T d) (T .cost d) (B .stop d)
+      (suc (B .stop d)) q
+  unfolding frontOf
+  front-some q h = rw (h, table .cost-is d is-do)
+
+  pub row-fronts : (q : ℕ) → d < q → q ≤ B .stop d → someOf B N T d ≡ true →
+      Fronts (value B N T d) (T .cost d) (B .stop d) q (front (T .left d q) (T .choice d q))
+  unfolding leftOf choiceOf
+  row-fronts q a b h =
+      let i : Fronts (value B N T d) (T .cost d) (B .stop d) q (frontOf B N T d q) = rw (front-some q h)
+      (best-is (value B N T d) (T .cost d) (B .stop d) (suc (B .stop d)) q (omega arith)
+      (λ k l m. value-front B laws N T d k is-do)) in
+      rw (table .left-is d q is-do a b, table .choice-is d q is-do a b) i
+
+  pub row-lay : (q g : ℕ) → d < q → q ≤ B .stop d → 0 < T .left d q → T .lay d q g ≡ value B N T d (T .choice d q) .w g
+  unfolding layOf
+  row-lay q g a b h =
+      let y : ltb 0 (leftOf B N T d q) ≡ true = lt-ltb 0 (leftOf B N T d q)
+      (omega (arith, table .left-is d q is-do a b)) in
+      table .lay-is d q g is-do a b ∙ rw (y, table .choice-is d q is-do a b)
+
+  pub row-blank : (q g : ℕ) → d < q → q ≤ B .stop d → T .left d q ≡ 0 → T .lay d q g ≡ false
+  unfolding layOf
+  row-blank q g a b h =
+      let y : ltb 0 (leftOf B N T d q) ≡ false = le-ltb 0 (leftOf B N T d q)
+      (omega (arith, table .left-is d q is-do a b)) in
+      table .lay-is d q g is-do a b ∙ rw y
+
+  pub row-idle : (q : ℕ) → d < q → q ≤ B .stop d → someOf B N T d ≡ false → (T .cost d ≡ 0) × (T .left d q ≡ 0)
+  unfolding costOf leftOf frontOf
+  row-idle q a b h = (table .cost-is d is-do ∙ rw h, table .left-is d q is-do a b ∙ rw (h, leftOf))
