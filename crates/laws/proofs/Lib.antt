@@ -1,4 +1,7 @@
 -- Laws on tests, numbers and lists that any project could use.
 pub mod Tests
-pub mod Bits
 pub mod Ranges
+pub mod Bits
+pub mod Choices
+pub mod Members
+pub mod Implies

@@ -1,4 +1,4 @@
--- Choices between values that every other definition uses; bits of words.
+-- Choices between values that every other definition uses.
 pub mod Choice
-pub mod Bits
 pub mod Members
+pub mod Bits

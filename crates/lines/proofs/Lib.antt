@@ -1,1 +1,5 @@
 -- Laws of lines.
+pub mod Spelling
+pub mod Digits
+pub mod Reading
+pub mod Writing

@@ -1,1 +1,155 @@
-// lines
+// Lines of digits: a reader that answers one line at a time, and the writer of one frame.
+ghost use mathlib.Core.Path.{_≡_};
+ghost use mathlib.Core.Bool.{true};
+ghost use Prim.Native.Nat.{ℕ, _+_, _*_, _≤_, _<_};
+ghost use lib.ListN.{length, getD, take, drop};
+ghost use Rattle.lines.specs.Lines.{isHex, valueOf, allHex, isDigits, frameOf, digitOf, lineText};
+ghost use Rattle.lines.specs.Reading.{takeLine, lineAt};
+ghost use Rattle.lines.specs.Writing.{over};
+
+// A frame's first bytes, how many it has, and where the next line starts.
+pub struct Frame {
+    pub kind: u8,
+    pub len: usize,
+    pub a: u8,
+    pub b: u8,
+    pub c: u8,
+    pub next: usize,
+}
+
+// A line is either one frame or one refusal.
+pub enum Read {
+    End,
+    Refused(u8),
+    Frame(Frame),
+}
+
+// The byte that ends a line.
+const FEED: u8 = 10;
+
+// Reads the line that starts at a place of a text.
+pub fn read_line(text: &[u8], at: usize) -> Read
+    ensures { λ r. ⌜ r ≡ lineAt (now (text .entry)) at ⌝ }
+{
+    if at >= text.len() {
+        return Read::End;
+    }
+    let end = line_end(text, at);
+    if end >= text.len() {
+        return Read::Refused(1);
+    }
+    let line = &text[at..end];
+    if is_digits(line) {
+        Read::Frame(Frame {
+            kind: byte_at(line, 0),
+            len: line.len() / 2,
+            a: byte_at(line, 1),
+            b: byte_at(line, 2),
+            c: byte_at(line, 3),
+            next: end + 1,
+        })
+    } else {
+        Read::Refused(1)
+    }
+}
+
+// Writes a frame as a line from the start of the lent part, where later bytes stay, and gives the line's length.
+pub fn put_frame(out: &mut [u8], frame: &[u8]) -> usize
+    requires { ⌜ length (lineText (now frame)) ≤ length (now out) ⌝ }
+    ensures { λ r. ⌜ r ≡ length (lineText (now (frame .entry))) ⌝ }
+    ensures { λ _. ⌜ now (out .exit) ≡ over (lineText (now (frame .entry))) (now (out .entry)) ⌝ }
+{
+    let mut i = 0;
+    while i < frame.len() {
+        let byte = frame[i];
+        out[2 * i] = digit(byte / 16);
+        out[2 * i + 1] = digit(byte % 16);
+        i += 1;
+    }
+    out[2 * i] = FEED;
+    2 * i + 1
+}
+
+// Where the line that starts at a place ends: at its 0a, or at the end of the text.
+fn line_end(text: &[u8], at: usize) -> usize
+    requires { ⌜ at ≤ length (now text) ⌝ }
+    ensures { λ r. ⌜ r ≡ at + length (takeLine (drop at (now (text .entry)))) ⌝ }
+{
+    let mut i = at;
+    while i < text.len() {
+        if text[i] == FEED {
+            return i;
+        }
+        i += 1;
+    }
+    i
+}
+
+// A line is an even, nonzero number of digits.
+fn is_digits(line: &[u8]) -> bool
+    ensures { λ r. ⌜ r ≡ isDigits (now (line .entry)) ⌝ }
+{
+    if line.len() == 0 {
+        return false;
+    }
+    if line.len() % 2 != 0 {
+        return false;
+    }
+    all_hex(line)
+}
+
+fn all_hex(line: &[u8]) -> bool
+    ensures { λ r. ⌜ r ≡ allHex (now (line .entry)) ⌝ }
+{
+    let mut i = 0;
+    while i < line.len() {
+        if is_hex(line[i]) {
+            i += 1;
+        } else {
+            return false;
+        }
+    }
+    true
+}
+
+fn is_hex(b: u8) -> bool
+    ensures { λ r. ⌜ r ≡ isHex b ⌝ }
+{
+    if b < 48 {
+        return false;
+    }
+    if b <= 57 {
+        return true;
+    }
+    if b < 97 {
+        return false;
+    }
+    b <= 102
+}
+
+// The byte of a frame at an index, 0 past its end.
+fn byte_at(line: &[u8], i: usize) -> u8
+    requires { ⌜ allHex (now line) ≡ true ⌝ }
+    ensures { λ r. ⌜ r ≡ getD (frameOf (now (line .entry))) i 0 ⌝ }
+{
+    if i >= line.len() / 2 {
+        return 0;
+    }
+    16 * value(line[2 * i]) + value(line[2 * i + 1])
+}
+
+// The value of a digit.
+fn value(b: u8) -> u8
+    requires { ⌜ isHex b ≡ true ⌝ }
+    ensures { λ r. ⌜ (r ≡ valueOf b) × (r < 16) ⌝ }
+{
+    if b <= 57 { b - 48 } else { b - 87 }
+}
+
+// The digit of a value.
+fn digit(v: u8) -> u8
+    requires { ⌜ v < 16 ⌝ }
+    ensures { λ r. ⌜ r ≡ digitOf v ⌝ }
+{
+    if v < 10 { 48 + v } else { 87 + v }
+}

@@ -1,4 +1,5 @@
 -- Laws of nests: levels, loops, gaps, dependences, the ring; of the nest as it is stored, and of the code's scans.
+-- Laws of nests: levels, loops, gaps, dependences, the ring; worked cases.
 pub mod Levels
 pub mod Loops
 pub mod Gaps
@@ -9,3 +10,4 @@ pub mod Scan
 pub mod Backward
 pub mod Ends
 pub mod Faults
+pub mod Cases

@@ -1,302 +1,135 @@
--- The cut test: the lowest gap of the placement among those of the dependence.
--- Main statements: `lowest-between`, `lowest-either`, `cuts-by`, `cut-lowest`, `cut-line`, `cut-back`,
--- `cut-before`.
-use mathlib.Core.Path.{_≡_, refl, sym, _∙_}
-use mathlib.Core.Bool.{Bool, true, false, _||_}
+-- Cuts: which gap cuts a dependence, the lowest uncut dependence, and correct placements taken apart.
+-- Main statements: `cut-has-gap`, `gap-cuts`, `uncut-none`, `none-uncut`, `uncut-first`, `first-uncut`, `correct-by`,
+-- `correct-gaps`, `correct-cuts`.
+use mathlib.Core.Path.{_≡_, refl}
+use mathlib.Core.Bool.{Bool, true, false}
 use mathlib.Core.List.{List, [], _∷_}
-use mathlib.Core.Logic.{_⊎_, inl, inr, ⊎-elim}
-use Prim.Native.Nat.{ℕ, zero, suc, _+_, _≤_, _<_}
-use native.Mathlib.Numerals.{add-one}
+use mathlib.Core.Logic.{inl, inr, ⊎-elim}
+use Prim.Native.Nat.{ℕ, zero, suc, _+_, _<_}
 use native.Mathlib.Omega.{arith}
-use lib.Dec.{eqb, ltb, leb}
-use borrow.Author.Tests.{eq-eqb, ne-eqb, lt-ltb, le-ltb, le-leb, leb-true}
-use Rattle.laws.specs.Choice.{pick, between}
-use Rattle.laws.proofs.Tests.{le-or, never, and-intro, and-true, or-true, or-left, or-right, false-by}
-use Rattle.nests.specs.Kinds.{INDEPENDENT}
-use Rattle.nests.specs.Nests.{Dep}
-use Rattle.nests.specs.Loops.{endOf}
+use lib.Dec.{eqb}
+use lib.ListN.{length, getD}
+use borrow.Author.Tests.{eqb-true, eq-eqb}
+use Rattle.laws.specs.Choice.{pick, isIn}
+use Rattle.laws.specs.Members.{Among}
+use Rattle.laws.proofs.Tests.{never, and-intro, and-true, or-left, or-right, or-true}
+use Rattle.laws.proofs.Members.{in-here, in-later, in-cons}
+use Rattle.nests.specs.Nests.{Dep, Nest}
 use Rattle.nests.specs.Gaps.{hasGap}
-use Rattle.placements.specs.Placements.{cuts, cutBy}
-use Rattle.placements.specs.Words.{GAPS, holds, kept, gapsOf, gapsIn, LowestFrom, LowestIn}
-use Rattle.placements.specs.declared.Cut as DC
-use Rattle.placements.specs.Answers.{cutOf, isCut, CutSays, foundOf}
+use Rattle.placements.specs.Placements.{cuts, uncutFrom, uncut, areGaps, isCorrect}
 
--- ---- the lowest gap of a range
+-- a gap of the placement that is one of the dependence's
+pub record CutBy (ps : List ℕ) (e : Dep) (gs : List ℕ) : Type 0 where
+  pub gap : ℕ
+  pub placed : isIn gap gs ≡ true
+  pub its : hasGap ps e gap ≡ true
 
-pub between-true : (a x b : ℕ) → between a x b ≡ true → (a ≤ x) × (x ≤ b)
-between-true a x b h = let z = and-true (leb a x) (leb x b) h in (leb-true a x (z .0), leb-true x b (z .1))
-
-pub between-by : (a x b : ℕ) → a ≤ x → x ≤ b → between a x b ≡ true
-between-by a x b p q = and-intro (le-leb a x p) (le-leb x b q)
-
-module _ (ws : List ℕ) (lo hi r : ℕ) (p : LowestFrom ws lo r) where
-  -- the lowest from lo on is at most hi
-  pub lowest-between : r ≤ hi → LowestIn ws (λ (g : ℕ). between lo g hi) r
-  lowest-between h =
-      record {
-        fits = p .fits;
-        held = λ l. (between-by lo r hi (p .held l .0) h, p .held l .1);
-        none = λ i a b c. p .none i a (between-true lo i hi b .0) c;
-      }
-
-  -- or above it
-  pub lowest-over : hi < r → LowestIn ws (λ (g : ℕ). between lo g hi) GAPS
-  lowest-over h =
-      record {
-        fits = omega arith;
-        held = λ l. absurd (omega arith);
-        none = λ i a b c. let z = between-true lo i hi b in p .none i a (z .0) (omega (arith, z .1));
-      }
-
--- of two sets of gaps the lower of both
-pub lowest-either
-    : (ws : List ℕ) (y z : ℕ → Bool) (a b r : ℕ)
-    → LowestIn ws y a
-    → LowestIn ws z b
-    → ((a < b) × (r ≡ a)) ⊎ ((b ≤ a) × (r ≡ b))
-    → LowestIn ws (λ (g : ℕ). y g || z g) r
-lowest-either ws y z a b r p q w = go w
+pub cut-has-gap : (ps : List ℕ) (e : Dep) (gs : List ℕ) → cuts ps e gs ≡ true → CutBy ps e gs
+cut-has-gap ps e [] h = never h
+cut-has-gap ps e (g ∷ gs) h = ⊎-elim
+    (λ (z : hasGap ps e g ≡ true). record { gap = g; placed = in-here g gs; its = z })
+    (λ (z : cuts ps e gs ≡ true). later (cut-has-gap ps e gs z))
+    (or-true (hasGap ps e g) (cuts ps e gs) h)
   where
-    none : r ≤ a → r ≤ b → (i : ℕ) → i < GAPS → (y i || z i) ≡ true → i < r → holds ws i ≡ false
-    none l m i g h k =
-        ⊎-elim
-        (λ (t : y i ≡ true). p .none i g t (omega arith))
-        (λ (t : z i ≡ true). q .none i g t (omega arith))
-        (or-true (y i) (z i) h)
+    later : CutBy ps e gs → CutBy ps e (g ∷ gs)
+    later c = record { gap = c .gap; placed = in-later (c .gap) g gs (c .placed); its = c .its }
 
-    go : ((a < b) × (r ≡ a)) ⊎ ((b ≤ a) × (r ≡ b)) → LowestIn ws (λ (g : ℕ). y g || z g) r
-    go (inl e) =
-        record {
-          fits = omega (arith, p .fits, e .1);
-          held = λ l. let u = p .held (omega (arith, e .1)) in rw (e .1) (or-left (z a) (u .0), u .1);
-          none = none (omega (arith, e .1)) (omega (arith, e .0, e .1));
-        }
-    go (inr e) =
-        record {
-          fits = omega (arith, q .fits, e .1);
-          held = λ l. let u = q .held (omega (arith, e .1)) in rw (e .1) (or-right (y b) (u .0), u .1);
-          none = none (omega (arith, e .0, e .1)) (omega (arith, e .1));
-        }
+pub gap-cuts :
+    (ps : List ℕ) (e : Dep) (gs : List ℕ) (g : ℕ) → isIn g gs ≡ true → hasGap ps e g ≡ true → cuts ps e gs ≡ true
+gap-cuts ps e [] g h k = never h
+gap-cuts ps e (x ∷ xs) g h k = ⊎-elim
+    (λ (z : g ≡ x). or-left (cuts ps e xs) (rw z at k))
+    (λ (z : isIn g xs ≡ true). or-right (hasGap ps e x) (gap-cuts ps e xs g z k))
+    (in-cons g x xs h)
 
--- the same gaps
-pub lowest-same
-    : (ws : List ℕ) (y z : ℕ → Bool) (r : ℕ)
-    → ((g : ℕ) → y g ≡ z g)
-    → LowestIn ws y r
-    → LowestIn ws z r
-lowest-same ws y z r e p =
-    record {
-      fits = p .fits;
-      held = λ l. (sym (e r) ∙ p .held l .0, p .held l .1);
-      none = λ i a b c. p .none i a (e i ∙ b) c;
-    }
+-- the dependence numbered k is the lowest that is not cut; e₀ stands past the end of the list
+pub record LowestUncut (ps : List ℕ) (es : List Dep) (gs : List ℕ) (e₀ : Dep) (k : ℕ) : Type 0 where
+  pub there : k < length es
+  pub not-cut : cuts ps (getD es k e₀) gs ≡ false
+  pub lower : (j : ℕ) → j < k → cuts ps (getD es j e₀) gs ≡ true
 
--- ---- the lowest gap that cuts
+-- every dependence is cut
+abbrev pub AllCut : List ℕ → List Dep → List ℕ → Type 0
+AllCut ps es gs = (e : Dep) → Among e es → cuts ps e gs ≡ true
 
-module _ (ps : List ℕ) (e : Dep) where
-  cut-none
-      : (x : ℕ → Bool) (k g : ℕ)
-      → ((i : ℕ) → g ≤ i → i < g + k → hasGap ps e i ≡ true → x i ≡ false)
-      → cutBy ps e (gapsOf x k g) ≡ 0
-  unfolding gapsOf
-  cut-none x zero g h = refl
-  cut-none x (suc k) g h =
-      go (x g) (hasGap ps e g) refl refl (cut-none x k (suc g) (λ i a b. h i (omega arith) (omega arith)))
+module _ (ps gs : List ℕ) where
+  from-none : (es : List Dep) (i : ℕ) → uncutFrom i ps es gs ≡ 0 → AllCut ps es gs
+  from-none [] i h = λ x m. absurd m
+  from-none (e ∷ es) i h = go (cuts ps e gs) refl h (from-none es (suc i))
     where
-      go
-          : (t y : Bool)
-          → x g ≡ t
-          → hasGap ps e g ≡ y
-          → cutBy ps e (gapsOf x k (suc g)) ≡ 0
-          → cutBy ps e (kept t g (gapsOf x k (suc g))) ≡ 0
-      go true true a b r = never (sym (h g (omega arith) (omega arith) b) ∙ a)
-      go true false a b r = rw b r
-      go false y a b r = r
+      go :
+          (t : Bool) → cuts ps e gs ≡ t → pick t (uncutFrom (suc i) ps es gs) (suc i) ≡ 0 →
+          (uncutFrom (suc i) ps es gs ≡ 0 → AllCut ps es gs) → AllCut ps (e ∷ es) gs
+      go true p q r x m = ⊎-elim (λ (z : x ≡ e). rw z p) (λ (z : Among x es). r q x z) m
+      go false p q r x m = absurd (omega arith)
 
-  cut-at
-      : (x : ℕ → Bool) (k g r : ℕ)
-      → g ≤ r
-      → r < g + k
-      → x r ≡ true
-      → hasGap ps e r ≡ true
-      → ((i : ℕ) → g ≤ i → i < r → hasGap ps e i ≡ true → x i ≡ false)
-      → cutBy ps e (gapsOf x k g) ≡ r
-  unfolding gapsOf
-  cut-at x zero g r l m a b h = absurd (omega arith)
-  cut-at x (suc k) g r l m a b h =
-      ⊎-elim
-      (λ (z : suc g ≤ r).
-      later z (x g) (hasGap ps e g) refl refl (cut-at x k (suc g) r z (omega arith) a b (λ i c d. h i (omega arith) d)))
-      (λ (z : r < suc g). here (omega arith))
-      (le-or (suc g) r)
+  none-from : (es : List Dep) (i : ℕ) → AllCut ps es gs → uncutFrom i ps es gs ≡ 0
+  none-from [] i h = refl
+  none-from (e ∷ es) i h = rw (h e (inl refl)) (none-from es (suc i) (λ x m. h x (inr m)))
+
+module _ (ps gs : List ℕ) (e₀ : Dep) where
+  lowest-cons :
+      (e : Dep) (es : List Dep) (k : ℕ) → cuts ps e gs ≡ true → LowestUncut ps es gs e₀ k →
+      LowestUncut ps (e ∷ es) gs e₀ (suc k)
+  lowest-cons e es k h r = record { there = omega arith; not-cut = r .not-cut; lower = lower }
     where
-      later
-          : suc g ≤ r
-          → (t y : Bool)
-          → x g ≡ t
-          → hasGap ps e g ≡ y
-          → cutBy ps e (gapsOf x k (suc g)) ≡ r
-          → cutBy ps e (kept t g (gapsOf x k (suc g))) ≡ r
-      later z true true c d rest = never (sym (h g (omega arith) z d) ∙ c)
-      later z true false c d rest = rw d rest
-      later z false y c d rest = rest
+      lower : (j : ℕ) → j < suc k → cuts ps (getD (e ∷ es) j e₀) gs ≡ true
+      lower zero l = h
+      lower (suc j) l = r .lower j (omega arith)
 
-      here : r ≡ g → cutBy ps e (kept (x g) g (gapsOf x k (suc g))) ≡ r
-      here z =
-          let c : x g ≡ true = rw z at a in
-          let d : hasGap ps e g ≡ true = rw z at b in
-          rw (c, d) (sym z)
-
-  -- gap 0 cuts nothing
-  pub no-gap-zero : hasGap ps e 0 ≡ false
-  no-gap-zero = false-by (λ h. go (eqb (e .kind) INDEPENDENT) h)
+  from-lowest :
+      (es : List Dep) (i v : ℕ) → uncutFrom i ps es gs ≡ suc v → (k : ℕ) × (v ≡ i + k) × LowestUncut ps es gs e₀ k
+  from-lowest [] i v h = absurd (omega arith)
+  from-lowest (e ∷ es) i v h = go (cuts ps e gs) refl h (from-lowest es (suc i) v)
     where
-      go
-          : (t : Bool)
-          → pick
-          t
-          (between (suc (e .s)) 0 (e .t))
-          (between (suc (e .d)) 0 (e .t) || between (suc (e .s)) 0 (endOf ps (e .d))) ≡
-          true
-          → ⊥
-      go true h = omega (arith, between-true (suc (e .s)) 0 (e .t) h .0)
-      go false h =
-          ⊎-elim
-          (λ (z : between (suc (e .d)) 0 (e .t) ≡ true). omega (arith, between-true (suc (e .d)) 0 (e .t) z .0))
-          (λ (z : between (suc (e .s)) 0 (endOf ps (e .d)) ≡ true).
-          omega (arith, between-true (suc (e .s)) 0 (endOf ps (e .d)) z .0))
-          (or-true (between (suc (e .d)) 0 (e .t)) (between (suc (e .s)) 0 (endOf ps (e .d))) h)
+      go :
+          (t : Bool) → cuts ps e gs ≡ t → pick t (uncutFrom (suc i) ps es gs) (suc i) ≡ suc v →
+          (uncutFrom (suc i) ps es gs ≡ suc v → (k : ℕ) × (v ≡ suc i + k) × LowestUncut ps es gs e₀ k) →
+          (k : ℕ) × (v ≡ i + k) × LowestUncut ps (e ∷ es) gs e₀ k
+      go true p q r = let z = r q in (suc (z .0), omega (arith, z .1), lowest-cons e es (z .0) p (z .2))
+      go false p q r =
+          (0, omega arith, record { there = omega arith; not-cut = p; lower = λ j l. absurd (omega arith) })
 
-  pub gap-positive : (i : ℕ) → hasGap ps e i ≡ true → 0 < i
-  gap-positive zero k = never (sym no-gap-zero ∙ k)
-  gap-positive (suc i) k = omega arith
-
-  -- cut, and by which gap
-  pub cuts-by : (gs : List ℕ) → cuts ps e gs ≡ ltb 0 (cutBy ps e gs)
-  cuts-by [] = refl
-  cuts-by (g ∷ gs) = go (hasGap ps e g) refl (cuts-by gs)
+  lowest-from : (es : List Dep) (i k : ℕ) → LowestUncut ps es gs e₀ k → uncutFrom i ps es gs ≡ suc (i + k)
+  lowest-from [] i k r = absurd (omega (arith, r .there))
+  lowest-from (e ∷ es) i zero r = rw (r .not-cut) (omega arith)
+  lowest-from (e ∷ es) i (suc k) r =
+      rw (r .lower 0 (omega arith)) (omega (arith, lowest-from es (suc i) k rest))
     where
-      go
-          : (t : Bool)
-          → hasGap ps e g ≡ t
-          → cuts ps e gs ≡ ltb 0 (cutBy ps e gs)
-          → (t || cuts ps e gs) ≡ ltb 0 (pick t g (cutBy ps e gs))
-      go true h r = sym (lt-ltb 0 g (gap-positive g h))
-      go false h r = r
+      rest : LowestUncut ps es gs e₀ k
+      rest =
+          record {
+            there = omega (arith, r .there);
+            not-cut = r .not-cut;
+            lower = λ j l. r .lower (suc j) (omega arith);
+          }
 
-  -- the lowest gap among those of the dependence is the gap that cuts
-  pub record Told (ws : List ℕ) (r : ℕ) : Type 0 where
-    pub by-gap : foundOf r ≡ cutBy ps e (gapsIn ws)
-    pub cut : ltb r GAPS ≡ cuts ps e (gapsIn ws)
+-- of a nest and a placement
+module _ (n : Nest) (gs : List ℕ) where
+  pub uncut-none : uncut n gs ≡ 0 → AllCut (n .points) (n .deps) gs
+  uncut-none h = from-none (n .points) gs (n .deps) 0 h
 
-  pub cut-lowest : (ws : List ℕ) (r : ℕ) → LowestIn ws (hasGap ps e) r → Told ws r
-  unfolding gapsIn
-  cut-lowest ws r p =
-      ⊎-elim
-      (λ (z : suc r ≤ GAPS).
-      let u = p .held z in
-      let c : cutBy ps e (gapsIn ws) ≡ r =
-      cut-at (holds ws) GAPS 0 r (omega arith) (omega arith) (u .1) (u .0) (λ i a b h. p .none i (omega arith) h b) in
-      record {
-        by-gap = rw (lt-ltb r GAPS z) (sym c);
-        cut = lt-ltb r GAPS z ∙ sym (cuts-by (gapsIn ws) ∙ rw c (lt-ltb 0 r (gap-positive r (u .0))));
-      })
-      (λ (z : GAPS < suc r).
-      let c : cutBy ps e (gapsIn ws) ≡ 0 =
-      cut-none (holds ws) GAPS 0 (λ i a b h. p .none i (omega arith) h (omega arith)) in
-      record {
-        by-gap = rw (le-ltb r GAPS (omega arith)) (sym c);
-        cut = le-ltb r GAPS (omega arith) ∙ sym (cuts-by (gapsIn ws) ∙ rw c);
-      })
-      (le-or (suc r) GAPS)
+  pub none-uncut : AllCut (n .points) (n .deps) gs → uncut n gs ≡ 0
+  none-uncut h = none-from (n .points) gs (n .deps) 0 h
 
-  -- as an answer of the code
-  pub answer
-      : (ws : List ℕ) (a : DC.Cut) (r : ℕ)
-      → (cutOf a ≡ foundOf r) × (isCut a ≡ ltb r GAPS)
-      → Told ws r
-      → CutSays ps e (gapsIn ws) a
-  answer ws a r p t = record { by-gap = p .0 ∙ t .by-gap; cut = p .1 ∙ t .cut }
+  pub uncut-first : (e₀ : Dep) (k : ℕ) → uncut n gs ≡ suc k → LowestUncut (n .points) (n .deps) gs e₀ k
+  uncut-first e₀ k h =
+      let z = from-lowest (n .points) gs e₀ (n .deps) 0 k h in
+      let e : k ≡ z .0 = omega (arith, z .1) in
+      rw e (z .2)
 
-  -- the two kinds
-  pub cut-line
-      : (ws : List ℕ) (r : ℕ)
-      → e .kind ≡ INDEPENDENT
-      → LowestIn ws (λ (g : ℕ). between (e .s + 1) g (e .t)) r
-      → Told ws r
-  cut-line ws r k p =
-      cut-lowest
-      ws
-      r
-      (lowest-same
-      ws
-      (λ (g : ℕ). between (e .s + 1) g (e .t))
-      (hasGap ps e)
-      r
-      (λ g. rw (eq-eqb (e .kind) INDEPENDENT k, add-one))
-      p)
+  pub first-uncut : (e₀ : Dep) (k : ℕ) → LowestUncut (n .points) (n .deps) gs e₀ k → uncut n gs ≡ suc k
+  first-uncut e₀ k r = omega (arith, lowest-from (n .points) gs e₀ (n .deps) 0 k r)
 
-  pub cut-back
-      : (ws : List ℕ) (end a b r : ℕ)
-      → (e .kind ≡ INDEPENDENT → ⊥)
-      → end ≡ endOf ps (e .d)
-      → LowestIn ws (λ (g : ℕ). between (e .d + 1) g (e .t)) a
-      → LowestIn ws (λ (g : ℕ). between (e .s + 1) g end) b
-      → ((a < b) × (r ≡ a)) ⊎ ((b ≤ a) × (r ≡ b))
-      → Told ws r
-  cut-back ws end a b r k f p q w =
-      cut-lowest
-      ws
-      r
-      (lowest-same
-      ws
-      (λ (g : ℕ). between (e .d + 1) g (e .t) || between (e .s + 1) g end)
-      (hasGap ps e)
-      r
-      (λ g. rw (ne-eqb (e .kind) INDEPENDENT k, add-one (e .d), add-one (e .s), f))
-      (lowest-either
-      ws
-      (λ (g : ℕ). between (e .d + 1) g (e .t))
-      (λ (g : ℕ). between (e .s + 1) g end)
-      a
-      b
-      r
-      p
-      q
-      w))
+  -- 01, "The nest and its gaps": a placement is correct if every dependence is cut
+  pub correct-by : areGaps n gs ≡ true → AllCut (n .points) (n .deps) gs → isCorrect n gs ≡ true
+  correct-by g h = and-intro g (eq-eqb (uncut n gs) 0 (none-uncut h))
 
-  -- a gap of the first interval that is at most s comes before the second
-  pub cut-before
-      : (ws : List ℕ) (r : ℕ)
-      → (e .kind ≡ INDEPENDENT → ⊥)
-      → LowestIn ws (λ (g : ℕ). between (e .d + 1) g (e .t)) r
-      → r ≤ e .s
-      → r < GAPS
-      → Told ws r
-  cut-before ws r k p h l =
-      cut-lowest
-      ws
-      r
-      (record {
-        fits = p .fits;
-        held = λ m. (at-first (p .held m .0), p .held m .1);
-        none = λ i a b c. p .none i a (only-first i c b) c;
-      })
-    where
-      kinds : eqb (e .kind) INDEPENDENT ≡ false
-      kinds = ne-eqb (e .kind) INDEPENDENT k
+  pub correct-gaps : isCorrect n gs ≡ true → areGaps n gs ≡ true
+  correct-gaps h = and-true (areGaps n gs) (eqb (uncut n gs) 0) h .0
 
-      at-first : between (e .d + 1) r (e .t) ≡ true → hasGap ps e r ≡ true
-      at-first z =
-          let y : between (suc (e .d)) r (e .t) ≡ true = rw add-one at z in
-          rw kinds (or-left (between (suc (e .s)) r (endOf ps (e .d))) y)
+  pub correct-uncut : isCorrect n gs ≡ true → uncut n gs ≡ 0
+  correct-uncut h = eqb-true (uncut n gs) 0 (and-true (areGaps n gs) (eqb (uncut n gs) 0) h .1)
 
-      only-first : (i : ℕ) → i < r → hasGap ps e i ≡ true → between (e .d + 1) i (e .t) ≡ true
-      only-first i c z =
-          rw
-          add-one
-          (⊎-elim
-          (λ (y : between (suc (e .d)) i (e .t) ≡ true). y)
-          (λ (y : between (suc (e .s)) i (endOf ps (e .d)) ≡ true).
-          absurd (omega (arith, between-true (suc (e .s)) i (endOf ps (e .d)) y .0)))
-          (or-true (between (suc (e .d)) i (e .t)) (between (suc (e .s)) i (endOf ps (e .d))) (rw kinds at z)))
+  pub correct-cuts : isCorrect n gs ≡ true → AllCut (n .points) (n .deps) gs
+  correct-cuts h = uncut-none (correct-uncut h)

@@ -9,26 +9,7 @@ use lib.Dec.{eqb, ltb, leb}
 use borrow.Author.Tests.{ltb-true, ltb-false, leb-true, leb-false, eqb-true, eqb-false, le-leb}
 use Rattle.laws.specs.Choice.{pick}
 use Rattle.laws.proofs.Tests.{test, never, le-or}
-use Rattle.planner.specs.Sweep.{
-  Loops,
-  Lines,
-  Tables,
-  State,
-  bare,
-  value,
-  least,
-  Front,
-  front,
-  better,
-  best,
-  childSome,
-  someOf,
-  costOf,
-  frontOf,
-  leftOf,
-  choiceOf,
-  layOf,
-}
+use Rattle.planner.specs.Sweep.{Loops, Lines, Tables, State, bare, value, least, Front, front, better, best, childSome, someOf, costOf, frontOf, leftOf, choiceOf, layOf}
 use Rattle.planner.proofs.World.{Child, LoopLaws}
 use Rattle.planner.proofs.Choices.{Fronts, best-is}
 use Rattle.planner.proofs.Rows.{value-front}
@@ -42,48 +23,36 @@ least-same v u d (suc e) h n = go (le-or e d) (least-same v u d e)
     here : v (suc e) ≡ u (suc e)
     here = n (suc e) h (omega arith)
 
-    go : (e ≤ d) ⊎ (d < e) → (d < e → ((q : ℕ) → d < q → q ≤ e → v q ≡ u q) → least v d e ≡ least u d e) →
-        pick (leb e d || leb (v (suc e)) (least v d e)) (v (suc e)) (least v d e) ≡ pick
-        (leb e d || leb (u (suc e)) (least u d e)) (u (suc e)) (least u d e)
+    go : (e ≤ d) ⊎ (d < e) → (d < e → ((q : ℕ) → d < q → q ≤ e → v q ≡ u q) → least v d e ≡ least u d e) → pick (leb e d || leb (v (suc e)) (least v d e)) (v (suc e)) (least v d e) ≡ pick (leb e d || leb (u (suc e)) (least u d e)) (u (suc e)) (least u d e)
     go (inl z) r = rw (le-leb e d z) here
     go (inr z) r = rw (here, r z (λ q i j. n q i (omega arith)))
 
-best-same : (v u : ℕ → State) (c e k q : ℕ) → ((a : ℕ) → q ≤ a → a ≤ e → Same (v a) (u a)) →
-    best v c e k q ≡ best u c e k q
+best-same : (v u : ℕ → State) (c e k q : ℕ) → ((a : ℕ) → q ≤ a → a ≤ e → Same (v a) (u a)) → best v c e k q ≡ best u c e k q
 unfolding best better
 best-same v u c e zero q n = refl
 best-same v u c e (suc k) q n = go (ltb e q) refl (best-same v u c e k (suc q) (λ a i j. n a (omega arith) j))
   where
-    go : (t : Bool) → ltb e q ≡ t → best v c e k (suc q) ≡ best u c e k (suc q) →
-        pick t (front 0 0) (better c q (v q) (best v c e k (suc q))) ≡ pick t (front 0 0)
-        (better c q (u q) (best u c e k (suc q)))
+    go : (t : Bool) → ltb e q ≡ t → best v c e k (suc q) ≡ best u c e k (suc q) → pick t (front 0 0) (better c q (v q) (best v c e k (suc q))) ≡ pick t (front 0 0) (better c q (u q) (best u c e k (suc q)))
     go true z i = refl
     go false z i =
         let m : Same (v q) (u q) = n q (omega arith) (ltb-false e q z) in
         rw (m .c-is, m .f-is, i)
 
-module _ (B B′ : Loops) (laws : LoopLaws B) (N N′ : Lines) (T T′ : Tables) (d : ℕ) (is-do : B .isDo d ≡ true)
-    (alike : Alike B B′ N N′ T T′ d) where
-  holds-alike : (l : ℕ) → l < B .stop d →
-      (ltb d l && (B .isDo l && (eqb (B .own l) d && ltb 0 (T .left l (suc l))))) ≡
-      (ltb d l && (B′ .isDo l && (eqb (B′ .own l) d && ltb 0 (T′ .left l (suc l)))))
+module _ (B B′ : Loops) (laws : LoopLaws B) (N N′ : Lines) (T T′ : Tables) (d : ℕ) (is-do : B .isDo d ≡ true) (alike : Alike B B′ N N′ T T′ d) where
+  holds-alike : (l : ℕ) → l < B .stop d → (ltb d l && (B .isDo l && (eqb (B .own l) d && ltb 0 (T .left l (suc l))))) ≡ (ltb d l && (B′ .isDo l && (eqb (B′ .own l) d && ltb 0 (T′ .left l (suc l)))))
   holds-alike l h = above (ltb d l) refl
     where
-      owned : d < l → B .isDo l ≡ true → (v : Bool) → eqb (B .own l) d ≡ v →
-          (v && ltb 0 (T .left l (suc l))) ≡ (v && ltb 0 (T′ .left l (suc l)))
+      owned : d < l → B .isDo l ≡ true → (v : Bool) → eqb (B .own l) d ≡ v → (v && ltb 0 (T .left l (suc l))) ≡ (v && ltb 0 (T′ .left l (suc l)))
       owned y z true e =
-          let c : Child B d
-          (B .stop l) l = record { is-do = z; below = y; ends = refl; owner = eqb-true (B .own l) d e } in
+          let c : Child B d (B .stop l) l = record { is-do = z; below = y; ends = refl; owner = eqb-true (B .own l) d e } in
           rw (alike .left-is l (suc l) c h (omega arith) (laws .long l z))
       owned y z false e = refl
 
-      is : d < l → (v : Bool) → B .isDo l ≡ v → (v && (eqb (B .own l) d && ltb 0 (T .left l (suc l)))) ≡
-          (v && (eqb (B .own l) d && ltb 0 (T′ .left l (suc l))))
+      is : d < l → (v : Bool) → B .isDo l ≡ v → (v && (eqb (B .own l) d && ltb 0 (T .left l (suc l)))) ≡ (v && (eqb (B .own l) d && ltb 0 (T′ .left l (suc l))))
       is y true z = owned y z (eqb (B .own l) d) refl
       is y false z = refl
 
-      above : (v : Bool) → ltb d l ≡ v → (v && (B .isDo l && (eqb (B .own l) d && ltb 0 (T .left l (suc l))))) ≡
-          (v && (B′ .isDo l && (eqb (B′ .own l) d && ltb 0 (T′ .left l (suc l)))))
+      above : (v : Bool) → ltb d l ≡ v → (v && (B .isDo l && (eqb (B .own l) d && ltb 0 (T .left l (suc l))))) ≡ (v && (B′ .isDo l && (eqb (B′ .own l) d && ltb 0 (T′ .left l (suc l)))))
       above true y =
           let j : d < l = ltb-true d l y in
           rw (← alike .do-is l j h, ← alike .own-is l j h) (is j (B .isDo l) refl)
@@ -101,18 +70,13 @@ module _ (B B′ : Loops) (laws : LoopLaws B) (N N′ : Lines) (T T′ : Tables)
   pub cost-alike : costOf B N T d ≡ costOf B′ N′ T′ d
   unfolding costOf
   cost-alike =
-      let m : least (λ q. value B N T d q .c) d (B .stop d) ≡ least (λ q. value B′ N′ T′ d q .c) d
-      (B .stop d) = least-same (λ q. value B N T d q .c) (λ q. value B′ N′ T′ d q .c) d (B .stop d)
-      (laws .long d is-do) (λ q i j. value-alike B B′ laws N N′ T T′ d is-do alike q i j .c-is) in
+      let m : least (λ q. value B N T d q .c) d (B .stop d) ≡ least (λ q. value B′ N′ T′ d q .c) d (B .stop d) = least-same (λ q. value B N T d q .c) (λ q. value B′ N′ T′ d q .c) d (B .stop d) (laws .long d is-do) (λ q i j. value-alike B B′ laws N N′ T T′ d is-do alike q i j .c-is) in
       rw (some-alike, m, alike .stop-is)
 
   front-alike : (q : ℕ) → d < q → q ≤ B .stop d → frontOf B N T d q ≡ frontOf B′ N′ T′ d q
   unfolding frontOf
   front-alike q a b =
-      let m : best (value B N T d) (costOf B N T d) (B .stop d) (suc (B .stop d)) q ≡ best (value B′ N′ T′ d)
-      (costOf B N T d) (B .stop d) (suc (B .stop d)) q = best-same (value B N T d) (value B′ N′ T′ d)
-      (costOf B N T d) (B .stop d) (suc (B .stop d)) q
-      (λ k i j. value-alike B B′ laws N N′ T T′ d is-do alike k (omega arith) j) in
+      let m : best (value B N T d) (costOf B N T d) (B .stop d) (suc (B .stop d)) q ≡ best (value B′ N′ T′ d) (costOf B N T d) (B .stop d) (suc (B .stop d)) q = best-same (value B N T d) (value B′ N′ T′ d) (costOf B N T d) (B .stop d) (suc (B .stop d)) q (λ k i j. value-alike B B′ laws N N′ T T′ d is-do alike k (omega arith) j) in
       rw (some-alike, m, cost-alike, alike .stop-is)
 
   pub left-alike : (q : ℕ) → d < q → q ≤ B .stop d → leftOf B N T d q ≡ leftOf B′ N′ T′ d q
@@ -132,11 +96,9 @@ module _ (B B′ : Loops) (laws : LoopLaws B) (N N′ : Lines) (T T′ : Tables)
       r = best (value B N T d) (costOf B N T d) (B .stop d) (suc (B .stop d)) q
 
       i : Fronts (value B N T d) (costOf B N T d) (B .stop d) q r
-      i = best-is (value B N T d) (costOf B N T d) (B .stop d) (suc (B .stop d)) q (omega arith)
-          (λ k l m. value-front B laws N T d k is-do)
+      i = best-is (value B N T d) (costOf B N T d) (B .stop d) (suc (B .stop d)) q (omega arith) (λ k l m. value-front B laws N T d k is-do)
 
-      go : (t : Bool) → 0 < pick t r (front 0 0) .f →
-          (d < pick t r (front 0 0) .at) × (pick t r (front 0 0) .at ≤ B .stop d)
+      go : (t : Bool) → 0 < pick t r (front 0 0) .f → (d < pick t r (front 0 0) .at) × (pick t r (front 0 0) .at ≤ B .stop d)
       go true z = (omega (arith, i .low z), i .high z)
       go false z = absurd (omega arith)
 
@@ -144,8 +106,7 @@ module _ (B B′ : Loops) (laws : LoopLaws B) (N N′ : Lines) (T T′ : Tables)
   unfolding layOf
   lay-alike q g a b = rw (← left-alike q a b, ← choice-alike q a b) (go (ltb 0 (leftOf B N T d q)) refl)
     where
-      go : (t : Bool) → ltb 0 (leftOf B N T d q) ≡ t → pick t (value B N T d (choiceOf B N T d q) .w) bare g ≡ pick t
-          (value B′ N′ T′ d (choiceOf B N T d q) .w) bare g
+      go : (t : Bool) → ltb 0 (leftOf B N T d q) ≡ t → pick t (value B N T d (choiceOf B N T d q) .w) bare g ≡ pick t (value B′ N′ T′ d (choiceOf B N T d q) .w) bare g
       go true z =
           let c = chosen q a (ltb-true 0 (leftOf B N T d q) z) in
           value-alike B B′ laws N N′ T T′ d is-do alike (choiceOf B N T d q) (c .0) (c .1) .w-is g

@@ -1,17 +1,18 @@
--- What a sweep lays is cut and counted: the loops passed have their costs and their dependences cut, and c is the number
--- of the loop's own gaps. A gap that is put counts for d alone; what is laid for a child counts for the child's loops alone.
+-- What a sweep lays is cut and counted: the loops passed have their costs and their dependences cut, and c is the
+-- number of the loop's own gaps. A gap that is put counts for d alone; what is laid for a child counts for the child's
+-- loops alone.
 -- Main statements: `laid-part`, `idle-part`, `put-body`, `join-body`, `skip-body`, `start-body`.
 use mathlib.Core.Path.{_≡_, refl, sym, _∙_, ap}
 use mathlib.Core.Bool.{Bool, true, false, _&&_, _||_}
 use mathlib.Core.Logic.{_⊎_, inl, inr, ⊎-elim}
-use Prim.Native.Nat.{ℕ, zero, suc, _+_, _≤_, _<_}
+use Prim.Native.Nat.{ℕ, zero, suc, _≤_, _<_}
 use native.Mathlib.Omega.{arith}
-use lib.Dec.{eqb, ltb, leb}
+use lib.Dec.{eqb}
 use borrow.Author.Tests.{eqb-true, eq-eqb}
-use Rattle.laws.proofs.Tests.{test, never, never-both, le-or, eq-or, bool-by, false-by, and-true, or-true, or-left, or-right}
+use Rattle.laws.proofs.Tests.{never, never-both, le-or, eq-or, bool-by, false-by, or-true, or-left, or-right}
 use Rattle.planner.specs.Sweep.{Loops, Tables, bare, only, also}
 use Rattle.planner.proofs.World.{World, Inside, Owner, Child, Plain, LoopLaws}
-use Rattle.planner.proofs.Counts.{cnt, cnt-same, cnt-none, cnt-put}
+use Rattle.planner.proofs.Counts.{cnt-same, cnt-none, cnt-put}
 use Rattle.planner.proofs.Claim.{Hit, mineOf, count, Laid, Idle}
 use Rattle.planner.proofs.Exchange.{mine-own, mine-other}
 use Rattle.planner.proofs.Ring.{hit-more}
@@ -34,40 +35,57 @@ pub record Body (W : World) (T : Tables) (d m c : ℕ) (w : ℕ → Bool) : Type
   pub passed : (l : ℕ) → Inside (W .loops) d l → d < l → m ≤ l → Done W T l w
 
 -- placements that agree on the own gaps of l count the same there
-pub count-same : (B : Loops) (x y : ℕ → Bool) (l : ℕ) → ((g : ℕ) → 0 < g → g ≤ B .stop l → B .own g ≡ l → x g ≡ y g) → count B x l ≡ count B y l
-count-same B x y l h = cnt-same (mineOf B x l) (mineOf B y l) (B .stop l) (λ g i j. go g i j (eq-or (B .own g) l))
+pub count-same : (B : Loops) (x y : ℕ → Bool) (l : ℕ)
+    → ((g : ℕ) → 0 < g → g ≤ B .stop l → B .own g ≡ l → x g ≡ y g)
+    → count B x l ≡ count B y l
+count-same B x y l h =
+    cnt-same (mineOf B x l) (mineOf B y l) (B .stop l) (λ g i j. go g i j (eq-or (B .own g) l))
   where
     go : (g : ℕ) → 0 < g → g ≤ B .stop l → (B .own g ≡ l) ⊎ ((B .own g ≡ l) → ⊥) → mineOf B x l g ≡ mineOf B y l g
     go g i j (inl z) = mine-own B x l g z ∙ h g i j z ∙ sym (mine-own B y l g z)
     go g i j (inr z) = mine-other B x l g z ∙ sym (mine-other B y l g z)
 
 -- a placement with no gap of l's own counts nothing there
-pub count-none : (B : Loops) (x : ℕ → Bool) (l : ℕ) → ((g : ℕ) → 0 < g → g ≤ B .stop l → B .own g ≡ l → x g ≡ true → ⊥) → count B x l ≡ 0
+pub count-none : (B : Loops) (x : ℕ → Bool) (l : ℕ)
+    → ((g : ℕ) → 0 < g → g ≤ B .stop l → B .own g ≡ l → x g ≡ true → ⊥)
+    → count B x l ≡ 0
 count-none B x l h = cnt-none (mineOf B x l) (B .stop l) (λ g i j. go g i j (eq-or (B .own g) l))
   where
     go : (g : ℕ) → 0 < g → g ≤ B .stop l → (B .own g ≡ l) ⊎ ((B .own g ≡ l) → ⊥) → mineOf B x l g ≡ false
     go g i j (inl z) = mine-own B x l g z ∙ false-by (h g i j z)
     go g i j (inr z) = mine-other B x l g z
 
--- of two placements the second: nothing of the first
+-- of two placements together: at a gap that the first lacks it is the second, and the other way round
 pub also-right : (x w : ℕ → Bool) (g : ℕ) → (x g ≡ true → ⊥) → also x w g ≡ w g
 also-right x w g h =
     let z : x g ≡ false = false-by h in
     rw z
 
 pub also-left : (x w : ℕ → Bool) (g : ℕ) → (w g ≡ true → ⊥) → also x w g ≡ x g
-also-left x w g h = bool-by (also x w g) (x g) (λ k. ⊎-elim (λ (z : x g ≡ true). z) (λ (z : w g ≡ true). absurd (h z)) (or-true (x g) (w g) k)) (λ k. or-left (w g) k)
+also-left x w g h =
+    bool-by (also x w g) (x g)
+    (λ k. ⊎-elim (λ (z : x g ≡ true). z) (λ (z : w g ≡ true). absurd (h z)) (or-true (x g) (w g) k))
+    (λ k. or-left (w g) k)
 
 pub only-is : (p g : ℕ) → only p g ≡ true → g ≡ p
 only-is p g h = eqb-true g p h
 
+pub only-self : (p : ℕ) → only p p ≡ true
+only-self p = eq-eqb p p refl
+
 -- more gaps, none of them l's own: what l asks is still done
-pub done-more : (W : World) (T : Tables) (l : ℕ) (x y : ℕ → Bool) → ((g : ℕ) → x g ≡ true → y g ≡ true) → ((g : ℕ) → 0 < g → g ≤ W .loops .stop l → W .loops .own g ≡ l → y g ≡ x g) → Done W T l x → Done W T l y
+pub done-more : (W : World) (T : Tables) (l : ℕ) (x y : ℕ → Bool)
+    → ((g : ℕ) → x g ≡ true → y g ≡ true)
+    → ((g : ℕ) → 0 < g → g ≤ W .loops .stop l → W .loops .own g ≡ l → y g ≡ x g)
+    → Done W T l x → Done W T l y
 done-more W T l x y h i k =
     record {
       exact = count-same (W .loops) y x l i ∙ k .exact;
-      lines = λ a b j. hit-more y h (k .lines a b j);
-      backs = λ a t j. ⊎-elim (λ (z : Hit x (suc l) t). inl (hit-more y h z)) (λ (z : Hit x a (W .loops .stop l)). inr (hit-more y h z)) (k .backs a t j);
+      lines = λ a b j. hit-more h (k .lines a b j);
+      backs = λ a t j. ⊎-elim
+          (λ (z : Hit x (suc l) t). inl (hit-more h z))
+          (λ (z : Hit x a (W .loops .stop l)). inr (hit-more h z))
+          (k .backs a t j);
     }
 
 -- what the table lays for a loop
@@ -89,7 +107,9 @@ laid-part W T l q x k = record { low = k .low; high = k .high; done = done }
         }
 
 -- nothing, for a loop with nothing to cut
-pub idle-part : (W : World) (T : Tables) (l : ℕ) (x : ℕ → Bool) → ((m : ℕ) → Inside (W .loops) l m → Idle W T m) → ((g : ℕ) → x g ≡ true → ⊥) → Part W T l x
+pub idle-part : (W : World) (T : Tables) (l : ℕ) (x : ℕ → Bool)
+    → ((m : ℕ) → Inside (W .loops) l m → Idle W T m) → ((g : ℕ) → x g ≡ true → ⊥)
+    → Part W T l x
 idle-part W T l x h k =
     record {
       low = λ g i. absurd (k g i);
@@ -108,37 +128,18 @@ end-no-do B laws d p l c h =
     let u : l < B .stop l = laws .long l (c .is-do) in
     omega (arith, laws .long (B .stop l) y, laws .nested l (B .stop l) (c .is-do) y u (omega arith))
 
-module _ (W : World) (laws : LoopLaws (W .loops)) (T : Tables) (d : ℕ) (is-do : W .loops .isDo d ≡ true) where
+module _ (W : World) (laws : LoopLaws (W .loops)) (T : Tables) (d : ℕ) where
   -- an own gap lies above its loop's DO
   own-above : (g l : ℕ) → 0 < g → W .loops .own g ≡ l → l < g
   own-above zero l h e = absurd (omega arith)
   own-above (suc g) l h e = omega (arith, laws .own-below g)
 
   pub start-body : Body W T d (W .loops .stop d) 0 bare
-  start-body = record { mine = count-none (W .loops) bare d (λ g i j o k. never k); passed = λ l i h j. absurd (omega (arith, i .below)) }
-
-  -- a gap of d's own, just before all that is laid
-  pub put-body : (p c : ℕ) (w : ℕ → Bool) → W .loops .own (suc p) ≡ d → p < W .loops .stop d → ((g : ℕ) → w g ≡ true → suc p < g) → Body W T d (suc p) c w → Body W T d (suc p) (suc c) (also (only (suc p)) w)
-  unfolding mineOf
-  put-body p c w o h low k =
+  start-body =
       record {
-        mine = cnt-put (mineOf (W .loops) y d) (mineOf (W .loops) w d) (W .loops .stop d) (suc p) (omega arith) h yes′ no′ other ∙ ap suc (k .mine);
-        passed = λ l i j u. done-more W T l w y (λ g z. or-right (only (suc p) g) z) (λ g a b e. also-right (only (suc p)) w g (λ z. omega (arith, own-above g l a e, only-is (suc p) g z))) (k .passed l i j u);
+        mine = count-none (W .loops) bare d (λ g i j o k. never k);
+        passed = λ l i h j. absurd (omega (arith, i .below));
       }
-    where
-      y : ℕ → Bool
-      y = also (only (suc p)) w
-
-      yes′ : mineOf (W .loops) y d (suc p) ≡ true
-      yes′ = mine-own (W .loops) y d (suc p) o ∙ or-left (w (suc p)) (eq-eqb (suc p) (suc p) refl)
-
-      no′ : mineOf (W .loops) w d (suc p) ≡ false
-      no′ = mine-own (W .loops) w d (suc p) o ∙ false-by (λ z. omega (arith, low (suc p) z))
-
-      other : (g : ℕ) → (g ≡ suc p → ⊥) → mineOf (W .loops) y d g ≡ mineOf (W .loops) w d g
-      other g z =
-          let e : y g ≡ w g = also-right (only (suc p)) w g (λ k. z (only-is (suc p) g k)) in
-          rw e
 
   -- point p is no loop inside d
   pub skip-body : (p c : ℕ) (w : ℕ → Bool) → (p ≡ d) ⊎ Plain (W .loops) d p → Body W T d (suc p) c w → Body W T d p c w
@@ -152,11 +153,52 @@ module _ (W : World) (laws : LoopLaws (W .loops)) (T : Tables) (d : ℕ) (is-do 
           h
       go l i j u (inr z) = k .passed l i j (omega (arith, z))
 
+  -- a gap of d's own, just before all that is laid
+  module _
+      (p c : ℕ) (w : ℕ → Bool) (own : W .loops .own (suc p) ≡ d) (high : p < W .loops .stop d)
+      (low : (g : ℕ) → w g ≡ true → suc p < g) (k : Body W T d (suc p) c w) where
+    abbrev put-gap : ℕ → Bool
+    put-gap = also (only (suc p)) w
+
+    put-here : mineOf (W .loops) put-gap d (suc p) ≡ true
+    put-here = mine-own (W .loops) put-gap d (suc p) own ∙ or-left (w (suc p)) (only-self (suc p))
+
+    not-yet : mineOf (W .loops) w d (suc p) ≡ false
+    not-yet = mine-own (W .loops) w d (suc p) own ∙ false-by (λ z. omega (arith, low (suc p) z))
+
+    elsewhere : (g : ℕ) → (g ≡ suc p → ⊥) → mineOf (W .loops) put-gap d g ≡ mineOf (W .loops) w d g
+    unfolding mineOf
+    elsewhere g z =
+        let e : put-gap g ≡ w g = also-right (only (suc p)) w g (λ y. z (only-is (suc p) g y)) in
+        rw e
+
+    mine-put : count (W .loops) put-gap d ≡ suc (count (W .loops) w d)
+    mine-put =
+        cnt-put (mineOf (W .loops) put-gap d) (mineOf (W .loops) w d) (W .loops .stop d) (suc p)
+        (omega arith) high put-here not-yet elsewhere
+
+    -- a loop after the gap has its own gaps further on
+    not-there : (l g : ℕ) → suc p ≤ l → 0 < g → W .loops .own g ≡ l → only (suc p) g ≡ true → ⊥
+    not-there l g u a e z = omega (arith, own-above g l a e, only-is (suc p) g z)
+
+    pub put-body : Body W T d (suc p) (suc c) put-gap
+    put-body =
+        record {
+          mine = mine-put ∙ ap suc (k .mine);
+          passed = λ l i j u. done-more W T l w put-gap
+              (λ g z. or-right (only (suc p) g) z)
+              (λ g a b e. also-right (only (suc p)) w g (not-there l g u a e))
+              (k .passed l i j u);
+        }
+
   -- what is laid for a child, before all that is laid
-  module _ (p l c : ℕ) (x w : ℕ → Bool) (child : Child (W .loops) d p l) (part : Part W T l x) (low : (g : ℕ) → w g ≡ true → p < g) (k : Body W T d (suc p) c w) where
+  module _
+      (p l c : ℕ) (x w : ℕ → Bool) (child : Child (W .loops) d p l) (part : Part W T l x)
+      (low : (g : ℕ) → w g ≡ true → p < g) (k : Body W T d (suc p) c w) where
     -- an own gap of d does not lie in the child, nor does one of a loop after the child
     not-mine : (g : ℕ) → W .loops .own g ≡ d → x g ≡ true → ⊥
-    not-mine g e h = omega (arith, laws .owner l g (child .is-do) (part .low g h) (part .high g h) .from, child .below)
+    not-mine g e h =
+        omega (arith, laws .owner l g (child .is-do) (part .low g h) (part .high g h) .from, child .below)
 
     not-after : (m g : ℕ) → 0 < g → W .loops .own g ≡ m → suc p ≤ m → x g ≡ true → ⊥
     not-after m g a e h z = omega (arith, own-above g m a e, part .high g z, child .ends)
@@ -168,18 +210,38 @@ module _ (W : World) (laws : LoopLaws (W .loops)) (T : Tables) (d : ℕ) (is-do 
         (λ (z : m ≤ l). (
         let y : m ≡ l = omega (arith, i .from) in
         rw y (omega (arith, child .ends))))
-        (λ (z : l < m). omega (arith, laws .nested l m (child .is-do) (i .is-do) z (omega (arith, i .below)), child .ends))
+        (λ (z : l < m). (
+        let y : W .loops .stop m < W .loops .stop l =
+        laws .nested l m (child .is-do) (i .is-do) z (omega (arith, i .below)) in
+        omega (arith, child .ends)))
         (le-or m l)
 
     in-child : (m : ℕ) → Inside (W .loops) l m → Done W T m (also x w)
-    in-child m i = done-more W T m x (also x w) (λ g z. or-left (w g) z) (λ g a b e. also-left x w g (λ z. omega (arith, low g z, ends-by m i))) (part .done m i)
+    in-child m i =
+        done-more W T m x (also x w)
+        (λ g z. or-left (w g) z)
+        (λ g a b e. also-left x w g (λ z. omega (arith, low g z, ends-by m i)))
+        (part .done m i)
 
     after : (m : ℕ) → Inside (W .loops) d m → d < m → suc p ≤ m → Done W T m (also x w)
-    after m i h j = done-more W T m w (also x w) (λ g z. or-right (x g) z) (λ g a b e. also-right x w g (not-after m g a e j)) (k .passed m i h j)
+    after m i h j =
+        done-more W T m w (also x w)
+        (λ g z. or-right (x g) z)
+        (λ g a b e. also-right x w g (not-after m g a e j))
+        (k .passed m i h j)
+
+    -- a loop from l on lies in the child or after it
+    in-or-after : (m : ℕ) → Inside (W .loops) d m → d < m → l ≤ m → (suc p ≤ m) ⊎ (m < suc p) → Done W T m (also x w)
+    in-or-after m i h j (inl z) = after m i h z
+    in-or-after m i h j (inr z) =
+        ⊎-elim
+        (λ (y : m ≡ p). absurd (end-no-do (W .loops) laws d p l child (rw y at (i .is-do))))
+        (λ (y : m ≡ p → ⊥). in-child m record { is-do = i .is-do; from = j; below = omega (arith, y, child .ends) })
+        (eq-or m p)
 
     pub join-body : Body W T d l c (also x w)
     join-body =
         record {
           mine = count-same (W .loops) (also x w) w d (λ g a b e. also-right x w g (not-mine g e)) ∙ k .mine;
-          passed = λ m i h j. ⊎-elim (λ (z : suc p ≤ m). after m i h z) (λ (z : m < suc p). ⊎-elim (λ (y : m ≡ p). absurd (end-no-do (W .loops) laws d p l child (rw y at (i .is-do)))) (λ (y : m ≡ p → ⊥). in-child m record { is-do = i .is-do; from = j; below = omega (arith, y, child .ends) }) (eq-or m p)) (le-or (suc p) m);
+          passed = λ m i h j. in-or-after m i h j (le-or (suc p) m);
         }

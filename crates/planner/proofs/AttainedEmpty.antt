@@ -1,13 +1,13 @@
--- A loop whose table has no front for its whole range has nothing to cut, in it or in any loop inside: with something to
--- cut, the least value would have a front. Every loop inside d is d or lies in a child of d, as the walk shows.
+-- A loop whose table has no front for its whole range has nothing to cut, in it or in any loop inside: with something
+-- to cut, the least value would have a front. Every loop inside d is d or lies in a child of d, as the walk shows.
 -- Main statements: `each-in-child`, `empty`.
-use mathlib.Core.Path.{_≡_, refl, sym, _∙_}
+use mathlib.Core.Path.{_≡_, sym, _∙_}
 use mathlib.Core.Bool.{Bool, true, false}
 use mathlib.Core.Logic.{_⊎_, inl, inr, ⊎-elim}
-use Prim.Native.Nat.{ℕ, zero, suc, _≤_, _<_}
+use Prim.Native.Nat.{ℕ, suc, _≤_, _<_}
 use native.Mathlib.Omega.{arith}
 use Rattle.laws.proofs.Tests.{test, never-both, le-or, eq-or}
-use Rattle.planner.specs.Sweep.{Loops, Lines, Tables, State, stepPlain, stepChild, value, least, front, someOf, IsTable}
+use Rattle.planner.specs.Sweep.{Loops, Lines, Tables, value, least, front, someOf, IsTable}
 use Rattle.planner.proofs.World.{World, Inside, Child, Plain, LoopLaws, LineLaws, Lawful}
 use Rattle.planner.proofs.Claim.{Idle, Claim}
 use Rattle.planner.proofs.Walk.{AtPlain, AtChild, along}
@@ -37,7 +37,10 @@ module _ (B : Loops) (laws : LoopLaws B) (T : Tables) (d : ℕ) (is-do : B .isDo
       (λ (z : suc p ≤ l). k l i h z)
       (λ (z : l < suc p). (
       let y : l ≡ p = omega arith in
-      ⊎-elim (λ (e : p ≡ d). absurd (omega arith)) (λ (e : Plain B d p). never-both (i .is-do) (rw y (e .no-do))) (at .before)))
+      ⊎-elim
+      (λ (e : p ≡ d). absurd (omega arith))
+      (λ (e : Plain B d p). never-both (i .is-do) (rw y (e .no-do)))
+      (at .before)))
       (le-or (suc p) l)
 
   over-child : (p c : ℕ) → AtChild B d p c → InChildren (suc p) → InChildren c
@@ -60,37 +63,55 @@ module _ (B : Loops) (laws : LoopLaws B) (T : Tables) (d : ℕ) (is-do : B .isDo
 
   pub each-in-child : (l : ℕ) → Inside B d l → d < l → InChild B d l
   unfolding InChildren
-  each-in-child l i h =
-      let all : InChildren d = along B laws T (λ a. a) d is-do (λ p s. InChildren p) (λ p s at k. over-plain p at k) (λ p c s at k. over-child p c at k) (λ m j u v. absurd (omega (arith, j .below))) in
-      all l i h (omega arith)
+  each-in-child l i h = all l i h (omega arith)
+    where
+      all : InChildren d
+      all =
+          along B laws T (λ a. a) d is-do (λ p s. InChildren p)
+          (λ p s at k. over-plain p at k)
+          (λ p c s at k. over-child p c at k)
+          (λ m j u v. absurd (omega (arith, j .below)))
 
-module _ (W : World) (N : Lines) (laws : Lawful W N) (T : Tables) (table : IsTable (W .loops) N T) (d : ℕ) (is-do : W .loops .isDo d ≡ true) (kids : Kids W T d) where
+module _
+    (W : World) (N : Lines) (laws : Lawful W N) (T : Tables) (table : IsTable (W .loops) N T)
+    (d : ℕ) (is-do : W .loops .isDo d ≡ true) (kids : Kids W T d) where
+  abbrev e : ℕ
+  e = W .loops .stop d
+
+  abbrev cost-of : ℕ → ℕ
+  cost-of q = value (W .loops) N T d q .c
+
+  long : d < e
+  long = laws .of-loops .long d is-do
+
   -- with something to cut, the least value has a front
   has-front : someOf (W .loops) N T d ≡ true → 0 < T .left d (suc d)
-  has-front e =
-      let long : d < W .loops .stop d = laws .of-loops .long d is-do in
-      let r : Fronts (value (W .loops) N T d) (T .cost d) (W .loops .stop d) (suc d) (front (T .left d (suc d)) (T .choice d (suc d))) = row-fronts (W .loops) (laws .of-loops) N T table d is-do (suc d) (omega arith) long e in
-      let a : Attains (λ q. value (W .loops) N T d q .c) d (W .loops .stop d) (least (λ q. value (W .loops) N T d q .c) d (W .loops .stop d)) = least-at (λ q. value (W .loops) N T d q .c) d (W .loops .stop d) long in
-      r .there (a .at) (a .low) (a .high) (sym (row-cost (W .loops) (laws .of-loops) N T table d is-do e ∙ a .is))
+  has-front h =
+      let a : Attains cost-of d e (least cost-of d e) = least-at cost-of d e long in
+      row .there (a .at) (a .low) (a .high) (sym (row-cost (W .loops) (laws .of-loops) N T table d is-do h ∙ a .is))
+    where
+      row : Fronts (value (W .loops) N T d) (T .cost d) e (suc d) (front (T .left d (suc d)) (T .choice d (suc d)))
+      row = row-fronts (W .loops) (laws .of-loops) N T table d is-do (suc d) (omega arith) long h
 
   -- a dependence with home d would be something to cut
   self-idle : someOf (W .loops) N T d ≡ false → Idle W T d
-  self-idle e =
-      let n : Nothing (W .loops) N T d = some-none (W .loops) N T d e in
+  self-idle h =
+      let n : Nothing (W .loops) N T d = some-none (W .loops) N T d h in
       record {
-        free = row-idle (W .loops) (laws .of-loops) N T table d is-do (suc d) (omega arith) (laws .of-loops .long d is-do) e .0;
+        free = row-idle (W .loops) (laws .of-loops) N T table d is-do (suc d) (omega arith) long h .0;
         no-line = λ a b k. never-both (laws .of-lines .has-line d a b is-do k) (n .no-home);
         no-back = λ a t k. never-both (laws .of-lines .has-back d a t is-do k) (n .no-home);
       }
 
   all-idle : someOf (W .loops) N T d ≡ false → (l : ℕ) → Inside (W .loops) d l → (l ≤ d) ⊎ (d < l) → Idle W T l
-  all-idle e l i (inl z) =
+  all-idle h l i (inl z) =
       let y : l ≡ d = omega (arith, i .from) in
-      rw y (self-idle e)
-  all-idle e l i (inr z) =
+      rw y (self-idle h)
+  all-idle h l i (inr z) =
       let c : InChild (W .loops) d l = each-in-child (W .loops) (laws .of-loops) T d is-do l i z in
-      let n : Nothing (W .loops) N T d = some-none (W .loops) N T d e in
-      kids (c .loop) (c .is-do) (c .owner) (c .above) (c .below) .empty (n .no-child (c .loop) (c .is-do) (c .owner) (c .above) (c .below)) l (c .inside)
+      let n : T .left (c .loop) (suc (c .loop)) ≡ 0 =
+      some-none (W .loops) N T d h .no-child (c .loop) (c .is-do) (c .owner) (c .above) (c .below) in
+      kids (c .loop) (c .is-do) (c .owner) (c .above) (c .below) .empty n l (c .inside)
 
   pub empty : T .left d (suc d) ≡ 0 → (l : ℕ) → Inside (W .loops) d l → Idle W T l
   empty h l i =

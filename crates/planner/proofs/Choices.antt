@@ -26,18 +26,13 @@ least-le v d (suc e) q a b = go (leb e d || leb (v (suc e)) (least v d e)) refl 
         rw y (h z)))
         (le-or q e)
 
-    go : (t : Bool) → (leb e d || leb (v (suc e)) (least v d e)) ≡ t → (r : ℕ) → least v d e ≡ r →
-        (q ≤ e → least v d e ≤ v q) → pick t (v (suc e)) (least v d e) ≤ v q
+    go : (t : Bool) → (leb e d || leb (v (suc e)) (least v d e)) ≡ t → (r : ℕ) → least v d e ≡ r → (q ≤ e → least v d e ≤ v q) → pick t (v (suc e)) (least v d e) ≤ v q
     go true h r z i =
         at-end
         (v (suc e))
         (λ j. omega arith)
-        (λ (j : q ≤ e). ⊎-elim (λ (k : leb e d ≡ true). absurd (omega (arith, leb-true e d k)))
-        (λ (k : leb (v (suc e)) (least v d e) ≡ true). omega (arith, leb-true (v (suc e)) (least v d e) k, i j))
-        (or-true (leb e d) (leb (v (suc e)) (least v d e)) h))
-    go false h r z i = at-end (least v d e)
-        (λ j. omega
-        (arith, leb-false (v (suc e)) (least v d e) (or-false (leb e d) (leb (v (suc e)) (least v d e)) h .1))) i
+        (λ (j : q ≤ e). ⊎-elim (λ (k : leb e d ≡ true). absurd (omega (arith, leb-true e d k))) (λ (k : leb (v (suc e)) (least v d e) ≡ true). omega (arith, leb-true (v (suc e)) (least v d e) k, i j)) (or-true (leb e d) (leb (v (suc e)) (least v d e)) h))
+    go false h r z i = at-end (least v d e) (λ j. omega (arith, leb-false (v (suc e)) (least v d e) (or-false (leb e d) (leb (v (suc e)) (least v d e)) h .1))) i
 
 -- and is one of them
 pub record Attains (v : ℕ → ℕ) (d e r : ℕ) : Type 0 where
@@ -51,12 +46,10 @@ unfolding least
 least-at v d zero a = absurd (omega arith)
 least-at v d (suc e) a = go (leb e d || leb (v (suc e)) (least v d e)) refl (least-at v d e)
   where
-    go : (t : Bool) → (leb e d || leb (v (suc e)) (least v d e)) ≡ t → (d < e → Attains v d e (least v d e)) →
-        Attains v d (suc e) (pick t (v (suc e)) (least v d e))
+    go : (t : Bool) → (leb e d || leb (v (suc e)) (least v d e)) ≡ t → (d < e → Attains v d e (least v d e)) → Attains v d (suc e) (pick t (v (suc e)) (least v d e))
     go true h i = record { at = suc e; low = a; high = omega arith; is = refl }
     go false h i =
-        let k : Attains v d e (least v d e) = i
-        (leb-false e d (or-false (leb e d) (leb (v (suc e)) (least v d e)) h .0)) in
+        let k : Attains v d e (least v d e) = i (leb-false e d (or-false (leb e d) (leb (v (suc e)) (least v d e)) h .0)) in
         record { at = k .at; low = k .low; high = omega (arith, k .high); is = k .is }
 
 -- the best front among the values from q to e with c barriers
@@ -90,8 +83,7 @@ module _ (v : ℕ → State) (c e q : ℕ) (fits : q ≤ e) (pos : 0 < v q .f) (
             (λ (z : a ≤ q). (
             let y : a ≡ q = omega arith in
             rw y (omega arith)))
-            (λ (z : q < a). ⊎-elim (λ (y : r .f ≡ 0). absurd (omega (arith, i .there a z m n)))
-            (λ (y : v q .f ≤ r .f). omega (arith, i .least a z m n)) k)
+            (λ (z : q < a). ⊎-elim (λ (y : r .f ≡ 0). absurd (omega (arith, i .there a z m n))) (λ (y : v q .f ≤ r .f). omega (arith, i .least a z m n)) k)
             (le-or a q);
         smallest = λ a l m n o. l;
         low = λ j. omega arith;
@@ -124,14 +116,10 @@ module _ (v : ℕ → State) (c e q : ℕ) (fits : q ≤ e) (pos : 0 < v q .f) (
   unfolding better
   better-is = go (eqb (v q .c) c && (eqb (r .f) 0 || leb (v q .f) (r .f))) refl
     where
-      go : (t : Bool) → (eqb (v q .c) c && (eqb (r .f) 0 || leb (v q .f) (r .f))) ≡ t →
-          Fronts v c e q (pick t (front (v q .f) q) r)
+      go : (t : Bool) → (eqb (v q .c) c && (eqb (r .f) 0 || leb (v q .f) (r .f))) ≡ t → Fronts v c e q (pick t (front (v q .f) q) r)
       go true h =
           let k = and-true (eqb (v q .c) c) (eqb (r .f) 0 || leb (v q .f) (r .f)) h in
-          take-here (eqb-true (v q .c) c (k .0))
-          (⊎-elim (λ (z : eqb (r .f) 0 ≡ true). inl (eqb-true (r .f) 0 z))
-          (λ (z : leb (v q .f) (r .f) ≡ true). inr (leb-true (v q .f) (r .f) z))
-          (or-true (eqb (r .f) 0) (leb (v q .f) (r .f)) (k .1)))
+          take-here (eqb-true (v q .c) c (k .0)) (⊎-elim (λ (z : eqb (r .f) 0 ≡ true). inl (eqb-true (r .f) 0 z)) (λ (z : leb (v q .f) (r .f) ≡ true). inr (leb-true (v q .f) (r .f) z)) (or-true (eqb (r .f) 0) (leb (v q .f) (r .f)) (k .1)))
       go false h =
           keep-later
           (λ (m : v q .c ≡ c). ⊎-elim
@@ -142,14 +130,11 @@ module _ (v : ℕ → State) (c e q : ℕ) (fits : q ≤ e) (pos : 0 < v q .f) (
           (omega (arith, y), leb-false (v q .f) (r .f) (k .1))))
           (and-false (eqb (v q .c) c) (eqb (r .f) 0 || leb (v q .f) (r .f)) h))
 
-pub best-is : (v : ℕ → State) (c e k q : ℕ) → e < q + k → ((a : ℕ) → q ≤ a → a ≤ e → 0 < v a .f) →
-    Fronts v c e q (best v c e k q)
+pub best-is : (v : ℕ → State) (c e k q : ℕ) → e < q + k → ((a : ℕ) → q ≤ a → a ≤ e → 0 < v a .f) → Fronts v c e q (best v c e k q)
 unfolding best
 best-is v c e zero q h pos = none-fronts v c e q (omega arith)
-best-is v c e (suc k) q h pos = go (ltb e q) refl
-    (best-is v c e k (suc q) (omega arith) (λ a i j. pos a (omega arith) j))
+best-is v c e (suc k) q h pos = go (ltb e q) refl (best-is v c e k (suc q) (omega arith) (λ a i j. pos a (omega arith) j))
   where
-    go : (t : Bool) → ltb e q ≡ t → Fronts v c e (suc q) (best v c e k (suc q)) →
-        Fronts v c e q (pick t (front 0 0) (better c q (v q) (best v c e k (suc q))))
+    go : (t : Bool) → ltb e q ≡ t → Fronts v c e (suc q) (best v c e k (suc q)) → Fronts v c e q (pick t (front 0 0) (better c q (v q) (best v c e k (suc q))))
     go true z i = none-fronts v c e q (ltb-true e q z)
     go false z i = better-is v c e q (ltb-false e q z) (pos q (omega arith) (ltb-false e q z)) (best v c e k (suc q)) i

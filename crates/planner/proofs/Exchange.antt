@@ -10,20 +10,7 @@ use lib.Dec.{eqb, ltb, leb}
 use borrow.Author.Tests.{ltb-true, ltb-false, leb-true, leb-false, eqb-true, eqb-false, eq-eqb, ne-eqb}
 use Rattle.laws.specs.Choice.{pick, firstOf}
 use Rattle.laws.proofs.Tests.{test, never, never-both, le-or, eq-or, lt-by, and-true}
-use Rattle.planner.specs.Sweep.{
-  Loops,
-  Tables,
-  State,
-  put,
-  stepPlain,
-  free,
-  inner,
-  outer,
-  stepChild,
-  start,
-  sweep,
-  close,
-}
+use Rattle.planner.specs.Sweep.{Loops, Tables, State, put, stepPlain, free, inner, outer, stepChild, start, sweep, close}
 use Rattle.planner.proofs.World.{World, Inside, Owner, Child, Plain, LoopLaws}
 use Rattle.planner.proofs.Counts.{cnt, cnt-yes, cnt-skips, cnt-skip}
 use Rattle.planner.proofs.Claim.{Hit, mineOf, count, Sound, Settled, Best, Laid, Leads, Claim}
@@ -48,43 +35,29 @@ first-le zero f g h i = i refl
 first-le (suc l) f g h i = h (omega arith)
 
 -- loops inside a loop inside d lie inside d
-pub inside-trans : (B : Loops) → LoopLaws B → (d l m : ℕ) → B .isDo d ≡ true → Inside B d l → d < l → Inside B l m →
-    Inside B d m
+pub inside-trans : (B : Loops) → LoopLaws B → (d l m : ℕ) → B .isDo d ≡ true → Inside B d l → d < l → Inside B l m → Inside B d m
 inside-trans B laws d l m is-do i h j =
     let z : B .stop l < B .stop d = laws .nested d l is-do (i .is-do) h (omega (arith, i .below)) in
     record { is-do = j .is-do; from = omega (arith, j .from); below = omega (arith, j .below) }
 
 -- what is settled in d is best in every loop inside
-pub settled-inside : (W : World) → LoopLaws (W .loops) → (T : Tables) (x : ℕ → Bool) (d l : ℕ) →
-    W .loops .isDo d ≡ true → Settled W (T .cost) x d → Inside (W .loops) d l → d < l → Best W (T .cost) x l
+pub settled-inside : (W : World) → LoopLaws (W .loops) → (T : Tables) (x : ℕ → Bool) (d l : ℕ) → W .loops .isDo d ≡ true → Settled W (T .cost) x d → Inside (W .loops) d l → d < l → Best W (T .cost) x l
 settled-inside W laws T x d l is-do s i h =
-    let t : (m : ℕ) → Inside (W .loops) l m → Inside (W .loops) d m = λ m j. inside-trans
-    (W .loops) laws d l m is-do i h j in
+    let t : (m : ℕ) → Inside (W .loops) l m → Inside (W .loops) d m = λ m j. inside-trans (W .loops) laws d l m is-do i h j in
     record {
       settled = record {
-        sound = record {
-          lines = λ m a b j k. s .sound .lines m a b (t m j) k;
-          backs = λ m a b j k. s .sound .backs m a b (t m j) k;
-        };
+        sound = record { lines = λ m a b j k. s .sound .lines m a b (t m j) k; backs = λ m a b j k. s .sound .backs m a b (t m j) k };
         inside = λ m j k. s .inside m (t m j) (omega arith);
       };
       exact = s .inside l i h;
     }
 
 child-inside : (B : Loops) (d p l : ℕ) → AtChild B d p l → Inside B d l
-child-inside B d p l at = record {
-  is-do = at .child .is-do;
-  from = omega (arith, at .child .below);
-  below = omega (arith, at .short, at .high);
-}
+child-inside B d p l at = record { is-do = at .child .is-do; from = omega (arith, at .child .below); below = omega (arith, at .short, at .high) }
 
-module _ (W : World) (laws : LoopLaws (W .loops)) (T : Tables) (d : ℕ) (is-do : W .loops .isDo d ≡ true)
-    (kids : (l : ℕ) → Inside (W .loops) d l → d < l → Claim W T l) (need : ℕ → ℕ) (x : ℕ → Bool)
-    (settled : Settled W (T .cost) x d)
-    (hits : (a : ℕ) → d < a → a ≤ W .loops .stop d → need a ≤ W .loops .stop d → Hit x a (need a)) where
+module _ (W : World) (laws : LoopLaws (W .loops)) (T : Tables) (d : ℕ) (is-do : W .loops .isDo d ≡ true) (kids : (l : ℕ) → Inside (W .loops) d l → d < l → Claim W T l) (need : ℕ → ℕ) (x : ℕ → Bool) (settled : Settled W (T .cost) x d) (hits : (a : ℕ) → d < a → a ≤ W .loops .stop d → need a ≤ W .loops .stop d → Hit x a (need a)) where
   -- the step at an own gap
-  put-kept : (p : ℕ) (s : State) → AtPlain (W .loops) d p → Inv (W .loops) x d (suc p) s → need (suc p) < s .f →
-      Inv (W .loops) x d p (put p s)
+  put-kept : (p : ℕ) (s : State) → AtPlain (W .loops) d p → Inv (W .loops) x d (suc p) s → need (suc p) < s .f → Inv (W .loops) x d p (put p s)
   unfolding put
   put-kept p s at i h =
       record {
@@ -99,24 +72,19 @@ module _ (W : World) (laws : LoopLaws (W .loops)) (T : Tables) (d : ℕ) (is-do 
       with-gap : x (suc p) ≡ true → suc (s .c) + cnt (mineOf (W .loops) x d) p ≤ count (W .loops) x d
       with-gap e = omega (arith, cnt-yes (mineOf (W .loops) x d) p (own ∙ e), i .le)
 
-      must : x (suc p) ≡ false → s .c + cnt (mineOf (W .loops) x d) (suc p) ≡ count (W .loops) x d →
-          Hit x (suc p) (need (suc p)) → ⊥
+      must : x (suc p) ≡ false → s .c + cnt (mineOf (W .loops) x d) (suc p) ≡ count (W .loops) x d → Hit x (suc p) (need (suc p)) → ⊥
       must e z k =
           ⊎-elim
           (λ (y : k .gap ≤ suc p). (
           let v : k .gap ≡ suc p = omega (arith, k .low) in
           never-both (k .holds) (rw v e)))
-          (λ (y : suc p < k .gap). omega
-          (arith, i .tight z (k .gap) y (omega (arith, k .high, i .fits)) (k .holds), k .high))
+          (λ (y : suc p < k .gap). omega (arith, i .tight z (k .gap) y (omega (arith, k .high, i .fits)) (k .holds), k .high))
           (le-or (k .gap) (suc p))
 
       without : x (suc p) ≡ false → suc (s .c) + cnt (mineOf (W .loops) x d) p ≤ count (W .loops) x d
       without e =
-          let n : cnt (mineOf (W .loops) x d) (suc p) ≡ cnt (mineOf (W .loops) x d) p = cnt-skips
-          (mineOf (W .loops) x d) p (own ∙ e) in
-          let st : s .c + cnt (mineOf (W .loops) x d) (suc p) < count (W .loops) x d = lt-by
-          (λ z. must e (omega (arith, i .le))
-          (hits (suc p) (omega (arith, at .low)) (omega (arith, at .high)) (omega (arith, i .fits)))) in
+          let n : cnt (mineOf (W .loops) x d) (suc p) ≡ cnt (mineOf (W .loops) x d) p = cnt-skips (mineOf (W .loops) x d) p (own ∙ e) in
+          let st : s .c + cnt (mineOf (W .loops) x d) (suc p) < count (W .loops) x d = lt-by (λ z. must e (omega (arith, i .le)) (hits (suc p) (omega (arith, at .low)) (omega (arith, at .high)) (omega (arith, i .fits)))) in
           omega arith
 
   skip-kept : (p : ℕ) (s : State) → AtPlain (W .loops) d p → Inv (W .loops) x d (suc p) s → Inv (W .loops) x d p s
@@ -127,12 +95,10 @@ module _ (W : World) (laws : LoopLaws (W .loops)) (T : Tables) (d : ℕ) (is-do 
 
       go : (x (suc p) ≡ true) ⊎ (x (suc p) ≡ false) → Inv (W .loops) x d p s
       go (inl e) =
-          let n : cnt (mineOf (W .loops) x d) (suc p) ≡ suc (cnt (mineOf (W .loops) x d) p) = cnt-yes
-          (mineOf (W .loops) x d) p (own ∙ e) in
+          let n : cnt (mineOf (W .loops) x d) (suc p) ≡ suc (cnt (mineOf (W .loops) x d) p) = cnt-yes (mineOf (W .loops) x d) p (own ∙ e) in
           record { fits = i .fits; le = omega (arith, i .le); tight = λ z. absurd (omega (arith, i .le)) }
       go (inr e) =
-          let n : cnt (mineOf (W .loops) x d) (suc p) ≡ cnt (mineOf (W .loops) x d) p = cnt-skips
-          (mineOf (W .loops) x d) p (own ∙ e) in
+          let n : cnt (mineOf (W .loops) x d) (suc p) ≡ cnt (mineOf (W .loops) x d) p = cnt-skips (mineOf (W .loops) x d) p (own ∙ e) in
           record {
             fits = i .fits;
             le = omega (arith, i .le);
@@ -144,8 +110,7 @@ module _ (W : World) (laws : LoopLaws (W .loops)) (T : Tables) (d : ℕ) (is-do 
                 (le-or g (suc p));
           }
 
-  plain-kept : (p : ℕ) (s : State) → AtPlain (W .loops) d p → Inv (W .loops) x d (suc p) s →
-      Inv (W .loops) x d p (stepPlain need p s)
+  plain-kept : (p : ℕ) (s : State) → AtPlain (W .loops) d p → Inv (W .loops) x d (suc p) s → Inv (W .loops) x d p (stepPlain need p s)
   plain-kept p s at i = plain-cases (Inv (W .loops) x d p) need p s (put-kept p s at i) (λ h. skip-kept p s at i)
 
   -- the step over a child
@@ -157,9 +122,7 @@ module _ (W : World) (laws : LoopLaws (W .loops)) (T : Tables) (d : ℕ) (is-do 
     ends = at .child .ends
 
     leads : (b : ℕ) → l < b → Hit x b p → Leads W T l b x
-    leads b h k = claim .leftmost x b
-        (settled-inside W laws T x d l is-do settled (child-inside (W .loops) d p l at) (at .child .below)) h
-        (rw ends k)
+    leads b h k = claim .leftmost x b (settled-inside W laws T x d l is-do settled (child-inside (W .loops) d p l at) (at .child .below)) h (rw ends k)
 
     left-high : (b : ℕ) → l < b → b ≤ p → 0 < T .left l b → T .left l b ≤ p
     left-high b h j k =
@@ -167,9 +130,7 @@ module _ (W : World) (laws : LoopLaws (W .loops)) (T : Tables) (d : ℕ) (is-do 
         omega (arith, a .high (T .left l b) (a .holds), ends)
 
     front-high : (g : ℕ) → p ≤ g → T .left l (suc l) ≤ g
-    front-high g h = ⊎-elim (λ (z : T .left l (suc l) ≤ 0). omega arith)
-        (λ (z : 0 < T .left l (suc l)). omega (arith, left-high (suc l) (omega arith) (at .short) z))
-        (le-or (T .left l (suc l)) 0)
+    front-high g h = ⊎-elim (λ (z : T .left l (suc l) ≤ 0). omega arith) (λ (z : 0 < T .left l (suc l)). omega (arith, left-high (suc l) (omega arith) (at .short) z)) (le-or (T .left l (suc l)) 0)
 
     -- no own gap of d inside the child
     count-below : cnt (mineOf (W .loops) x d) p ≡ cnt (mineOf (W .loops) x d) l
@@ -191,33 +152,27 @@ module _ (W : World) (laws : LoopLaws (W .loops)) (T : Tables) (d : ℕ) (is-do 
     bar : s .c + cnt (mineOf (W .loops) x d) l ≡ count (W .loops) x d → x (suc p) ≡ false
     bar z =
         ⊎-elim
-        (λ (e : x (suc p) ≡ true). absurd
-        (omega (arith, cnt-yes (mineOf (W .loops) x d) p (own ∙ e), i .le, count-below)))
+        (λ (e : x (suc p) ≡ true). absurd (omega (arith, cnt-yes (mineOf (W .loops) x d) p (own ∙ e), i .le, count-below)))
         (λ (e : x (suc p) ≡ false). e)
         (test (x (suc p)))
 
-    ahead : s .c + cnt (mineOf (W .loops) x d) l ≡ count (W .loops) x d → (g : ℕ) → p < g → g ≤ W .loops .stop d →
-        x g ≡ true → s .f ≤ g
+    ahead : s .c + cnt (mineOf (W .loops) x d) l ≡ count (W .loops) x d → (g : ℕ) → p < g → g ≤ W .loops .stop d → x g ≡ true → s .f ≤ g
     ahead z g a b c =
         let e : x (suc p) ≡ false = bar z in
         ⊎-elim
         (λ (y : g ≤ suc p). (
         let v : g ≡ suc p = omega arith in
         never-both c (rw v e)))
-        (λ (y : suc p < g). i .tight
-        (omega (arith, cnt-skips (mineOf (W .loops) x d) p (own ∙ e), count-below)) g y b c)
+        (λ (y : suc p < g). i .tight (omega (arith, cnt-skips (mineOf (W .loops) x d) p (own ∙ e), count-below)) g y b c)
         (le-or g (suc p))
 
     -- so a line that is not cut yet and starts at b is cut inside the child
-    caught : (b : ℕ) → l < b → b ≤ suc p → need b < s .f → s .c + cnt (mineOf (W .loops) x d) l ≡ count
-        (W .loops) x d → Hit x b p
+    caught : (b : ℕ) → l < b → b ≤ suc p → need b < s .f → s .c + cnt (mineOf (W .loops) x d) l ≡ count (W .loops) x d → Hit x b p
     caught b h j u z =
-        let k : Hit x b (need b) = hits b (omega (arith, at .child .below)) (omega (arith, at .high))
-        (omega (arith, i .fits)) in
+        let k : Hit x b (need b) = hits b (omega (arith, at .child .below)) (omega (arith, at .high)) (omega (arith, i .fits)) in
         let m : k .gap ≤ p = ⊎-elim
         (λ (y : k .gap ≤ p). y)
-        (λ (y : p < k .gap). absurd
-        (omega (arith, ahead z (k .gap) y (omega (arith, k .high, i .fits)) (k .holds), k .high)))
+        (λ (y : p < k .gap). absurd (omega (arith, ahead z (k .gap) y (omega (arith, k .high, i .fits)) (k .holds), k .high)))
         (le-or (k .gap) p) in
         record { gap = k .gap; low = k .low; high = m; holds = k .holds }
 
@@ -226,8 +181,7 @@ module _ (W : World) (laws : LoopLaws (W .loops)) (T : Tables) (d : ℕ) (is-do 
         ⊎-elim
         (λ (y : g ≤ p). (
         let v : Leads W T l (suc l) x = leads (suc l) (omega arith) record { gap = g; low = h; high = y; holds = c } in
-        first-le (T .left l (suc l)) f g (λ t. v .least g h (omega (arith, ends)) c)
-        (λ t. absurd (omega (arith, v .there)))))
+        first-le (T .left l (suc l)) f g (λ t. v .least g h (omega (arith, ends)) c) (λ t. absurd (omega (arith, v .there)))))
         (λ (y : p < g). first-le (T .left l (suc l)) f g (λ t. front-high g (omega arith)) (λ t. k y))
         (le-or g p)
 
@@ -235,8 +189,7 @@ module _ (W : World) (laws : LoopLaws (W .loops)) (T : Tables) (d : ℕ) (is-do 
     unfolding free
     free-kept k =
         record {
-          fits = first-le (T .left l (suc l)) (s .f) (suc (W .loops .stop d))
-              (λ t. front-high (suc (W .loops .stop d)) (omega (arith, at .high))) (λ t. i .fits);
+          fits = first-le (T .left l (suc l)) (s .f) (suc (W .loops .stop d)) (λ t. front-high (suc (W .loops .stop d)) (omega (arith, at .high))) (λ t. i .fits);
           le = level;
           tight = λ z g a b c. front-le (s .f) g a c (λ h. ahead z g h b c);
         }
@@ -249,19 +202,16 @@ module _ (W : World) (laws : LoopLaws (W .loops)) (T : Tables) (d : ℕ) (is-do 
           fits = omega (arith, at .high);
           le = level;
           tight = λ z g a u c. ⊎-elim
-              (λ (v : g ≤ p). leads b (k .low) (caught b (k .low) (omega (arith, k .high)) (k .uncut) z) .least g a
-              (omega (arith, ends)) c)
+              (λ (v : g ≤ p). leads b (k .low) (caught b (k .low) (omega (arith, k .high)) (k .uncut) z) .least g a (omega (arith, ends)) c)
               (λ (v : p < g). omega arith)
               (le-or g p);
         }
 
-    outer-kept : (b : ℕ) → Outer need (T .left l) (s .f) l p b →
-        Inv (W .loops) x d l (outer (T .left l) (T .lay l) l p s)
+    outer-kept : (b : ℕ) → Outer need (T .left l) (s .f) l p b → Inv (W .loops) x d l (outer (T .left l) (T .lay l) l p s)
     unfolding outer
     outer-kept b k =
         record {
-          fits = first-le (T .left l (suc l)) (suc p) (suc (W .loops .stop d))
-              (λ t. front-high (suc (W .loops .stop d)) (omega (arith, at .high))) (λ t. omega (arith, at .high));
+          fits = first-le (T .left l (suc l)) (suc p) (suc (W .loops .stop d)) (λ t. front-high (suc (W .loops .stop d)) (omega (arith, at .high))) (λ t. omega (arith, at .high));
           le = ⊎-elim
               (λ (e : x (suc p) ≡ true). omega (arith, cnt-yes (mineOf (W .loops) x d) p (own ∙ e), i .le, count-below))
               (λ (e : x (suc p) ≡ false). omega (arith, level, strict))

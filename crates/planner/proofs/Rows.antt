@@ -9,36 +9,7 @@ use lib.Dec.{eqb, ltb, leb}
 use borrow.Author.Tests.{ltb-true, ltb-false, leb-true, leb-false, eqb-true, eqb-false, eq-eqb, lt-ltb, le-ltb}
 use Rattle.laws.specs.Choice.{pick, firstOf}
 use Rattle.laws.proofs.Tests.{test, never, never-both, le-or, eq-or, and-true, and-intro, and-false, or-true, or-false}
-use Rattle.planner.specs.Sweep.{
-  Loops,
-  Lines,
-  Tables,
-  State,
-  bare,
-  put,
-  stepPlain,
-  free,
-  inner,
-  outer,
-  stepChild,
-  start,
-  sweep,
-  close,
-  needOf,
-  value,
-  least,
-  Front,
-  front,
-  best,
-  childSome,
-  someOf,
-  costOf,
-  frontOf,
-  leftOf,
-  choiceOf,
-  layOf,
-  IsTable,
-}
+use Rattle.planner.specs.Sweep.{Loops, Lines, Tables, State, bare, put, stepPlain, free, inner, outer, stepChild, start, sweep, close, needOf, value, least, Front, front, best, childSome, someOf, costOf, frontOf, leftOf, choiceOf, layOf, IsTable}
 use Rattle.planner.proofs.World.{World, Inside, Child, LoopLaws}
 use Rattle.planner.proofs.Walk.{plain-cases, child-cases, Free, Inner, Outer, AtPlain, AtChild, along}
 use Rattle.planner.proofs.Choices.{Fronts, best-is}
@@ -55,12 +26,9 @@ pub record Holder (B : Loops) (T : Tables) (d : ℕ) : Type 0 where
 child-some : (B : Loops) (T : Tables) (d n : ℕ) → n ≤ B .stop d → childSome B T d n ≡ true → Holder B T d
 unfolding childSome
 child-some B T d zero b h = never h
-child-some B T d (suc l) b h = go
-    (or-true (ltb d l && (B .isDo l && (eqb (B .own l) d && ltb 0 (T .left l (suc l))))) (childSome B T d l) h)
-    (child-some B T d l (omega arith))
+child-some B T d (suc l) b h = go (or-true (ltb d l && (B .isDo l && (eqb (B .own l) d && ltb 0 (T .left l (suc l))))) (childSome B T d l) h) (child-some B T d l (omega arith))
   where
-    go : ((ltb d l && (B .isDo l && (eqb (B .own l) d && ltb 0 (T .left l (suc l))))) ≡ true) ⊎
-        (childSome B T d l ≡ true) → (childSome B T d l ≡ true → Holder B T d) → Holder B T d
+    go : ((ltb d l && (B .isDo l && (eqb (B .own l) d && ltb 0 (T .left l (suc l))))) ≡ true) ⊎ (childSome B T d l ≡ true) → (childSome B T d l ≡ true → Holder B T d) → Holder B T d
     go (inr z) r = r z
     go (inl z) r =
         let a = and-true (ltb d l) (B .isDo l && (eqb (B .own l) d && ltb 0 (T .left l (suc l)))) z in
@@ -75,25 +43,18 @@ child-some B T d (suc l) b h = go
           there = ltb-true 0 (T .left l (suc l)) (e .1);
         }
 
-child-none : (B : Loops) (T : Tables) (d n l : ℕ) → childSome B T d n ≡ false → l < n → d < l → B .isDo l ≡ true →
-    B .own l ≡ d → T .left l (suc l) ≡ 0
+child-none : (B : Loops) (T : Tables) (d n l : ℕ) → childSome B T d n ≡ false → l < n → d < l → B .isDo l ≡ true → B .own l ≡ d → T .left l (suc l) ≡ 0
 unfolding childSome
 child-none B T d zero l h a b c e = absurd (omega arith)
-child-none B T d (suc n) l h a b c e = go
-    (or-false (ltb d n && (B .isDo n && (eqb (B .own n) d && ltb 0 (T .left n (suc n))))) (childSome B T d n) h)
-    (child-none B T d n l)
+child-none B T d (suc n) l h a b c e = go (or-false (ltb d n && (B .isDo n && (eqb (B .own n) d && ltb 0 (T .left n (suc n))))) (childSome B T d n) h) (child-none B T d n l)
   where
-    go : ((ltb d n && (B .isDo n && (eqb (B .own n) d && ltb 0 (T .left n (suc n))))) ≡ false) ×
-        (childSome B T d n ≡ false) →
-        (childSome B T d n ≡ false → l < n → d < l → B .isDo l ≡ true → B .own l ≡ d → T .left l (suc l) ≡ 0) →
-        T .left l (suc l) ≡ 0
+    go : ((ltb d n && (B .isDo n && (eqb (B .own n) d && ltb 0 (T .left n (suc n))))) ≡ false) × (childSome B T d n ≡ false) → (childSome B T d n ≡ false → l < n → d < l → B .isDo l ≡ true → B .own l ≡ d → T .left l (suc l) ≡ 0) → T .left l (suc l) ≡ 0
     go k r =
         ⊎-elim
         (λ (z : T .left l (suc l) ≤ 0). omega arith)
         (λ (z : 0 < T .left l (suc l)). ⊎-elim
         (λ (y : l ≡ n). (
-        let all : (ltb d l && (B .isDo l && (eqb (B .own l) d && ltb 0 (T .left l (suc l))))) ≡ true = and-intro
-        (lt-ltb d l b) (and-intro c (and-intro (eq-eqb (B .own l) d e) (lt-ltb 0 (T .left l (suc l)) z))) in
+        let all : (ltb d l && (B .isDo l && (eqb (B .own l) d && ltb 0 (T .left l (suc l))))) ≡ true = and-intro (lt-ltb d l b) (and-intro c (and-intro (eq-eqb (B .own l) d e) (lt-ltb 0 (T .left l (suc l)) z))) in
         never-both (rw y at all) (k .0)))
         (λ (y : l ≡ n → ⊥). r (k .1) (omega (arith, y)) b c e)
         (eq-or l n))
@@ -102,9 +63,7 @@ child-none B T d (suc n) l h a b c e = go
 -- something to cut: a dependence with home d, or a child that holds barriers; and nothing: neither
 pub some-home : (B : Loops) (N : Lines) (T : Tables) (d : ℕ) → someOf B N T d ≡ true → (N .has d ≡ true) ⊎ Holder B T d
 unfolding someOf
-some-home B N T d h = ⊎-elim (λ (z : N .has d ≡ true). inl z)
-    (λ (z : childSome B T d (B .stop d) ≡ true). inr (child-some B T d (B .stop d) (omega arith) z))
-    (or-true (N .has d) (childSome B T d (B .stop d)) h)
+some-home B N T d h = ⊎-elim (λ (z : N .has d ≡ true). inl z) (λ (z : childSome B T d (B .stop d) ≡ true). inr (child-some B T d (B .stop d) (omega arith) z)) (or-true (N .has d) (childSome B T d (B .stop d)) h)
 
 pub record Nothing (B : Loops) (N : Lines) (T : Tables) (d : ℕ) : Type 0 where
   pub no-home : N .has d ≡ false
@@ -121,8 +80,7 @@ first-pos : (l f : ℕ) → 0 < f → 0 < firstOf l f
 first-pos zero f h = h
 first-pos (suc l) f h = omega arith
 
-pub sweep-front : (B : Loops) → LoopLaws B → (T : Tables) (need : ℕ → ℕ) (d : ℕ) → B .isDo d ≡ true →
-    0 < sweep B T need d .f
+pub sweep-front : (B : Loops) → LoopLaws B → (T : Tables) (need : ℕ → ℕ) (d : ℕ) → B .isDo d ≡ true → 0 < sweep B T need d .f
 unfolding put free inner outer
 sweep-front B laws T need d is-do =
     along B laws T need d is-do (λ p s. 0 < s .f)
@@ -133,8 +91,7 @@ sweep-front B laws T need d is-do =
     (λ b k. first-pos (T .left l (suc l)) (suc p) (omega arith)))
     (omega arith)
 
-pub value-front : (B : Loops) → LoopLaws B → (N : Lines) (T : Tables) (d q : ℕ) → B .isDo d ≡ true →
-    0 < value B N T d q .f
+pub value-front : (B : Loops) → LoopLaws B → (N : Lines) (T : Tables) (d q : ℕ) → B .isDo d ≡ true → 0 < value B N T d q .f
 unfolding value close put
 value-front B laws N T d q is-do = go (leb (sweep B T need d .f) (N .limit d q))
   where
@@ -146,38 +103,31 @@ value-front B laws N T d q is-do = go (leb (sweep B T need d .f) (N .limit d q))
     go false = omega arith
 
 -- the row of d
-module _ (B : Loops) (laws : LoopLaws B) (N : Lines) (T : Tables) (table : IsTable B N T) (d : ℕ)
-    (is-do : B .isDo d ≡ true) where
+module _ (B : Loops) (laws : LoopLaws B) (N : Lines) (T : Tables) (table : IsTable B N T) (d : ℕ) (is-do : B .isDo d ≡ true) where
   pub row-cost : someOf B N T d ≡ true → T .cost d ≡ least (λ q. value B N T d q .c) d (B .stop d)
   unfolding costOf
   row-cost h = table .cost-is d is-do ∙ rw h
 
-  front-some : (q : ℕ) → someOf B N T d ≡ true → frontOf B N T d q ≡ best (value B N T d) (T .cost d) (B .stop d)
-      (suc (B .stop d)) q
+  front-some : (q : ℕ) → someOf B N T d ≡ true → frontOf B N T d q ≡ best (value B N T d) (T .cost d) (B .stop d) (suc (B .stop d)) q
   unfolding frontOf
   front-some q h = rw (h, table .cost-is d is-do)
 
-  pub row-fronts : (q : ℕ) → d < q → q ≤ B .stop d → someOf B N T d ≡ true →
-      Fronts (value B N T d) (T .cost d) (B .stop d) q (front (T .left d q) (T .choice d q))
+  pub row-fronts : (q : ℕ) → d < q → q ≤ B .stop d → someOf B N T d ≡ true → Fronts (value B N T d) (T .cost d) (B .stop d) q (front (T .left d q) (T .choice d q))
   unfolding leftOf choiceOf
   row-fronts q a b h =
-      let i : Fronts (value B N T d) (T .cost d) (B .stop d) q (frontOf B N T d q) = rw (front-some q h)
-      (best-is (value B N T d) (T .cost d) (B .stop d) (suc (B .stop d)) q (omega arith)
-      (λ k l m. value-front B laws N T d k is-do)) in
+      let i : Fronts (value B N T d) (T .cost d) (B .stop d) q (frontOf B N T d q) = rw (front-some q h) (best-is (value B N T d) (T .cost d) (B .stop d) (suc (B .stop d)) q (omega arith) (λ k l m. value-front B laws N T d k is-do)) in
       rw (table .left-is d q is-do a b, table .choice-is d q is-do a b) i
 
   pub row-lay : (q g : ℕ) → d < q → q ≤ B .stop d → 0 < T .left d q → T .lay d q g ≡ value B N T d (T .choice d q) .w g
   unfolding layOf
   row-lay q g a b h =
-      let y : ltb 0 (leftOf B N T d q) ≡ true = lt-ltb 0 (leftOf B N T d q)
-      (omega (arith, table .left-is d q is-do a b)) in
+      let y : ltb 0 (leftOf B N T d q) ≡ true = lt-ltb 0 (leftOf B N T d q) (omega (arith, table .left-is d q is-do a b)) in
       table .lay-is d q g is-do a b ∙ rw (y, table .choice-is d q is-do a b)
 
   pub row-blank : (q g : ℕ) → d < q → q ≤ B .stop d → T .left d q ≡ 0 → T .lay d q g ≡ false
   unfolding layOf
   row-blank q g a b h =
-      let y : ltb 0 (leftOf B N T d q) ≡ false = le-ltb 0 (leftOf B N T d q)
-      (omega (arith, table .left-is d q is-do a b)) in
+      let y : ltb 0 (leftOf B N T d q) ≡ false = le-ltb 0 (leftOf B N T d q) (omega (arith, table .left-is d q is-do a b)) in
       table .lay-is d q g is-do a b ∙ rw y
 
   pub row-idle : (q : ℕ) → d < q → q ≤ B .stop d → someOf B N T d ≡ false → (T .cost d ≡ 0) × (T .left d q ≡ 0)

@@ -1,3 +1,5 @@
--- Nest texts and placement texts: how they are read, refused and spelled.
+-- Nest texts and placement texts: how they are read, refused and spelled; and what the program writes.
 pub mod NestTexts
 pub mod PlacementTexts
+pub mod Program
+pub mod Reads

@@ -3,7 +3,7 @@
 use native.Mathlib.Omega.{arith}
 use borrow.Author.Needs.{needs}
 use Rattle.nests.specs.Stored.{depIn}
-use Rattle.placements.proofs.Cuts.{answer, cut-before}
+use Rattle.placements.proofs.CutTest.{answer, cut-before}
 use Rattle.placements.proofs.cut_by.Statement.{statement}
 use Rattle.placements.proofs.cut_by.Tie as tie
 

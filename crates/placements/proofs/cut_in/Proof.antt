@@ -4,7 +4,7 @@ use mathlib.Core.Path.{refl}
 use mathlib.Core.Logic.{inl, inr}
 use borrow.Author.Needs.{needs}
 use Rattle.nests.specs.Stored.{depIn}
-use Rattle.placements.proofs.Cuts.{answer, cut-line, cut-back}
+use Rattle.placements.proofs.CutTest.{answer, cut-line, cut-back}
 use Rattle.placements.proofs.cut_in.Statement.{statement}
 use Rattle.placements.proofs.cut_in.Tie as tie
 

@@ -1,6 +1,6 @@
 -- `Placement::lowest_in` meets its contract: the lowest gap from lo on, if it is at most hi.
 use borrow.Author.Needs.{needs}
-use Rattle.placements.proofs.Cuts.{lowest-between, lowest-over}
+use Rattle.placements.proofs.CutTest.{lowest-between, lowest-over}
 use Rattle.placements.proofs.Placement.lowest_in.Statement.{statement}
 use Rattle.placements.proofs.Placement.lowest_in.Tie as tie
 

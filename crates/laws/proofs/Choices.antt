@@ -1,0 +1,37 @@
+-- Choices of numbers: the first of some numbers is 0 where all are, and a choice is bounded as its parts are.
+-- Main statements: `first-zero`, `zero-first`, `when-zero`, `unless-zero`, `first-le`, `when-le`, `pick-le`.
+use mathlib.Core.Path.{_≡_, refl}
+use mathlib.Core.Bool.{Bool, true, false, not}
+use Prim.Native.Nat.{ℕ, zero, suc, _≤_}
+use native.Mathlib.Omega.{arith}
+use Rattle.laws.specs.Choice.{pick, when, firstOf}
+
+-- the first of two numbers is 0 where both are
+pub first-zero : (a b : ℕ) → firstOf a b ≡ 0 → (a ≡ 0) × (b ≡ 0)
+first-zero zero b h = (refl, h)
+first-zero (suc a) b h = absurd (omega arith)
+
+pub zero-first : {a b : ℕ} → a ≡ 0 → b ≡ 0 → firstOf a b ≡ 0
+zero-first {a} {b} p q = rw (p, q)
+
+-- a number that stands for a test is 0 where the test fails
+pub when-zero : (t : Bool) (k : ℕ) → when t (suc k) ≡ 0 → t ≡ false
+when-zero true k h = absurd (omega arith)
+when-zero false k h = refl
+
+pub unless-zero : (t : Bool) (k : ℕ) → when (not t) (suc k) ≡ 0 → t ≡ true
+unless-zero true k h = refl
+unless-zero false k h = absurd (omega arith)
+
+-- bounds
+pub first-le : (a b m : ℕ) → a ≤ m → b ≤ m → firstOf a b ≤ m
+first-le zero b m p q = q
+first-le (suc a) b m p q = p
+
+pub when-le : (t : Bool) (k m : ℕ) → k ≤ m → when t k ≤ m
+when-le true k m h = h
+when-le false k m h = omega arith
+
+pub pick-le : (t : Bool) (a b m : ℕ) → a ≤ m → b ≤ m → pick t a b ≤ m
+pick-le true a b m p q = p
+pick-le false a b m p q = q

@@ -1,0 +1,53 @@
+-- The rest of the line from i on ends where the whole line does.
+use mathlib.Core.Path.{_≡_, refl, _∙_}
+use Prim.Native.Nat.{_+_, _-_, _≤_}
+use native.Mathlib.Omega.{arith}
+use lib.ListN.{length, drop}
+use Rattle.lines.specs.Reading.{takeLine}
+use Rattle.lines.proofs.Reading.{end-on, end-here, end-past}
+use Rattle.lines.proofs.line_end.Statement.{statement}
+use Rattle.lines.proofs.line_end.Tie as tie
+use Rattle.lines.proofs.line_end.Reads as reads
+use Rattle.lines.proofs.line_end.Lts as lts
+
+abbrev Inv-loop : tie.InvT-loop
+Inv-loop text at i₀ i =
+    (i ≤ length text) × (i + length (takeLine (drop i text)) ≡ at + length (takeLine (drop at text)))
+
+abbrev μ-loop : tie.MeasureT-loop
+μ-loop text at i₀ i = length text - i
+
+loop-holds : tie.Need-loop-holds Inv-loop μ-loop
+loop-holds c = (c .pre, refl)
+
+shared-slice-read-if1 : tie.Need-shared-slice-read-if1 Inv-loop μ-loop
+shared-slice-read-if1 c = omega arith
+
+returns : tie.Need-returns Inv-loop μ-loop
+returns c = omega (arith, end-here (c .before .before .before .before .args .text .now) (c .before .before .before .loop .i) (c .before .before .loop-test .taken) (c .if1 .taken))
+
+add-i : tie.Need-add-i Inv-loop μ-loop
+add-i c = omega arith
+
+loop-less : tie.Need-loop-less Inv-loop μ-loop
+loop-less c = omega arith
+
+loop-again : tie.Need-loop-again Inv-loop μ-loop
+loop-again c = (omega arith, end-on (c .before .before .before .before .args .text .now) (c .before .before .before .loop .i) (c .before .before .loop-test .taken) (c .if1 .left) ∙ c .before .before .before .loop .inv .1)
+
+returns-2 : tie.Need-returns-2 Inv-loop μ-loop
+returns-2 c = omega (arith, end-past (c .before .before .args .text .now) (c .before .loop .i) (c .loop-test .left))
+
+pub line-end-spec : {M : Type 1} → statement M
+line-end-spec =
+    tie.close
+    (tie.spec
+    Inv-loop
+    μ-loop
+    loop-holds
+    shared-slice-read-if1
+    returns
+    add-i
+    loop-less
+    loop-again
+    returns-2)

@@ -1,0 +1,135 @@
+-- Papers of document 01 with known results, and cases of loops, gaps and valid nests, computed from the definitions.
+-- Main statement: `worked-cases`.
+use mathlib.Core.Path.{_≡_, refl}
+use mathlib.Core.Bool.{Bool, true, false, _&&_, not}
+use mathlib.Core.List.{List, [], _∷_, _++_}
+use Prim.Native.Nat.{ℕ, zero, suc}
+use lib.Dec.{eqb}
+use lib.ListN.{length, replicate}
+use Rattle.laws.specs.Choice.{pick}
+use Rattle.nests.specs.Kinds.{DO, ENDDO, STATEMENT, INDEPENDENT, CARRIED}
+use Rattle.nests.specs.Nests.{Dep, dep, Nest, nest}
+use Rattle.nests.specs.Loops.{endOf, ownerOf}
+use Rattle.nests.specs.Gaps.{hasGap}
+use Rattle.nests.specs.Valid.{isShape, depFault, isValid}
+
+-- lines 11 s t and 12 d s t
+abbrev pub forward : ℕ → ℕ → Dep
+forward s t = dep INDEPENDENT 0 s t
+
+abbrev pub carried : ℕ → ℕ → ℕ → Dep
+carried d s t = dep CARRIED d s t
+
+-- 01 01 03 03 03 03 02 01 03 03 03 03 02 02 with 110205, 12010403, 11080b, 12070a09, 12000a02, 110409 (001, figure 4)
+abbrev pub paper-P : Nest
+paper-P =
+    nest
+    (1 ∷ 1 ∷ 3 ∷ 3 ∷ 3 ∷ 3 ∷ 2 ∷ 1 ∷ 3 ∷ 3 ∷ 3 ∷ 3 ∷ 2 ∷ 2 ∷ [])
+    (forward 2 5 ∷ carried 1 4 3 ∷ forward 8 11 ∷ carried 7 10 9 ∷ carried 0 10 2 ∷ forward 4 9 ∷ [])
+
+-- 01 03 01 01 03 03 02 03 02 02 with 110105, 12030504, 110407 (001, figure 7)
+abbrev pub paper-Q : Nest
+paper-Q = nest (1 ∷ 3 ∷ 1 ∷ 1 ∷ 3 ∷ 3 ∷ 2 ∷ 3 ∷ 2 ∷ 2 ∷ []) (forward 1 5 ∷ carried 3 5 4 ∷ forward 4 7 ∷ [])
+
+-- 01, six times 03, 02 with 110104, 110306, 12000502
+abbrev pub paper-R : Nest
+paper-R = nest (1 ∷ 3 ∷ 3 ∷ 3 ∷ 3 ∷ 3 ∷ 3 ∷ 2 ∷ []) (forward 1 4 ∷ forward 3 6 ∷ carried 0 5 2 ∷ [])
+
+-- 01 03 02 with 12000101
+abbrev pub paper-turn : Nest
+paper-turn = nest (1 ∷ 3 ∷ 2 ∷ []) (carried 0 1 1 ∷ [])
+
+-- 01 02
+abbrev pub paper-bare : Nest
+paper-bare = nest (1 ∷ 2 ∷ []) []
+
+-- 01 03 02 with 110102, 12000101: the smallest ring on which cutting at the first interval end and going on greedily
+-- takes one barrier too many
+abbrev pub paper-ring : Nest
+paper-ring = nest (1 ∷ 3 ∷ 2 ∷ []) (forward 1 2 ∷ carried 0 1 1 ∷ [])
+
+-- 01 01 03 02 02 with 12010202: one barrier inside is enough
+abbrev pub paper-inner : Nest
+paper-inner = nest (1 ∷ 1 ∷ 3 ∷ 2 ∷ 2 ∷ []) (carried 1 2 2 ∷ [])
+
+-- numbers listed for each number below a bound, and compared
+abbrev pub sameList : List ℕ → List ℕ → Bool
+sameList [] [] = true
+sameList [] (y ∷ ys) = false
+sameList (x ∷ xs) [] = false
+sameList (x ∷ xs) (y ∷ ys) = eqb x y && sameList xs ys
+
+abbrev eachFrom : (ℕ → ℕ) → ℕ → ℕ → List ℕ
+eachFrom f zero i = []
+eachFrom f (suc k) i = f i ∷ eachFrom f k (suc i)
+
+-- the gaps, rising, that all of some dependences have
+abbrev areIts : List ℕ → List Dep → ℕ → Bool
+areIts ps [] g = true
+areIts ps (e ∷ es) g = hasGap ps e g && areIts ps es g
+
+abbrev sharedFrom : ℕ → ℕ → List ℕ → List Dep → List ℕ
+sharedFrom zero g ps es = []
+sharedFrom (suc f) g ps es = pick (areIts ps es g) (g ∷ []) [] ++ sharedFrom f (suc g) ps es
+
+abbrev pub share : Nest → List Dep → List ℕ → Bool
+share n es gs = sameList (sharedFrom (length (n .points)) 0 (n .points) es) gs
+
+-- k loops, each directly inside the one before
+abbrev deep : ℕ → List ℕ
+deep k = replicate k DO ++ replicate k ENDDO
+
+-- the papers break no rule; loops 8 deep are accepted, 9 are not, nor a point after the outermost loop, nor a loop left
+-- open
+abbrev valid-papers : Bool
+valid-papers = isValid paper-P && (isValid paper-Q && (isValid paper-R && (isValid paper-turn && isValid paper-bare)))
+
+abbrev shapes : Bool
+shapes =
+    isShape (deep 8) &&
+    (not (isShape (deep 9)) &&
+    (not (isShape (DO ∷ ENDDO ∷ STATEMENT ∷ [])) &&
+    (not (isShape (DO ∷ DO ∷ ENDDO ∷ [])) && not (isShape (STATEMENT ∷ [])))))
+
+-- the ENDDOs of Q's loops 0, 2 and 3, and the loops of its gaps 1 to 9: the gap before a DO is of the loop outside
+abbrev loops : Bool
+loops =
+    eqb (endOf (paper-Q .points) 0) 9 &&
+    (eqb (endOf (paper-Q .points) 2) 8 &&
+    (eqb (endOf (paper-Q .points) 3) 6 &&
+    sameList (eachFrom (ownerOf (paper-Q .points)) 9 1) (0 ∷ 0 ∷ 2 ∷ 3 ∷ 3 ∷ 3 ∷ 2 ∷ 2 ∷ 0 ∷ [])))
+
+-- s + 1 to t; d + 1 to t and s + 1 to e; case 9: gaps 1 and 2; case 8: each two share a gap, all three none
+abbrev gaps : Bool
+gaps =
+    share paper-P (forward 4 9 ∷ []) (5 ∷ 6 ∷ 7 ∷ 8 ∷ 9 ∷ []) &&
+    (share paper-P (carried 7 10 9 ∷ []) (8 ∷ 9 ∷ 11 ∷ 12 ∷ []) &&
+    (share paper-turn (carried 0 1 1 ∷ []) (1 ∷ 2 ∷ []) &&
+    (share paper-R (forward 1 4 ∷ forward 3 6 ∷ []) (4 ∷ []) &&
+    (share paper-R (forward 3 6 ∷ carried 0 5 2 ∷ []) (6 ∷ []) &&
+    (share paper-R (forward 1 4 ∷ carried 0 5 2 ∷ []) (2 ∷ []) && share paper-R (paper-R .deps) [])))))
+
+abbrev eachFault : List Dep → List ℕ
+eachFault [] = []
+eachFault (e ∷ es) = depFault (paper-Q .points) e ∷ eachFault es
+
+-- numbers 6 and 7 of dependences on Q's points: a good one; no point 10; s an ENDDO; t a DO; d no DO; independent with
+-- s at t; carried with s before t; s not inside; s at t is no fault of a carried one
+abbrev faults : Bool
+faults =
+    sameList
+    (eachFault
+    (carried 2 7 4 ∷
+    forward 4 10 ∷
+    forward 6 7 ∷
+    forward 1 3 ∷
+    carried 4 5 5 ∷
+    forward 4 4 ∷
+    carried 2 4 7 ∷
+    carried 3 7 4 ∷
+    carried 3 5 5 ∷
+    []))
+    (0 ∷ 6 ∷ 6 ∷ 6 ∷ 6 ∷ 7 ∷ 7 ∷ 7 ∷ 0 ∷ [])
+
+pub worked-cases : (valid-papers && (shapes && (loops && (gaps && faults)))) ≡ true
+worked-cases = refl

@@ -1,0 +1,2 @@
+-- Laws of the row of one loop.
+pub mod Values

@@ -1,0 +1,2 @@
+-- The row of one loop, read off the code's arrays.
+pub mod Valued

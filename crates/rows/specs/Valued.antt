@@ -1,0 +1,27 @@
+-- The values of a loop and its row, at loops and tables that are lists.
+-- Main definitions: `lined`, `valueOf`, `ValueSays`.
+use mathlib.Core.Path.{_≡_}
+use mathlib.Core.Bool.{Bool}
+use mathlib.Core.List.{List}
+use Prim.Native.Nat.{ℕ, _≤_}
+use Rattle.planner.specs.Sweep.{Lines, State, value}
+use Rattle.sweeps.specs.Listed.{at, row, listed, tabled}
+
+-- the lines of one loop: whether there are any, where they end, and its row of limits, which starts at `base`
+abbrev pub lined : Bool → List ℕ → List ℕ → ℕ → Lines
+lined has need limit base =
+    record { has = λ d. has; reach = λ d. at need; limit = λ d. row limit base }
+
+-- the value of the loop d with its ENDDO e, for the suffix that starts at q
+abbrev pub valueOf
+    : List ℕ → List ℕ → List ℕ → List ℕ → ℕ → List ℕ → ℕ → Bool → (ℕ → ℕ → ℕ → Bool) → ℕ → ℕ → ℕ → State
+valueOf ps own need left kids limit base has lay d e q =
+    value (listed ps own e) (lined has need limit base) (tabled left kids lay) d q
+
+pub record Valued (v : State) (c f : ℕ) : Type 0 where
+  pub c-is : c ≡ v .c
+  pub f-is : f ≡ v .f
+
+abbrev pub ValueSays : List ℕ → List ℕ → List ℕ → List ℕ → ℕ → List ℕ → ℕ → ℕ → ℕ → ℕ → ℕ → ℕ → Type 0
+ValueSays ps own need left kids limit base d e q c f =
+    (has : Bool) (lay : ℕ → ℕ → ℕ → Bool) → Valued (valueOf ps own need left kids limit base has lay d e q) c f

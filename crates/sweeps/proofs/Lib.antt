@@ -1,0 +1,4 @@
+-- Laws of a sweep over lists.
+pub mod Seek
+pub mod Steps
+pub mod Turns

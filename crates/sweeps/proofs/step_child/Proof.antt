@@ -1,0 +1,121 @@
+use mathlib.Core.Path.{_≡_, refl, sym, _∙_}
+use Prim.Native.Nat.{_≤_}
+use native.Mathlib.Omega.{arith}
+use borrow.Author.Needs.{needs}
+use Rattle.sweeps.specs.Listed.{row}
+use Rattle.sweeps.proofs.Steps.{step-free, step-inner, step-outer}
+use Rattle.sweeps.proofs.step_child.Statement.{statement}
+use Rattle.sweeps.proofs.step_child.Tie as tie
+use Rattle.sweeps.proofs.step_child.Reads as reads
+use Rattle.sweeps.proofs.step_child.Lts as lts
+use Rattle.sweeps.proofs.first_or.Reads as first-or-reads
+use Rattle.sweeps.proofs.last_need.Reads as last-need-reads
+
+add-last-need : tie.Need-add-last-need
+add-last-need c = search needs
+
+last-need-requires : tie.Need-last-need-requires
+last-need-requires c κs = search needs
+
+add-first : tie.Need-add-first
+add-first c = search needs
+
+add-first-2 : tie.Need-add-first-2
+add-first-2 c = search needs
+
+mul-first : tie.Need-mul-first
+mul-first c = search needs
+
+shared-slice-read-first : tie.Need-shared-slice-read-first
+shared-slice-read-first c = search needs
+
+first-or-requires : tie.Need-first-or-requires
+first-or-requires c κs = search needs
+
+add-t18 : tie.Need-add-t18
+add-t18 c = search needs
+
+returns : tie.Need-returns
+returns c =
+    let i = c .before .before .before .before .before .before .args in
+    let b = c .before .before .before .last-need in
+    step-free (i .need .now) (i .left .now) (i .kids) (i .l) (i .p) (i .c) (i .f) (b .result) (b .ensures) (c .first-or .result) (c .before .if1 .taken) (c .first-or .ensures)
+
+add-g : tie.Need-add-g
+add-g c = search needs
+
+mul-g : tie.Need-mul-g
+mul-g c = search needs
+
+shared-slice-read-g : tie.Need-shared-slice-read-g
+shared-slice-read-g c = search needs
+
+returns-2 : tie.Need-returns-2
+returns-2 c =
+    let i = c .before .before .before .before .before .before .before .before .args in
+    let b = c .before .before .before .before .before .last-need in
+    step-inner (i .need .now) (i .left .now) (i .kids) (i .l) (i .p) (i .c) (i .f) (b .result) (b .ensures) (c .before .before .before .if1 .left) (c .before .before .if2 .taken) (c .if3 .taken)
+
+add-t19 : tie.Need-add-t19
+add-t19 c = search needs
+
+add-first-or : tie.Need-add-first-or
+add-first-or c = search needs
+
+first-or-requires-2 : tie.Need-first-or-requires-2
+first-or-requires-2 c κs = search needs
+
+add-t24 : tie.Need-add-t24
+add-t24 c = search needs
+
+returns-3 : tie.Need-returns-3
+returns-3 c =
+    let i = c .before .before .before .before .before .before .before .before .before .args in
+    let b = c .before .before .before .before .before .before .last-need in
+    step-outer (i .need .now) (i .left .now) (i .kids) (i .l) (i .p) (i .c) (i .f) (b .result) (b .ensures) (c .first-or2 .result) (c .before .before .before .before .if1 .left) (λ _. c .before .if3 .left) (c .first-or2 .ensures)
+
+add-t11 : tie.Need-add-t11
+add-t11 c = search needs
+
+add-first-or-2 : tie.Need-add-first-or-2
+add-first-or-2 c = search needs
+
+first-or-requires-3 : tie.Need-first-or-requires-3
+first-or-requires-3 c κs = search needs
+
+add-t15 : tie.Need-add-t15
+add-t15 c = search needs
+
+returns-4 : tie.Need-returns-4
+returns-4 c =
+    let i = c .before .before .before .before .before .before .before .args in
+    let b = c .before .before .before .before .last-need in
+    step-outer (i .need .now) (i .left .now) (i .kids) (i .l) (i .p) (i .c) (i .f) (b .result) (b .ensures) (c .first-or3 .result) (c .before .before .if1 .left) (λ (z : b .result ≤ i .p). absurd (omega (arith, c .before .if2 .left))) (c .first-or3 .ensures)
+
+pub step-child-spec : {M : Type 1} → statement M
+step-child-spec =
+    tie.close
+    (tie.spec
+    add-last-need
+    last-need-requires
+    add-first
+    add-first-2
+    mul-first
+    shared-slice-read-first
+    first-or-requires
+    add-t18
+    returns
+    add-g
+    mul-g
+    shared-slice-read-g
+    returns-2
+    add-t19
+    add-first-or
+    first-or-requires-2
+    add-t24
+    returns-3
+    add-t11
+    add-first-or-2
+    first-or-requires-3
+    add-t15
+    returns-4)

@@ -1,0 +1,123 @@
+use mathlib.Core.Path.{_≡_}
+use mathlib.Core.Bool.{Bool}
+use Prim.Native.Nat.{ℕ, _+_, _-_, _≤_}
+use native.Mathlib.Omega.{arith}
+use lib.ListN.{getD}
+use Rattle.sweeps.proofs.Turns.{Turn, begin, on-put, on-skip, on-child, done}
+use Rattle.sweeps.proofs.sweep.Statement.{statement}
+use Rattle.sweeps.proofs.sweep.Tie as tie
+use Rattle.sweeps.proofs.sweep.Reads as reads
+use Rattle.sweeps.proofs.sweep.Lts as lts
+use Rattle.sweeps.proofs.step_child.Reads as step-child-reads
+
+abbrev Inv-loop : tie.InvT-loop
+Inv-loop points own need left kids d e c₀ f₀ p₀ c f p =
+    (p ≤ e) × (c + p ≤ e) × ((lay : ℕ → ℕ → ℕ → Bool) → Turn points own need left kids d e lay p c f)
+
+abbrev μ-loop : tie.MeasureT-loop
+μ-loop points own need left kids d e c₀ f₀ p₀ c f p = p
+
+add-f : tie.Need-add-f Inv-loop μ-loop
+add-f c = omega arith
+
+loop-holds : tie.Need-loop-holds Inv-loop μ-loop
+loop-holds c =
+    let i = c .before .before .before .before .args in
+    (omega arith, omega arith, begin (i .points .now) (i .own .now) (i .need .now) (i .left .now) (i .kids) (i .d) (i .e))
+
+sub-before : tie.Need-sub-before Inv-loop μ-loop
+sub-before c = omega arith
+
+shared-slice-read-if1 : tie.Need-shared-slice-read-if1 Inv-loop μ-loop
+shared-slice-read-if1 c = omega arith
+
+mul-l : tie.Need-mul-l Inv-loop μ-loop
+mul-l c = omega arith
+
+shared-slice-read-l : tie.Need-shared-slice-read-l Inv-loop μ-loop
+shared-slice-read-l c = omega arith
+
+step-child-requires : tie.Need-step-child-requires Inv-loop μ-loop
+step-child-requires c κs =
+    let low = c .before .before .before .before .before .before .before .before .before .pre .1 .1 .1 .1 (c .before .before .before .before .loop .p - 1) in
+    (omega arith, (omega arith, (low, omega arith)))
+
+loop-less : tie.Need-loop-less Inv-loop μ-loop
+loop-less c = omega (arith, c .before .before .before .before .before .before .before .before .before .before .pre .1 .1 .1 .1 (c .before .before .before .before .before .loop .p - 1))
+
+loop-again : tie.Need-loop-again Inv-loop μ-loop
+loop-again c =
+    let i = c .before .before .before .before .before .before .before .before .before .before .args in
+    let l = c .before .before .before .before .before .loop in
+    let s = c .step-child in
+    let low = c .before .before .before .before .before .before .before .before .before .before .pre .1 .1 .1 .1 (l .p - 1) in
+    let test : getD (i .points .now) (l .p - 1) 0 ≡ 2 = c .before .before .if1 .taken in (
+      omega arith,
+      omega (arith, s .ensures .grows),
+      λ lay. on-child (i .points .now) (i .own .now) (i .need .now) (i .left .now) (i .kids) (i .d) (i .e) lay (l .p) (l .c) (l .f) (s .result .c) (s .result .f) (s .result .ask) (omega arith) test low (s .ensures) (l .inv .2 lay),
+    )
+
+mul-if2 : tie.Need-mul-if2 Inv-loop μ-loop
+mul-if2 c = omega arith
+
+shared-slice-read-if2 : tie.Need-shared-slice-read-if2 Inv-loop μ-loop
+shared-slice-read-if2 c = omega arith
+
+add-c : tie.Need-add-c Inv-loop μ-loop
+add-c c = omega arith
+
+loop-less-2 : tie.Need-loop-less-2 Inv-loop μ-loop
+loop-less-2 c = omega arith
+
+loop-again-2 : tie.Need-loop-again-2 Inv-loop μ-loop
+loop-again-2 c =
+    let i = c .before .before .before .before .before .before .before .before .before .before .args in
+    let l = c .before .before .before .before .before .loop in (
+      omega arith,
+      omega arith,
+      λ lay. on-put (i .points .now) (i .own .now) (i .need .now) (i .left .now) (i .kids) (i .d) (i .e) lay (l .p) (l .c) (l .f) (omega arith) (c .before .before .if1 .left) (c .if2 .taken) (l .inv .2 lay),
+    )
+
+loop-less-3 : tie.Need-loop-less-3 Inv-loop μ-loop
+loop-less-3 c = omega arith
+
+loop-again-3 : tie.Need-loop-again-3 Inv-loop μ-loop
+loop-again-3 c =
+    let i = c .before .before .before .before .before .before .before .before .before .before .args in
+    let l = c .before .before .before .before .before .loop in (
+      omega arith,
+      omega arith,
+      λ lay. on-skip (i .points .now) (i .own .now) (i .need .now) (i .left .now) (i .kids) (i .d) (i .e) lay (l .p) (l .c) (l .f) (omega arith) (c .before .before .if1 .left) (c .if2 .left) (l .inv .2 lay),
+    )
+
+returns : tie.Need-returns Inv-loop μ-loop
+returns c =
+    let i = c .before .before .before .before .before .before .args in
+    let l = c .before .loop in (
+      omega arith,
+      λ lay. done (i .points .now) (i .own .now) (i .need .now) (i .left .now) (i .kids) (i .d) (i .e) lay (l .p) (l .c) (l .f) (omega arith) (l .inv .2 lay),
+    )
+
+pub sweep-spec : {M : Type 1} → statement M
+sweep-spec =
+    tie.close
+    (tie.spec
+    Inv-loop
+    μ-loop
+    add-f
+    loop-holds
+    sub-before
+    shared-slice-read-if1
+    mul-l
+    shared-slice-read-l
+    step-child-requires
+    loop-less
+    loop-again
+    mul-if2
+    shared-slice-read-if2
+    add-c
+    loop-less-2
+    loop-again-2
+    loop-less-3
+    loop-again-3
+    returns)

@@ -1,0 +1,2 @@
+-- The planner's definitions, read off the code's arrays.
+pub mod Listed

@@ -1,0 +1,124 @@
+// A sweep over one loop: how many barriers of its own it takes, and how far left the leftmost one can lie.
+ghost use mathlib.Core.Path.{_≡_};
+ghost use Prim.Native.Nat.{ℕ, _+_, _<_, _≤_};
+ghost use lib.ListN.{length, getD};
+ghost use Rattle.laws.specs.Choice.{firstOf};
+ghost use Rattle.planner.specs.Sweep.{seek};
+ghost use Rattle.sweeps.specs.Listed.{at, Low, Stepped, SweepSays};
+
+// Own barriers so far, and the leftmost barrier so far.
+pub struct Front {
+    pub c: usize,
+    pub f: usize,
+}
+
+// The front after a step over a child, and the bound that the child was asked with.
+pub struct Step {
+    pub c: usize,
+    pub f: usize,
+    pub ask: usize,
+}
+
+// From e down to d: a barrier at each line that is not cut yet, as far right as can be, the children's as far left.
+pub fn sweep(
+    points: &[u8],
+    own: &[usize],
+    need: &[usize],
+    left: &[usize],
+    kids: usize,
+    d: usize,
+    e: usize,
+) -> Front
+    requires { ⌜ e < length (now points) ⌝ }
+    requires { ⌜ e < length (now own) ⌝ }
+    requires { ⌜ e < length (now need) ⌝ }
+    requires { ⌜ kids + e < length (now left) ⌝ }
+    requires { ⌜ Low (now own) ⌝ }
+    ensures { λ r. ⌜ SweepSays (now (points .entry)) (now (own .entry)) (now (need .entry)) (now (left .entry)) kids d e (r .c) (r .f) ⌝ }
+{
+    let mut c = 0;
+    let mut f = e + 1;
+    let mut p = e;
+    while d < p {
+        let before = p - 1;
+        if points[before] == 2 {
+            let l = own[before];
+            let s = step_child(need, left, kids, l, before, c, f);
+            c = s.c;
+            f = s.f;
+            p = l;
+        } else {
+            if need[p] < f {
+                c += 1;
+                f = p;
+            }
+            p = before;
+        }
+    }
+    Front { c: c, f: f }
+}
+
+// Over the child l with its ENDDO p and the gap after it.
+pub fn step_child(
+    need: &[usize],
+    left: &[usize],
+    kids: usize,
+    l: usize,
+    p: usize,
+    c: usize,
+    f: usize,
+) -> Step
+    requires { ⌜ p + 1 < length (now need) ⌝ }
+    requires { ⌜ kids + p + 1 < length (now left) ⌝ }
+    requires { ⌜ l ≤ p ⌝ }
+    requires { ⌜ c < length (now need) ⌝ }
+    ensures { λ r. ⌜ Stepped (now (need .entry)) (now (left .entry)) kids l p c f (r .c) (r .f) (r .ask) ⌝ }
+{
+    let b = last_need(need, f, l, p + 1);
+    let first = left[kids + (l + 1)];
+    if b == 0 {
+        return Step {
+            c: c,
+            f: first_or(first, f),
+            ask: l + 1,
+        };
+    }
+    if b <= p {
+        let g = left[kids + b];
+        if 0 < g {
+            return Step { c: c, f: g, ask: b };
+        }
+        return Step {
+            c: c + 1,
+            f: first_or(first, p + 1),
+            ask: l + 1,
+        };
+    }
+    Step {
+        c: c + 1,
+        f: first_or(first, p + 1),
+        ask: l + 1,
+    }
+}
+
+// The first number, or the second where the first is 0.
+fn first_or(first: usize, other: usize) -> usize
+    ensures { λ r. ⌜ r ≡ firstOf first other ⌝ }
+{
+    if first == 0 { other } else { first }
+}
+
+// The last gap of low + 1 to p at which a line starts that ends before f, 0 for none.
+pub fn last_need(need: &[usize], f: usize, low: usize, p: usize) -> usize
+    requires { ⌜ p < length (now need) ⌝ }
+    ensures { λ r. ⌜ r ≡ seek (at (now (need .entry))) f low p ⌝ }
+{
+    let mut a = p;
+    while low < a {
+        if need[a] < f {
+            return a;
+        }
+        a -= 1;
+    }
+    0
+}

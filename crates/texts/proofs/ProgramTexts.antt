@@ -1,0 +1,92 @@
+-- What the program writes, case by case: a valid nest's spelling is never too long for it, so its key and counts are
+-- written.
+-- Main statements: `spelling-short`, `program-accepted`, `program-refused`, `program-long`, `refusal-bytes`.
+use mathlib.Core.Path.{_≡_, refl}
+use mathlib.Core.Bool.{Bool, true, false}
+use mathlib.Core.List.{List, [], _∷_, _++_}
+use Prim.Native.Nat.{ℕ, _*_, _/_, _%_, _≤_, _<_}
+use native.Mathlib.Omega.{arith}
+use lib.Dec.{eqb}
+use lib.ListN.{length, length-append}
+use borrow.Author.Tests.{lt-ltb, le-ltb, ne-eqb}
+use Rattle.laws.specs.Choice.{pick}
+use Rattle.laws.proofs.Tests.{and-intro}
+use Rattle.nests.specs.Kinds.{INDEPENDENT, CARRIED}
+use Rattle.nests.specs.Nests.{Dep, Nest}
+use Rattle.nests.specs.Valid.{isValid}
+use Rattle.lines.specs.Lines.{lineText}
+use Rattle.lines.proofs.Spelling.{areBytes}
+use Rattle.texts.specs.NestTexts.{readNest, depFrame, pointsText, depsText, nestText}
+use Rattle.texts.specs.PlacementTexts.{keyText}
+use Rattle.texts.specs.Program.{REFUSAL, LONGEST, refusalText, countsText, programText}
+use Rattle.texts.proofs.Refusals.{numbers-to-7, place-within}
+use Rattle.texts.proofs.Spelled.{valid-keeps, valid-accepted}
+
+points-length : (ps : List ℕ) → length (pointsText ps) ≡ 3 * length ps
+unfolding pointsText
+points-length [] = refl
+points-length (p ∷ ps) = omega (arith, points-length ps)
+
+frame-length : (e : Dep) → length (lineText (depFrame e)) ≤ 9
+frame-length e = go (eqb (e .kind) INDEPENDENT)
+  where
+    go
+        : (t : Bool)
+        → length (lineText (pick t (INDEPENDENT ∷ (e .s ∷ (e .t ∷ []))) (CARRIED ∷ (e .d ∷ (e .s ∷ (e .t ∷ []))))))
+        ≤ 9
+    go true = omega arith
+    go false = omega arith
+
+deps-length : (ds : List Dep) → length (depsText ds) ≤ 9 * length ds
+unfolding depsText
+deps-length [] = omega arith
+deps-length (e ∷ ds) =
+    omega (arith, deps-length ds, frame-length e, length-append (lineText (depFrame e)) (depsText ds))
+
+-- a valid nest's spelling is within the longest input
+pub spelling-short : (n : Nest) → isValid n ≡ true → length (nestText n) ≤ LONGEST
+unfolding nestText
+spelling-short n h =
+    let k = valid-keeps n h in
+    let points = points-length (n .points) in
+    let deps = deps-length (n .deps) in
+    omega (arith, k .few, k .many, length-append (pointsText (n .points)) (depsText (n .deps)))
+
+-- a valid nest: its key, then its counts
+pub program-accepted
+    : (n : Nest) (key : List ℕ)
+    → isValid n ≡ true
+    → programText (nestText n) key ≡ keyText key ++ countsText n key
+unfolding programText
+program-accepted n key h = rw (le-ltb LONGEST (length (nestText n)) (spelling-short n h), valid-accepted n h)
+
+-- a text that is not accepted: its number and its line
+pub program-refused
+    : (s key : List ℕ)
+    → length s ≤ LONGEST
+    → (readNest s .number ≡ 0 → ⊥)
+    → programText s key ≡ refusalText (readNest s .number) (readNest s .place)
+unfolding programText
+program-refused s key short h = rw (le-ltb LONGEST (length s) short, ne-eqb (readNest s .number) 0 h)
+
+-- 01, "The program": input above 8,192 bytes gives 2f050000
+pub program-long
+    : (s key : List ℕ)
+    → LONGEST < length s
+    → programText s key ≡ 0x32 ∷ 0x66 ∷ 0x30 ∷ 0x35 ∷ 0x30 ∷ 0x30 ∷ 0x30 ∷ 0x30 ∷ 0x0a ∷ []
+unfolding programText
+program-long s key long = rw (lt-ltb LONGEST (length s) long)
+
+-- a refusal's number and line are bytes
+pub refusal-bytes
+    : (s : List ℕ)
+    → length s ≤ LONGEST
+    → areBytes (REFUSAL ∷ (readNest s .number ∷ (readNest s .place / 256 ∷ (readNest s .place % 256 ∷ [])))) ≡ true
+refusal-bytes s short =
+    let number = numbers-to-7 s in
+    let place = place-within s in
+    and-intro
+    (lt-ltb (readNest s .number) 256 (omega arith))
+    (and-intro
+    (lt-ltb (readNest s .place / 256) 256 (omega arith))
+    (and-intro (lt-ltb (readNest s .place % 256) 256 (omega arith)) refl))

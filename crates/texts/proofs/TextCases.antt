@@ -1,0 +1,144 @@
+-- 01, "Papers with known results", as texts: P, Q, R and the short papers are read, frame by frame as given there, and
+-- what the program writes for P is computed. Nothing is used but the definitions.
+-- Main statements: `P-read`, `Q-read`, `R-read`, `case-1-written`, cases 9 to 11, the limits of case 12, case 13.
+use mathlib.Core.Path.{_≡_, refl}
+use mathlib.Core.List.{List, [], _∷_, _++_}
+use Prim.Native.Nat.{ℕ}
+use lib.ListN.{length, replicate}
+use Rattle.nests.specs.Kinds.{INDEPENDENT, CARRIED}
+use Rattle.nests.specs.Nests.{dep, Nest, nest, empty}
+use Rattle.lines.specs.Lines.{linesOf, frameOf}
+use Rattle.lines.proofs.Spelling.{framesText}
+use Rattle.texts.specs.NestTexts.{got, readLines, readNest, pointsText, depsText, nestText}
+use Rattle.texts.specs.PlacementTexts.{placed, placeLines, readPlacement, keyText}
+use Rattle.texts.specs.Program.{countsFrom, programText}
+use Rattle.texts.proofs.Refusals.{no-text}
+use Rattle.texts.proofs.Spelled.{valid-accepted}
+
+-- P is 01 01 03 03 03 03 02 01 03 03 03 03 02 02 with 110205, 12010403, 11080b, 12070a09, 12000a02, 110409
+abbrev pub P-lines : List ℕ
+P-lines =
+    framesText
+    ((0x01 ∷ []) ∷ (0x01 ∷ []) ∷ (0x03 ∷ []) ∷ (0x03 ∷ []) ∷ (0x03 ∷ []) ∷ (0x03 ∷ []) ∷ (0x02 ∷ []) ∷
+    (0x01 ∷ []) ∷ (0x03 ∷ []) ∷ (0x03 ∷ []) ∷ (0x03 ∷ []) ∷ (0x03 ∷ []) ∷ (0x02 ∷ []) ∷ (0x02 ∷ []) ∷
+    (0x11 ∷ 0x02 ∷ 0x05 ∷ []) ∷ (0x12 ∷ 0x01 ∷ 0x04 ∷ 0x03 ∷ []) ∷ (0x11 ∷ 0x08 ∷ 0x0b ∷ []) ∷
+    (0x12 ∷ 0x07 ∷ 0x0a ∷ 0x09 ∷ []) ∷ (0x12 ∷ 0x00 ∷ 0x0a ∷ 0x02 ∷ []) ∷ (0x11 ∷ 0x04 ∷ 0x09 ∷ []) ∷ [])
+
+abbrev pub P : Nest
+P =
+    nest
+    (1 ∷ 1 ∷ 3 ∷ 3 ∷ 3 ∷ 3 ∷ 2 ∷ 1 ∷ 3 ∷ 3 ∷ 3 ∷ 3 ∷ 2 ∷ 2 ∷ [])
+    (dep INDEPENDENT 0 2 5 ∷ dep CARRIED 1 4 3 ∷ dep INDEPENDENT 0 8 11 ∷ dep CARRIED 7 10 9 ∷ dep CARRIED 0 10 2 ∷
+    dep INDEPENDENT 0 4 9 ∷ [])
+
+pub P-read : readNest P-lines ≡ got 0 0 P
+unfolding readNest readLines linesOf frameOf
+P-read = refl
+
+-- Q is 01 03 01 01 03 03 02 03 02 02 with 110105, 12030504, 110407
+abbrev pub Q-lines : List ℕ
+Q-lines =
+    framesText
+    ((0x01 ∷ []) ∷ (0x03 ∷ []) ∷ (0x01 ∷ []) ∷ (0x01 ∷ []) ∷ (0x03 ∷ []) ∷ (0x03 ∷ []) ∷ (0x02 ∷ []) ∷
+    (0x03 ∷ []) ∷ (0x02 ∷ []) ∷ (0x02 ∷ []) ∷
+    (0x11 ∷ 0x01 ∷ 0x05 ∷ []) ∷ (0x12 ∷ 0x03 ∷ 0x05 ∷ 0x04 ∷ []) ∷ (0x11 ∷ 0x04 ∷ 0x07 ∷ []) ∷ [])
+
+abbrev pub Q : Nest
+Q =
+    nest
+    (1 ∷ 3 ∷ 1 ∷ 1 ∷ 3 ∷ 3 ∷ 2 ∷ 3 ∷ 2 ∷ 2 ∷ [])
+    (dep INDEPENDENT 0 1 5 ∷ dep CARRIED 3 5 4 ∷ dep INDEPENDENT 0 4 7 ∷ [])
+
+pub Q-read : readNest Q-lines ≡ got 0 0 Q
+unfolding readNest readLines linesOf frameOf
+Q-read = refl
+
+-- R is 01, six times 03, 02 with 110104, 110306, 12000502
+abbrev pub R-lines : List ℕ
+R-lines =
+    framesText
+    ((0x01 ∷ []) ∷ (0x03 ∷ []) ∷ (0x03 ∷ []) ∷ (0x03 ∷ []) ∷ (0x03 ∷ []) ∷ (0x03 ∷ []) ∷ (0x03 ∷ []) ∷ (0x02 ∷ []) ∷
+    (0x11 ∷ 0x01 ∷ 0x04 ∷ []) ∷ (0x11 ∷ 0x03 ∷ 0x06 ∷ []) ∷ (0x12 ∷ 0x00 ∷ 0x05 ∷ 0x02 ∷ []) ∷ [])
+
+abbrev pub R : Nest
+R =
+    nest
+    (1 ∷ 3 ∷ 3 ∷ 3 ∷ 3 ∷ 3 ∷ 3 ∷ 2 ∷ [])
+    (dep INDEPENDENT 0 1 4 ∷ dep INDEPENDENT 0 3 6 ∷ dep CARRIED 0 5 2 ∷ [])
+
+pub R-read : readNest R-lines ≡ got 0 0 R
+unfolding readNest readLines linesOf frameOf
+R-read = refl
+
+-- case 1: the program writes 2105, 210b, 220000, 220101, 220701, each ended by 0a
+-- (30 to 39 are the digits 0 to 9, 62 is b)
+pub case-1-written
+    : programText P-lines (5 ∷ 11 ∷ [])
+    ≡ (0x32 ∷ 0x31 ∷ 0x30 ∷ 0x35 ∷ 0x0a ∷
+    0x32 ∷ 0x31 ∷ 0x30 ∷ 0x62 ∷ 0x0a ∷
+    0x32 ∷ 0x32 ∷ 0x30 ∷ 0x30 ∷ 0x30 ∷ 0x30 ∷ 0x0a ∷
+    0x32 ∷ 0x32 ∷ 0x30 ∷ 0x31 ∷ 0x30 ∷ 0x31 ∷ 0x0a ∷
+    0x32 ∷ 0x32 ∷ 0x30 ∷ 0x37 ∷ 0x30 ∷ 0x31 ∷ 0x0a ∷ [])
+unfolding programText readNest readLines linesOf frameOf keyText countsFrom
+case-1-written = refl
+
+-- case 9: 01, 03, 02, 12000101
+pub case-9-read
+    : readNest (framesText ((0x01 ∷ []) ∷ (0x03 ∷ []) ∷ (0x02 ∷ []) ∷ (0x12 ∷ 0x00 ∷ 0x01 ∷ 0x01 ∷ []) ∷ []))
+    ≡ got 0 0 (nest (1 ∷ 3 ∷ 2 ∷ []) (dep CARRIED 0 1 1 ∷ []))
+unfolding readNest readLines linesOf frameOf
+case-9-read = refl
+
+-- case 10: 01, 02
+pub case-10-read : readNest (framesText ((0x01 ∷ []) ∷ (0x02 ∷ []) ∷ [])) ≡ got 0 0 (nest (1 ∷ 2 ∷ []) [])
+unfolding readNest readLines linesOf frameOf
+case-10-read = refl
+
+-- case 11: the empty nest text has number 4, line 1
+pub case-11-read : readNest [] ≡ got 4 1 empty
+case-11-read = no-text
+
+-- case 12: 256 points and 512 dependences are accepted; a 257th point with a loop still open, or a 513th dependence,
+-- has number 5, and a point right after a closed nest number 4
+abbrev pub full : Nest
+full = nest (1 ∷ replicate 254 3 ++ (2 ∷ [])) (replicate 512 (dep INDEPENDENT 0 1 2))
+
+pub full-read : readNest (nestText full) ≡ got 0 0 full
+full-read = valid-accepted full refl
+
+pub point-257 : readNest (nestText (nest (1 ∷ replicate 256 3) [])) ≡ got 5 257 empty
+unfolding readNest readLines linesOf frameOf nestText pointsText depsText
+point-257 = refl
+
+pub dependence-513
+    : readNest (nestText (nest (1 ∷ 3 ∷ 3 ∷ 2 ∷ []) (replicate 513 (dep INDEPENDENT 0 1 2)))) ≡ got 5 517 empty
+unfolding readNest readLines linesOf frameOf nestText pointsText depsText
+dependence-513 = refl
+
+pub point-after : readNest (nestText (nest (1 ∷ 2 ∷ 3 ∷ []) [])) ≡ got 4 3 empty
+unfolding readNest readLines linesOf frameOf nestText pointsText depsText
+point-after = refl
+
+-- loops 8 deep are accepted, 9 deep have number 5
+abbrev pub deep : Nest
+deep = nest (replicate 8 1 ++ replicate 8 2) []
+
+pub deep-8 : readNest (nestText deep) ≡ got 0 0 deep
+deep-8 = valid-accepted deep refl
+
+pub deep-9 : readNest (nestText (nest (replicate 9 1 ++ replicate 9 2) [])) ≡ got 5 9 empty
+unfolding readNest readLines linesOf frameOf nestText pointsText depsText
+deep-9 = refl
+
+-- case 13: gap 13 of P is accepted, 14 has number 8; the key of P needs 10 bytes
+pub gap-13 : readPlacement (length (P .points)) (keyText (13 ∷ [])) ≡ placed 0 0 (13 ∷ [])
+unfolding readPlacement placeLines keyText linesOf frameOf
+gap-13 = refl
+
+pub gap-14 : readPlacement (length (P .points)) (keyText (14 ∷ [])) ≡ placed 8 1 []
+unfolding readPlacement placeLines keyText linesOf frameOf
+gap-14 = refl
+
+pub key-bytes : length (keyText (5 ∷ 11 ∷ [])) ≡ 10
+unfolding keyText
+key-bytes = refl
