@@ -1,20 +1,20 @@
 -- Laws of the bits of a word: of `|`, `&`, a single bit, shifts, the lowest bit and the count of the bits.
--- Main statements: `bit-or`, `bit-and`, `bit-one`, `bit-shifted`, `lowest-set`, `ones-tally`, `tally-add`, `tally-same`.
+-- Main statements: `bit-or`, `bit-and`, `bit-one`, `bit-shifted`, `lowest-set`, `ones-tally`, `tally-add`,
+-- `tally-same`.
 use mathlib.Core.Path.{_≡_, refl, sym, ap, _∙_}
 use mathlib.Core.Bool.{Bool, true, false, _&&_, _||_}
 use mathlib.Core.Logic.{_⊎_, inl, inr, ⊎-elim}
 use Prim.Native.Nat.{ℕ, zero, suc, _+_, _-_, _*_, _/_, _%_, _^_, _≤_, _<_, min, max}
 use native.Mathlib.Nat.{mul-comm, div-self, pow-suc, div-lt-iff-lt-mul}
-use native.Mathlib.Numerals.{add-one}
 use native.Mathlib.Omega.{arith}
 use lib.Dec.{eqb}
 use lib.Arith.{lt-one}
 use lib.Pow.{shr-shr, shl-shr, shr-le, pow-pos, pow-lt, pow-mono, pow-add}
-use lib.Bits.{bitAnd, bitOr, and-step, or-step, and-shr, or-shr, shifted-even}
+use lib.Bits.{bitAnd, bitOr, and-step, or-step, and-shr, or-shr}
 use lib.Count.{ones, ones-step, trailingZeros, under}
-use borrow.Author.Tests.{eqb-true, eqb-false, eq-eqb, ne-eqb}
+use borrow.Author.Tests.{eq-eqb, ne-eqb}
 use Rattle.laws.specs.Bits.{bit, one, tally}
-use Rattle.laws.proofs.Tests.{test, le-or, bool-by, or-true}
+use Rattle.laws.proofs.Tests.{le-or}
 
 -- ---- one digit
 
@@ -33,7 +33,10 @@ or-odd a b = go (digit-or a) (digit-or b)
     low : (x : ℕ) → max (a % 2) (b % 2) ≡ x → x < 2 → bitOr a b % 2 ≡ x
     low x e h = omega (arith, or-step a b)
 
-    go : (a % 2 ≡ 0) ⊎ (a % 2 ≡ 1) → (b % 2 ≡ 0) ⊎ (b % 2 ≡ 1) → eqb (bitOr a b % 2) 1 ≡ (eqb (a % 2) 1 || eqb (b % 2) 1)
+    go
+        : (a % 2 ≡ 0) ⊎ (a % 2 ≡ 1)
+        → (b % 2 ≡ 0) ⊎ (b % 2 ≡ 1)
+        → eqb (bitOr a b % 2) 1 ≡ (eqb (a % 2) 1 || eqb (b % 2) 1)
     go (inl p) (inl q) = rw (low 0 (rw (p, q)) (omega arith), p, q)
     go (inl p) (inr q) = rw (low 1 (rw (p, q)) (omega arith), p, q)
     go (inr p) (inl q) = rw (low 1 (rw (p, q)) (omega arith), p)
@@ -45,7 +48,10 @@ and-odd a b = go (digit-or a) (digit-or b)
     low : (x : ℕ) → min (a % 2) (b % 2) ≡ x → x < 2 → bitAnd a b % 2 ≡ x
     low x e h = omega (arith, and-step a b)
 
-    go : (a % 2 ≡ 0) ⊎ (a % 2 ≡ 1) → (b % 2 ≡ 0) ⊎ (b % 2 ≡ 1) → eqb (bitAnd a b % 2) 1 ≡ (eqb (a % 2) 1 && eqb (b % 2) 1)
+    go
+        : (a % 2 ≡ 0) ⊎ (a % 2 ≡ 1)
+        → (b % 2 ≡ 0) ⊎ (b % 2 ≡ 1)
+        → eqb (bitAnd a b % 2) 1 ≡ (eqb (a % 2) 1 && eqb (b % 2) 1)
     go (inl p) (inl q) = rw (low 0 (rw (p, q)) (omega arith), p)
     go (inl p) (inr q) = rw (low 0 (rw (p, q)) (omega arith), p)
     go (inr p) (inl q) = rw (low 0 (rw (p, q)) (omega arith), p, q)
@@ -134,12 +140,14 @@ lowest-set (suc k) v p h = go (digit-or v) (lowest-set k (v / 2))
     go (inl e) rest = rw e (later (trailingZeros k (v / 2)) (rest (omega arith) (omega (arith, pow-suc 2 k))))
       where
         later : (t : ℕ) → (t < k) × Lowest (v / 2) t → (suc t < suc k) × Lowest v (suc t)
-        later t r = (omega (arith, r .0), record { set-there = sym (bit-rest v t) ∙ r .1 .set-there; none-below = none })
+        later t r =
+            (omega (arith, r .0), record { set-there = sym (bit-rest v t) ∙ r .1 .set-there; none-below = none })
           where
             none : (j : ℕ) → j < suc t → bit v j ≡ false
             none zero l = bit-first v ∙ rw e
             none (suc j) l = sym (bit-rest v j) ∙ r .1 .none-below j (omega arith)
-    go (inr e) rest = rw e (omega arith, record { set-there = bit-first v ∙ rw e; none-below = λ j l. absurd (omega arith) })
+    go (inr e) rest =
+        rw e (omega arith, record { set-there = bit-first v ∙ rw e; none-below = λ j l. absurd (omega arith) })
 
 -- ---- counts
 
@@ -199,7 +207,8 @@ ones-tally zero v h = rw (lt-one h) none
     none = refl
 ones-tally (suc k) v h =
     let a : v / 2 < 2 ^ k = omega (arith, pow-suc 2 k) in
-    let b : tally (bit (v / 2)) k 0 ≡ tally (bit v) k 1 = tally-moved (bit (v / 2)) (bit v) 1 k 0 (λ j a b. bit-shifted v 1 j) in
+    let b : tally (bit (v / 2)) k 0 ≡ tally (bit v) k 1 =
+    tally-moved (bit (v / 2)) (bit v) 1 k 0 (λ j a b. bit-shifted v 1 j) in
     omega (arith, ones-step v, ones-tally k (v / 2) a, b, first)
   where
     first : one (bit v 0) ≡ v % 2

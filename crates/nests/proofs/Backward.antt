@@ -1,16 +1,16 @@
 -- The scan back from a gap for the loop that it belongs to: the last DO before it with a lower level.
--- Main statements: `Back`, what a turn keeps; `back-start`, `back-found`, `back-over-do`, `back-over-end`, `back-over-other`,
--- `back-ends`.
+-- Main statements: `Back`, what a turn keeps; `back-start`, `back-found`, `back-over-do`, `back-over-end`,
+-- `back-over-other`, `back-ends`.
 use mathlib.Core.Path.{_≡_, refl, sym, ap, _∙_}
 use mathlib.Core.Bool.{true}
 use mathlib.Core.List.{List}
-use mathlib.Core.Logic.{_⊎_, inl, inr, ⊎-elim}
+use mathlib.Core.Logic.{⊎-elim}
 use Prim.Native.Nat.{ℕ, zero, suc, _+_, _-_, _≤_, _<_}
 use native.Mathlib.Omega.{arith}
 use lib.ListN.{length, getD}
 use borrow.Author.Tests.{eq-eqb, ne-eqb}
 use Rattle.laws.proofs.Tests.{le-or, le-by}
-use Rattle.nests.specs.Loops.{isDo, isEnd, ownerOf}
+use Rattle.nests.specs.Loops.{ownerOf}
 use Rattle.nests.specs.Valid.{isShape}
 use Rattle.nests.proofs.Levels.{lev, lev-up, lev-same, lev-zero, lev-inside, lev-falls}
 use Rattle.nests.proofs.Loops.{owner-last, owner-lower, owner-below}
@@ -31,7 +31,12 @@ back-start ps g =
 
 module _ (ps : List ℕ) (shape : isShape ps ≡ true) (g : ℕ) (first : 0 < g) (there : g < length ps) where
   -- one point back, at a level that is still high enough
-  step : (depth i depth′ : ℕ) → Back ps g depth (suc i) → lev ps i ≡ lev ps g + depth′ → depth′ ≤ depth + 1 → Back ps g depth′ i
+  step
+      : (depth i depth′ : ℕ)
+      → Back ps g depth (suc i)
+      → lev ps i ≡ lev ps g + depth′
+      → depth′ ≤ depth + 1
+      → Back ps g depth′ i
   step depth i depth′ p e h =
       record {
         level = e;
@@ -57,7 +62,8 @@ module _ (ps : List ℕ) (shape : isShape ps ≡ true) (g : ℕ) (first : 0 < g)
 
     over-do : getD ps i 0 ≡ 1 → (depth ≡ 0 → ⊥) → Back ps g (depth - 1) i
     over-do e n =
-        step depth i (depth - 1) p (omega (arith, lev-up ps i (eq-eqb (getD ps i 0) 1 e), p .level, positive depth n)) (omega arith)
+        let u = lev-up ps i (eq-eqb (getD ps i 0) 1 e) in
+        step depth i (depth - 1) p (omega (arith, u, p .level, positive depth n)) (omega arith)
       where
         positive : (k : ℕ) → (k ≡ 0 → ⊥) → 0 < k
         positive zero h = absurd (h refl)
@@ -65,11 +71,13 @@ module _ (ps : List ℕ) (shape : isShape ps ≡ true) (g : ℕ) (first : 0 < g)
 
     over-end : getD ps i 0 ≡ 2 → Back ps g (depth + 1) i
     over-end e =
-        step depth i (depth + 1) p (omega (arith, lev-falls ps shape i (eq-eqb (getD ps i 0) 2 e), p .level)) (omega arith)
+        let u = lev-falls ps shape i (eq-eqb (getD ps i 0) 2 e) in
+        step depth i (depth + 1) p (omega (arith, u, p .level)) (omega arith)
 
     over-other : (getD ps i 0 ≡ 1 → ⊥) → (getD ps i 0 ≡ 2 → ⊥) → Back ps g depth i
     over-other a b =
-        step depth i depth p (sym (lev-same ps i (ne-eqb (getD ps i 0) 1 a) (ne-eqb (getD ps i 0) 2 b)) ∙ p .level) (omega arith)
+        let u = lev-same ps i (ne-eqb (getD ps i 0) 1 a) (ne-eqb (getD ps i 0) 2 b) in
+        step depth i depth p (sym u ∙ p .level) (omega arith)
 
   -- the same, with the point before i as the code writes it
   module _ (depth i : ℕ) (h : 0 < i) (p : Back ps g depth i) where

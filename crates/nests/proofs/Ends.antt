@@ -1,7 +1,7 @@
 -- The table of the ENDDOs of all DOs, filled from the first point on.
 -- Main statements: `Filled`, what a turn keeps; `fill-do`, `fill-other`, `fill-done`.
-use mathlib.Core.Path.{_≡_, refl, sym, _∙_}
-use mathlib.Core.Bool.{true, false}
+use mathlib.Core.Path.{_≡_, sym, _∙_}
+use mathlib.Core.Bool.{true}
 use mathlib.Core.List.{List}
 use mathlib.Core.Logic.{⊎-elim}
 use Prim.Native.Nat.{ℕ, suc, _+_, _≤_, _<_}

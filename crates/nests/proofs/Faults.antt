@@ -1,19 +1,18 @@
 -- The refusals of a dependence, case by case in the order in which the code finds them.
 -- Main statements: `no-source`, `no-target`, `no-loop`, `back-before`, `back-inside`, `back-outside`, `line-forward`,
 -- `line-back`.
-use mathlib.Core.Path.{_≡_, refl, sym, _∙_}
-use mathlib.Core.Bool.{Bool, true, false, _&&_, not}
+use mathlib.Core.Path.{_≡_, refl, sym}
+use mathlib.Core.Bool.{Bool, true, false, _&&_}
 use mathlib.Core.List.{List}
 use mathlib.Core.Logic.{_⊎_, inl, inr}
 use Prim.Native.Nat.{ℕ, _≤_, _<_}
 use native.Mathlib.Omega.{arith}
-use lib.Dec.{eqb, ltb, leb}
-use lib.ListN.{length, getD}
+use lib.Dec.{ltb}
 use borrow.Author.Tests.{eq-eqb, ne-eqb, lt-ltb, le-ltb, le-leb, lt-leb}
 use Rattle.laws.proofs.Tests.{never}
 use Rattle.nests.specs.Kinds.{CARRIED}
 use Rattle.nests.specs.Nests.{Dep}
-use Rattle.nests.specs.Loops.{isDo, endOf}
+use Rattle.nests.specs.Loops.{isDo, endOf, inLoop}
 use Rattle.nests.specs.Valid.{isSource, isTarget, depFault}
 
 module _ (ps : List ℕ) (e : Dep) where
@@ -62,8 +61,15 @@ module _ (ps : List ℕ) (e : Dep) where
             gone true false c d w = refl
             gone false b c d w = refl
 
+            s-in : Bool
+            s-in = ltb (e .s) (endOf ps (e .d))
+
+            t-in : Bool
+            t-in = ltb (e .t) (endOf ps (e .d))
+
             out
                 : (e .t ≤ e .d) ⊎ (endOf ps (e .d) ≤ e .s)
-                → ((ltb (e .d) (e .s) && ltb (e .s) (endOf ps (e .d))) && (ltb (e .d) (e .t) && ltb (e .t) (endOf ps (e .d)))) ≡ false
-            out (inl p) = gone (ltb (e .d) (e .s)) (ltb (e .s) (endOf ps (e .d))) (ltb (e .d) (e .t)) (ltb (e .t) (endOf ps (e .d))) (inr (le-ltb (e .d) (e .t) p))
-            out (inr p) = gone (ltb (e .d) (e .s)) (ltb (e .s) (endOf ps (e .d))) (ltb (e .d) (e .t)) (ltb (e .t) (endOf ps (e .d))) (inl (le-ltb (e .s) (endOf ps (e .d)) p))
+                → (inLoop ps (e .d) (e .s) && inLoop ps (e .d) (e .t)) ≡ false
+            out (inl p) = gone (ltb (e .d) (e .s)) s-in (ltb (e .d) (e .t)) t-in (inr (le-ltb (e .d) (e .t) p))
+            out (inr p) =
+                gone (ltb (e .d) (e .s)) s-in (ltb (e .d) (e .t)) t-in (inl (le-ltb (e .s) (endOf ps (e .d)) p))

@@ -2,9 +2,9 @@
 -- Main statements: `Scanned`, what a turn keeps; `scan-start`, `scan-on`, `scan-found`, `scan-done`.
 use mathlib.Core.Path.{_≡_, refl, sym, _∙_}
 use mathlib.Core.Bool.{Bool, true, false, _&&_}
-use mathlib.Core.List.{List, [], _∷_}
+use mathlib.Core.List.{List}
 use mathlib.Core.Logic.{_⊎_, inl, inr}
-use Prim.Native.Nat.{ℕ, zero, suc, _+_, _-_, _≤_, _<_}
+use Prim.Native.Nat.{ℕ, suc, _+_, _-_, _≤_, _<_}
 use native.Mathlib.Numerals.{add-one}
 use native.Mathlib.Omega.{arith}
 use lib.Dec.{eqb}
@@ -37,7 +37,10 @@ module _ (ps : List ℕ) (d depth i : ℕ) (p : Scanned ps d depth i) where
       let z : endFrom i depth (drop i ps) ≡ i = rw (drop-cons ps i 0 h, eq-eqb (getD ps i 0) 2 e, eq-eqb depth 1 f) in
       sym z ∙ p .rest
 
-  pub scan-on : i < length ps → ((getD ps i 0 ≡ 2 → ⊥) ⊎ (depth ≡ 1 → ⊥)) → Scanned ps d (deeper depth (getD ps i 0)) (i + 1)
+  pub scan-on
+      : i < length ps
+      → ((getD ps i 0 ≡ 2 → ⊥) ⊎ (depth ≡ 1 → ⊥))
+      → Scanned ps d (deeper depth (getD ps i 0)) (i + 1)
   scan-on h w =
       record {
         rest = rw add-one (sym (step w) ∙ p .rest);
@@ -52,7 +55,9 @@ module _ (ps : List ℕ) (d depth i : ℕ) (p : Scanned ps d depth i) where
           go true q = q
           go false q = refl
 
-      step : (getD ps i 0 ≡ 2 → ⊥) ⊎ (depth ≡ 1 → ⊥) → endFrom i depth (drop i ps) ≡ endFrom (suc i) (deeper depth (getD ps i 0)) (drop (suc i) ps)
+      step
+          : (getD ps i 0 ≡ 2 → ⊥) ⊎ (depth ≡ 1 → ⊥)
+          → endFrom i depth (drop i ps) ≡ endFrom (suc i) (deeper depth (getD ps i 0)) (drop (suc i) ps)
       step v = rw (drop-cons ps i 0 h, stays v)
 
   pub scan-done : length ps ≤ i → i ≡ endOf ps d

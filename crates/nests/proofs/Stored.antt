@@ -1,6 +1,6 @@
--- Laws of the nest as the code stores it: what one more point or dependence makes of it, and its dependences one by one.
+-- Laws of the nest as the code stores it: what one more point or dependence makes of it, its dependences one by one.
 -- Main statements: `point-added`, `dependence-added`, `depsIn-length`, `depsIn-at`, `counted-many`, `counted-points`.
-use mathlib.Core.Path.{_≡_, refl, sym, ap, _∙_}
+use mathlib.Core.Path.{_≡_, refl, ap}
 use mathlib.Core.List.{List, [], _∷_, _++_}
 use Prim.Native.Nat.{ℕ, zero, suc, _+_, _≤_, _<_}
 use native.Mathlib.Numerals.{add-one}
@@ -69,8 +69,11 @@ module _ (n : DN.Nest) (p : IsCounted n) where
               count-is =
                   rw
                   pts
-                  (omega
-                  (arith, length-append (take (n .count) (n .points)) (k ∷ []), length-take-le (n .count) (n .points) (omega arith)));
+                  (omega (
+                    arith,
+                    length-append (take (n .count) (n .points)) (k ∷ []),
+                    length-take-le (n .count) (n .points) (omega arith),
+                  ));
               count-fits = omega arith;
               many-is = p .many-is;
               many-fits = p .many-fits;
@@ -100,8 +103,11 @@ module _ (n : DN.Nest) (p : IsCounted n) where
               many-is =
                   rw
                   ds
-                  (omega
-                  (arith, length-append (depsIn (n .many) (n .deps)) (depIn e ∷ []), depsIn-length (n .many) (n .deps) (omega arith)));
+                  (omega (
+                    arith,
+                    length-append (depsIn (n .many) (n .deps)) (depIn e ∷ []),
+                    depsIn-length (n .many) (n .deps) (omega arith),
+                  ));
               many-fits = omega arith;
             };
       }

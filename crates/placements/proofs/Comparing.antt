@@ -1,17 +1,15 @@
 -- Two placements compared loop by loop, by the loops' ENDDOs.
 -- Main statements: `Compares`, what a turn keeps; `compare-start`, `compare-other`, `compare-same`, `compare-differ`,
 -- `compare-done`.
-use mathlib.Core.Path.{_≡_, refl, sym, ap, _∙_}
-use mathlib.Core.Bool.{true, false}
-use mathlib.Core.List.{List, [], _∷_, _++_}
-use Prim.Native.Nat.{ℕ, zero, suc, _+_, _-_, _≤_, _<_}
+use mathlib.Core.Path.{_≡_, sym, ap, _∙_}
+use mathlib.Core.List.{List, _∷_}
+use Prim.Native.Nat.{ℕ, suc, _+_, _-_, _≤_, _<_}
 use native.Mathlib.Omega.{arith}
-use lib.Dec.{eqb}
 use lib.ListN.{length, getD}
 use borrow.Author.Tests.{eq-eqb, ne-eqb}
-use Rattle.nests.specs.Nests.{Dep, Nest, nest}
+use Rattle.nests.specs.Nests.{Dep, nest}
 use Rattle.nests.specs.Kinds.{ENDDO}
-use Rattle.nests.specs.Loops.{isEnd, ownerOf}
+use Rattle.nests.specs.Loops.{ownerOf}
 use Rattle.placements.specs.Placements.{loopCount, loopsFrom, differFrom, differ}
 use Rattle.placements.specs.Answers.{difference, differenceOf}
 

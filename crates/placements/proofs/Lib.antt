@@ -3,6 +3,11 @@ pub mod Words
 pub mod Rising
 pub mod Lowest
 pub mod Cuts
+pub mod CutTest
+pub mod Trying
+pub mod Mask
+pub mod Masked
+pub mod Comparing
 pub mod Inside
 pub mod LoopLists
 pub mod LoopOrder
@@ -11,8 +16,3 @@ pub mod Keys
 pub mod Verdicts
 pub mod Cases
 pub mod Planners
-pub mod CutTest
-pub mod Trying
-pub mod Mask
-pub mod Masked
-pub mod Comparing

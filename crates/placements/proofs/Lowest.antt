@@ -1,10 +1,10 @@
 -- The search for the lowest gap at or above a place: the rest of its word, then the words after it.
 -- Main statements: `Passed`, what a turn keeps; `low-beyond`, `low-first`, `pass-first`, `low-later`, `pass-later`,
 -- `low-none`; the list of the gaps one by one, `gaps-above-next`, `gaps-above-none`, `gaps-above-split`.
-use mathlib.Core.Path.{_≡_, refl, sym, ap, _∙_}
-use mathlib.Core.Bool.{Bool, true, false}
+use mathlib.Core.Path.{_≡_, refl, sym, _∙_}
+use mathlib.Core.Bool.{true, false}
 use mathlib.Core.List.{List, [], _∷_, _++_}
-use mathlib.Core.Logic.{_⊎_, inl, inr, ⊎-elim}
+use mathlib.Core.Logic.{⊎-elim}
 use Prim.Native.Nat.{ℕ, suc, _+_, _-_, _*_, _/_, _%_, _^_, _≤_, _<_}
 use native.Mathlib.Omega.{arith}
 use lib.Count.{trailingZeros}
@@ -12,7 +12,7 @@ use lib.ListN.{getD}
 use lib.Pow.{shr-le}
 use Rattle.laws.specs.Bits.{bit}
 use Rattle.laws.proofs.Tests.{le-or, never}
-use Rattle.laws.proofs.Bits.{bit-zero, bit-high, bit-shifted, Lowest, lowest-set}
+use Rattle.laws.proofs.Bits.{bit-zero, bit-high, bit-shifted, lowest-set}
 use Rattle.placements.specs.Words.{GAPS, holds, gapsOf, gapsIn, LowestFrom}
 use Rattle.placements.proofs.Words.{gapsOf-step, gapsOf-add, gapsOf-none}
 

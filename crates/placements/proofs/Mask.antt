@@ -3,18 +3,17 @@
 use mathlib.Core.Path.{_≡_, refl, sym, ap, _∙_}
 use mathlib.Core.Bool.{Bool, true, false, _&&_, _||_}
 use mathlib.Core.List.{List}
-use mathlib.Core.Logic.{_⊎_, inl, inr, ⊎-elim}
-use Prim.Native.Nat.{ℕ, zero, suc, _+_, _-_, _≤_, _<_}
-use native.Mathlib.Numerals.{add-one}
+use mathlib.Core.Logic.{⊎-elim}
+use Prim.Native.Nat.{ℕ, suc, _+_, _-_, _≤_, _<_}
 use native.Mathlib.Omega.{arith}
 use lib.Dec.{eqb, ltb}
 use lib.ListN.{length, getD}
 use borrow.Author.Tests.{eq-eqb, ne-eqb, eqb-true, lt-ltb, le-ltb, ltb-true}
 use Rattle.laws.specs.Choice.{pick}
-use Rattle.laws.proofs.Tests.{test, le-or, eq-or, le-by, bool-by, and-intro, and-true, false-by, never}
+use Rattle.laws.proofs.Tests.{le-or, eq-or, le-by, bool-by, and-intro, and-true, false-by}
 use Rattle.nests.specs.Loops.{isDo, endOf, ownerOf, deeper}
 use Rattle.nests.specs.Valid.{isShape}
-use Rattle.nests.proofs.Levels.{lev, lev-step, lev-up, lev-deep, point-in}
+use Rattle.nests.proofs.Levels.{lev, lev-step, lev-up, lev-deep}
 use Rattle.nests.proofs.Loops.{end-after, end-there, range-above, owner-lower, owner-below, owner-holds, owner-inside}
 use Rattle.placements.specs.Words.{holds}
 use Rattle.placements.specs.Answers.{IsMask}
@@ -23,7 +22,10 @@ use Rattle.placements.specs.Answers.{IsMask}
 deeper-above : (b depth p : ℕ) → 0 < depth → deeper (b + depth) p ≡ b + deeper depth p
 deeper-above b depth p h = go (eqb p 1) (eqb p 2)
   where
-    go : (x y : Bool) → pick x (suc (b + depth)) (pick y (b + depth - 1) (b + depth)) ≡ b + pick x (suc depth) (pick y (depth - 1) depth)
+    go
+        : (x y : Bool)
+        → pick x (suc (b + depth)) (pick y (b + depth - 1) (b + depth)) ≡
+        b + pick x (suc depth) (pick y (depth - 1) depth)
     go true y = omega arith
     go false true = omega arith
     go false false = refl
@@ -40,8 +42,8 @@ pub record Masking (ps : List ℕ) (d : ℕ) (ws : List ℕ) (depth g : ℕ) : T
   pub own : (i : ℕ) → holds ws i ≡ below ps d g i
 
 module _ (ps : List ℕ) (shape : isShape ps ≡ true) (d : ℕ) (loop : isDo ps d ≡ true) where
-  -- 01, "The nest and its gaps": the gap before a DO belongs to the loop outside, the gap before an ENDDO to the loop that
-  -- ends there
+  -- 01, "The nest and its gaps": the gap before a DO belongs to the loop outside, the gap before an ENDDO to the loop
+  -- that ends there
   pub own-level : (g : ℕ) → d < g → g ≤ endOf ps d → eqb (ownerOf ps g) d ≡ eqb (lev ps g) (suc (lev ps d))
   own-level g l m = bool-by (eqb (ownerOf ps g) d) (eqb (lev ps g) (suc (lev ps d))) there back
     where
@@ -90,7 +92,9 @@ module _ (ps : List ℕ) (shape : isShape ps ≡ true) (d : ℕ) (loop : isDo ps
 
     pub mask-depth : (0 < depth) × (depth ≤ 8)
     mask-depth =
-        (omega (arith, range-above ps shape d g loop (p .after) h, p .level), omega (arith, lev-deep ps shape g, p .level))
+        let u = range-above ps shape d g loop (p .after) h in
+        let v = lev-deep ps shape g in
+        (omega (arith, u, p .level), omega (arith, v, p .level))
 
     next-level : lev ps (g + 1) ≡ lev ps d + deeper depth (getD ps g 0)
     next-level =

@@ -1,16 +1,15 @@
 -- A loop's count as the ones of the placement under the loop's mask.
 -- Main statements: `words-tally`, `count-tally`, `count-masked`, `gaps-size`.
-use mathlib.Core.Path.{_≡_, refl, sym, ap, _∙_}
+use mathlib.Core.Path.{_≡_, refl, sym, _∙_}
 use mathlib.Core.Bool.{Bool, true, false, _&&_}
-use mathlib.Core.List.{List, [], _∷_}
-use Prim.Native.Nat.{ℕ, zero, suc, _+_, _*_, _≤_, _<_}
+use mathlib.Core.List.{List}
+use Prim.Native.Nat.{ℕ, zero, suc, _+_, _*_, _<_}
 use native.Mathlib.Omega.{arith}
 use lib.Dec.{eqb}
 use lib.ListN.{length, getD}
 use Rattle.laws.specs.Bits.{bit, one, tally}
-use Rattle.laws.specs.Choice.{when}
 use Rattle.laws.proofs.Bits.{tally-same, tally-moved, tally-add}
-use Rattle.nests.specs.Nests.{Dep, Nest, nest}
+use Rattle.nests.specs.Nests.{Nest}
 use Rattle.nests.specs.Loops.{ownerOf}
 use Rattle.placements.specs.Placements.{loopCount, areGapsFrom}
 use Rattle.placements.specs.Words.{GAPS, holds, kept, gapsOf, gapsIn}
@@ -38,7 +37,8 @@ module _ (ws ms : List ℕ) where
       (λ j a b. rw (at-word ws (k * 64 + j) k j refl (omega arith), at-word ms (k * 64 + j) k j refl (omega arith)))
 
   pub words-tally
-      : tally (both-in 0) 64 0 + tally (both-in 1) 64 0 + tally (both-in 2) 64 0 + tally (both-in 3) 64 0 ≡ tally both GAPS 0
+      : tally (both-in 0) 64 0 + tally (both-in 1) 64 0 + tally (both-in 2) 64 0 + tally (both-in 3) 64 0 ≡
+      tally both GAPS 0
   words-tally =
       let a : tally both 256 0 ≡ tally both 64 0 + tally both 192 64 = tally-add both 64 192 0 in
       let b : tally both 192 64 ≡ tally both 64 64 + tally both 128 128 = tally-add both 64 128 64 in
@@ -97,14 +97,18 @@ unfolding gapsOf tally
 size-of x zero g = refl
 size-of x (suc k) g = go (x g) (size-of x k (suc g))
   where
-    go : (t : Bool) → length (gapsOf x k (suc g)) ≡ tally x k (suc g) → length (kept t g (gapsOf x k (suc g))) ≡ one t + tally x k (suc g)
+    go
+        : (t : Bool)
+        → length (gapsOf x k (suc g)) ≡ tally x k (suc g)
+        → length (kept t g (gapsOf x k (suc g))) ≡ one t + tally x k (suc g)
     go true r = omega arith
     go false r = omega arith
 
 pub gaps-size : (ws : List ℕ) → tally (λ (g : ℕ). holds ws g && holds ws g) GAPS 0 ≡ length (gapsIn ws)
 unfolding gapsIn
 gaps-size ws =
-    tally-same (λ (g : ℕ). holds ws g && holds ws g) (holds ws) GAPS 0 (λ j a b. twice (holds ws j)) ∙ sym (size-of (holds ws) GAPS 0)
+    tally-same (λ (g : ℕ). holds ws g && holds ws g) (holds ws) GAPS 0 (λ j a b. twice (holds ws j)) ∙
+    sym (size-of (holds ws) GAPS 0)
   where
     twice : (t : Bool) → (t && t) ≡ t
     twice true = refl

@@ -4,13 +4,13 @@ use mathlib.Core.Path.{_≡_, refl, sym, ap, _∙_}
 use mathlib.Core.Bool.{Bool, true, false, _&&_, _||_}
 use mathlib.Core.List.{List, [], _∷_}
 use mathlib.Core.Logic.{_⊎_, inl, inr, ⊎-elim}
-use Prim.Native.Nat.{ℕ, zero, suc, _+_, _/_, _≤_, _<_}
+use Prim.Native.Nat.{ℕ, suc, _≤_, _<_}
 use native.Mathlib.Omega.{arith}
 use lib.Dec.{eqb, ltb}
 use lib.ListN.{length, length-set}
 use borrow.Author.Tests.{eqb-true, eq-eqb, ne-eqb, lt-ltb, ltb-true}
 use Rattle.laws.specs.Choice.{isIn}
-use Rattle.laws.proofs.Tests.{test, le-or, eq-or, bool-by, or-true, and-true, false-by, never}
+use Rattle.laws.proofs.Tests.{le-or, eq-or, or-true, and-true, false-by, never}
 use Rattle.placements.specs.Placements.{areGapsFrom}
 use Rattle.placements.specs.Words.{GAPS, holds, gapsIn}
 use Rattle.placements.proofs.Words.{holds-empty, holds-put, putIn, in-gaps, in-gaps-beyond, gaps-rising}
@@ -93,7 +93,8 @@ rising-equal last n (u ∷ us) (v ∷ vs) p q h = go (rises last n u us p) (rise
         tails : (i : ℕ) → isIn i us ≡ isIn i vs
         tails i =
             ⊎-elim
-            (λ (z : i ≡ u). rising-out u n us i (a .rest) (omega arith) ∙ sym (rising-out u n vs i b-rest (omega arith)))
+            (λ (z : i ≡ u).
+            rising-out u n us i (a .rest) (omega arith) ∙ sym (rising-out u n vs i b-rest (omega arith)))
             (λ (z : i ≡ u → ⊥).
             let y : isIn i (u ∷ us) ≡ isIn i us = rw (ne-eqb i u z) in
             let x : isIn i (v ∷ vs) ≡ isIn i vs = rw (ne-eqb i v (λ w. z (w ∙ sym e))) in
@@ -137,7 +138,14 @@ rising-wider last m n (g ∷ gs) l h = go (rises last m g gs h) (rising-wider g 
 -- every rising list of gaps is the list of some words
 pub words-of-gaps : (n : ℕ) (gs : List ℕ) → n ≤ GAPS → areGapsFrom 0 n gs ≡ true → gapsIn (wordsOf gs) ≡ gs
 words-of-gaps n gs l h =
-    rising-equal 0 n (gapsIn (wordsOf gs)) gs (gaps-rising (wordsOf gs) n (out 0 (inl (omega arith))) (λ i a b. out i (inr b))) h same
+    rising-equal
+    0
+    n
+    (gapsIn (wordsOf gs))
+    gs
+    (gaps-rising (wordsOf gs) n (out 0 (inl (omega arith))) (λ i a b. out i (inr b)))
+    h
+    same
   where
     hold : (i : ℕ) → holds (wordsOf gs) i ≡ isIn i gs
     hold = words-hold 0 gs (rising-wider 0 n GAPS gs l h)

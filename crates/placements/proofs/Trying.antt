@@ -1,16 +1,16 @@
 -- The dependences tried one by one, for the first that is not cut.
--- Main statements: `Tried`, what a turn keeps; `tried-start`, `tried-cut`, `tried-uncut`, `tried-done`, `carried-by-loop`.
-use mathlib.Core.Path.{_≡_, refl, sym, ap, _∙_}
-use mathlib.Core.Bool.{Bool, true, false, _&&_, _||_}
+-- Main statements: `Tried`, what a turn keeps; `tried-start`, `tried-cut`, `tried-uncut`, `tried-done`;
+-- `carried-by-loop`.
+use mathlib.Core.Path.{_≡_, refl, sym, _∙_}
+use mathlib.Core.Bool.{true, false, _&&_}
 use mathlib.Core.List.{List, [], _∷_}
 use mathlib.Core.Logic.{⊎-elim}
-use Prim.Native.Nat.{ℕ, zero, suc, _+_, _≤_, _<_}
+use Prim.Native.Nat.{ℕ, zero, suc, _+_, _≤_}
 use native.Mathlib.Omega.{arith}
-use lib.Dec.{eqb, leb}
-use lib.ListN.{length, getD, drop, drop-of-length-le}
-use borrow.Author.Tests.{eqb-true}
-use Rattle.laws.proofs.Tests.{and-true, or-true}
-use Rattle.nests.specs.Kinds.{INDEPENDENT, CARRIED, POINTS, DEPENDENCES}
+use lib.Dec.{leb}
+use lib.ListN.{length, drop, drop-of-length-le}
+use Rattle.laws.proofs.Tests.{and-true}
+use Rattle.nests.specs.Kinds.{INDEPENDENT, POINTS, DEPENDENCES}
 use Rattle.nests.specs.Nests.{Dep, Nest}
 use Rattle.nests.specs.Loops.{isDo}
 use Rattle.nests.specs.Valid.{isShape, isDep, areDeps, isValid}
@@ -80,4 +80,7 @@ pub carried-by-loop
     → (e .kind ≡ INDEPENDENT → ⊥)
     → isDo ps (e .d) ≡ true
 carried-by-loop ps ds i e es h q n =
-    ⊎-elim (λ (z : Line ps e). absurd (n (z .kind-is))) (λ (z : Back ps e). z .loop) (dep-fits ps e (dep-at ps ds i e es h q))
+    ⊎-elim
+    (λ (z : Line ps e). absurd (n (z .kind-is)))
+    (λ (z : Back ps e). z .loop)
+    (dep-fits ps e (dep-at ps ds i e es h q))

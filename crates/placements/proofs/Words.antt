@@ -1,19 +1,19 @@
 -- Laws of a placement's words and of the rising list of their gaps.
 -- Main statements: `holds-put`, `holds-empty`, `in-gaps`, `gaps-same`, `gaps-none`, `gaps-put-last`, `gaps-rising`.
 use mathlib.Core.Path.{_≡_, refl, sym, ap, _∙_}
-use mathlib.Core.Bool.{Bool, true, false, _&&_, _||_}
+use mathlib.Core.Bool.{Bool, true, false, _||_}
 use mathlib.Core.List.{List, [], _∷_, _++_, append-nil}
 use mathlib.Core.Logic.{_⊎_, inl, inr, ⊎-elim}
-use Prim.Native.Nat.{ℕ, zero, suc, _+_, _-_, _*_, _/_, _%_, _^_, _≤_, _<_}
+use Prim.Native.Nat.{ℕ, zero, suc, _+_, _-_, _/_, _%_, _^_, _≤_, _<_}
 use native.Mathlib.Omega.{arith}
 use lib.Bits.{bitOr}
-use lib.Dec.{eqb, ltb}
+use lib.Dec.{eqb}
 use lib.ListN.{length, getD, set, List·getD-eq-default}
 use lib.Seq.{getD-set-same, getD-set-other}
-use borrow.Author.Tests.{eqb-true, eqb-false, eq-eqb, ne-eqb, lt-ltb, ltb-true}
+use borrow.Author.Tests.{eqb-true, eq-eqb, ne-eqb, lt-ltb}
 use Rattle.laws.specs.Choice.{isIn}
 use Rattle.laws.specs.Bits.{bit}
-use Rattle.laws.proofs.Tests.{test, le-or, eq-or, bool-by, or-true, and-intro, and-true, never}
+use Rattle.laws.proofs.Tests.{le-or, eq-or, bool-by, never}
 use Rattle.laws.proofs.Bits.{bit-or, bit-one, bit-zero}
 use Rattle.placements.specs.Placements.{areGapsFrom}
 use Rattle.placements.specs.Words.{GAPS, holds, kept, gapsOf, gapsIn}
@@ -50,6 +50,9 @@ pub holds-put : (ws : List ℕ) (g i : ℕ) → g / 64 < length ws → holds (pu
 unfolding holds putIn
 holds-put ws g i h = go (eq-or (i / 64) (g / 64))
   where
+    word : ℕ
+    word = bitOr (getD ws (g / 64) 0) (2 ^ (g % 64))
+
     same-gap : i / 64 ≡ g / 64 → eqb (i % 64) (g % 64) ≡ eqb i g
     same-gap e =
         bool-by
@@ -60,13 +63,18 @@ holds-put ws g i h = go (eq-or (i / 64) (g / 64))
 
     go
         : (i / 64 ≡ g / 64) ⊎ ((i / 64 ≡ g / 64) → ⊥)
-        → bit (getD (set ws (g / 64) (bitOr (getD ws (g / 64) 0) (2 ^ (g % 64)))) (i / 64) 0) (i % 64) ≡ (eqb i g || bit (getD ws (i / 64) 0) (i % 64))
+        → bit (getD (set ws (g / 64) word) (i / 64) 0) (i % 64) ≡ (eqb i g || bit (getD ws (i / 64) 0) (i % 64))
     go (inl e) =
-        rw
-        (e, getD-set-same ws (g / 64) (bitOr (getD ws (g / 64) 0) (2 ^ (g % 64))) 0 h, bit-or (getD ws (g / 64) 0) (2 ^ (g % 64)) (i % 64), bit-one (g % 64) (i % 64), same-gap e)
+        rw (
+          e,
+          getD-set-same ws (g / 64) word 0 h,
+          bit-or (getD ws (g / 64) 0) (2 ^ (g % 64)) (i % 64),
+          bit-one (g % 64) (i % 64),
+          same-gap e,
+        )
         (or-swap (bit (getD ws (g / 64) 0) (i % 64)) (eqb i g))
     go (inr n) =
-        rw (getD-set-other ws (g / 64) (i / 64) (bitOr (getD ws (g / 64) 0) (2 ^ (g % 64))) 0 n, ne-eqb i g (λ z. n (rw z)))
+        rw (getD-set-other ws (g / 64) (i / 64) word 0 n, ne-eqb i g (λ z. n (rw z)))
 
 -- ---- the list of the gaps at which a test holds
 
@@ -97,7 +105,11 @@ gapsOf-from x (suc k) g i h = go (x g) (gapsOf-from x k (suc g) i (omega arith))
 pub gapsOf-in : (x : ℕ → Bool) (k g i : ℕ) → g ≤ i → i < g + k → isIn i (gapsOf x k g) ≡ x i
 unfolding gapsOf
 gapsOf-in x zero g i h l = absurd (omega arith)
-gapsOf-in x (suc k) g i h l = ⊎-elim (λ (z : suc g ≤ i). later z (x g) (gapsOf-in x k (suc g) i z (omega arith))) (λ (z : i < suc g). here (omega arith)) (le-or (suc g) i)
+gapsOf-in x (suc k) g i h l =
+    ⊎-elim
+    (λ (z : suc g ≤ i). later z (x g) (gapsOf-in x k (suc g) i z (omega arith)))
+    (λ (z : i < suc g). here (omega arith))
+    (le-or (suc g) i)
   where
     later : suc g ≤ i → (t : Bool) → isIn i (gapsOf x k (suc g)) ≡ x i → isIn i (kept t g (gapsOf x k (suc g))) ≡ x i
     later z true r = rw (ne-eqb i g (λ q. omega arith)) r
@@ -138,7 +150,10 @@ gapsOf-add x (suc k) m g =
     let b : g + suc k ≡ suc g + k = omega arith in
     rw (a, b) (ap (kept (x g) g) (gapsOf-add x k m (suc g)) ∙ front (x g))
   where
-    front : (t : Bool) → kept t g (gapsOf x k (suc g) ++ gapsOf x m (suc g + k)) ≡ kept t g (gapsOf x k (suc g)) ++ gapsOf x m (suc g + k)
+    front
+        : (t : Bool)
+        → kept t g (gapsOf x k (suc g) ++ gapsOf x m (suc g + k)) ≡
+        kept t g (gapsOf x k (suc g)) ++ gapsOf x m (suc g + k)
     front true = refl
     front false = refl
 
@@ -154,7 +169,9 @@ gapsOf-rising x n (suc k) g last h = go (x g) refl (gapsOf-rising x n k (suc g))
     go
         : (t : Bool)
         → x g ≡ t
-        → ((l : ℕ) → ((i : ℕ) → suc g ≤ i → i < suc g + k → x i ≡ true → (l < i) × (i < n)) → areGapsFrom l n (gapsOf x k (suc g)) ≡ true)
+        → ((l : ℕ)
+        → ((i : ℕ) → suc g ≤ i → i < suc g + k → x i ≡ true → (l < i) × (i < n))
+        → areGapsFrom l n (gapsOf x k (suc g)) ≡ true)
         → areGapsFrom last n (kept t g (gapsOf x k (suc g))) ≡ true
     go true e rest =
         let z = h g (omega arith) (omega arith) e in

@@ -1,5 +1,6 @@
 -- The answers of the code as numbers of the definitions, for each of their cases.
--- Main definitions: `cutOf`, `isCut`, `CutSays`, `foundOf`, `IsMask`, `Difference`, `differenceIn`, `differenceOf`.
+-- Main definitions: `cutOf`, `isCut`, `CutSays`, `foundOf`, `IsMask`, `Difference`, `differenceIn`, `differenceOf`,
+-- `CompareSays`.
 use mathlib.Core.Path.{_≡_}
 use mathlib.Core.Bool.{Bool, true, false}
 use mathlib.Core.List.{List}
@@ -7,14 +8,17 @@ use Prim.Native.Nat.{ℕ, suc, _-_, _<_}
 use lib.Dec.{eqb, ltb}
 use lib.ListN.{length}
 use Rattle.laws.specs.Choice.{pick}
-use Rattle.nests.specs.Nests.{Dep, Nest}
-use Rattle.nests.specs.Loops.{ownerOf}
+use Rattle.nests.specs.declared.Dependence as DE
+use Rattle.nests.specs.Kinds.{INDEPENDENT}
+use Rattle.nests.specs.Nests.{Dep, Nest, nest}
+use Rattle.nests.specs.Loops.{endOf, ownerOf}
+use Rattle.nests.specs.Stored.{depIn}
 use Rattle.placements.specs.declared.Cut as DC
 use Rattle.placements.specs.declared.Cut.the-variants as Cut
 use Rattle.placements.specs.declared.Compared as DP
 use Rattle.placements.specs.declared.Compared.the-variants as Compared
 use Rattle.placements.specs.Placements.{cuts, cutBy, loopCount, differ}
-use Rattle.placements.specs.Words.{GAPS, holds}
+use Rattle.placements.specs.Words.{GAPS, holds, gapsIn}
 
 -- the gap that cuts; 0 for none
 abbrev pub cutOf : DC.Cut → ℕ
@@ -30,6 +34,13 @@ isCut Cut.Uncut = false
 pub record CutSays (ps : List ℕ) (e : Dep) (gs : List ℕ) (r : DC.Cut) : Type 0 where
   pub by-gap : cutOf r ≡ cutBy ps e gs
   pub cut : isCut r ≡ cuts ps e gs
+
+-- the same for any points in which `end` is the ENDDO of the loop that carries the dependence
+abbrev pub CutInSays : ℕ → DE.Dependence → List ℕ → DC.Cut → Type 0
+CutInSays end e ws r =
+    (ps : List ℕ) →
+    ((e .kind ≡ INDEPENDENT → ⊥) → end ≡ endOf ps (e .d)) →
+    CutSays ps (depIn e) (gapsIn ws) r
 
 -- a gap that was looked for; 0 for none
 abbrev pub foundOf : ℕ → ℕ
@@ -59,3 +70,7 @@ differenceOf n key gs =
     (eqb (differ n key gs) 0)
     (difference 0 0 0)
     (difference (differ n key gs) (loopCount n gs (differ n key gs - 1)) (loopCount n key (differ n key gs - 1)))
+
+-- the answer for the points of a nest and two placements, as words
+abbrev pub CompareSays : List ℕ → List ℕ → List ℕ → DP.Compared → Type 0
+CompareSays ps key ws r = (ds : List Dep) → differenceIn r ≡ differenceOf (nest ps ds) (gapsIn key) (gapsIn ws)

@@ -2,21 +2,20 @@
 use nests::Dependence;
 use nests::Nest;
 ghost use mathlib.Core.Path.{_≡_};
-ghost use mathlib.Core.Bool.{Bool, true, false, _||_, _&&_};
+ghost use mathlib.Core.Bool.{true, false, _||_, _&&_};
 ghost use mathlib.Core.List.{List};
 ghost use Prim.Native.Nat.{ℕ, _+_, _<_, _≤_};
 ghost use lib.Dec.{eqb, ltb};
-ghost use lib.ListN.{length, getD};
+ghost use lib.ListN.{length};
 ghost use Rattle.laws.specs.Bits.{bit, tally};
 ghost use Rattle.laws.specs.Choice.{between};
-ghost use Rattle.nests.specs.Kinds.{INDEPENDENT};
 ghost use Rattle.nests.specs.Nests.{Dep, nest};
-ghost use Rattle.nests.specs.Loops.{isDo, endOf, ownerOf};
+ghost use Rattle.nests.specs.Loops.{isDo, endOf};
 ghost use Rattle.nests.specs.Valid.{isShape, isValid};
 ghost use Rattle.nests.specs.Stored.{depIn, nestIn, IsCounted};
 ghost use Rattle.placements.specs.Placements.{uncut, areGapsFrom, loopCount};
 ghost use Rattle.placements.specs.Words.{GAPS, holds, gapsIn, LowestFrom, LowestIn};
-ghost use Rattle.placements.specs.Answers.{cutOf, isCut, CutSays, foundOf, IsMask, differenceIn, differenceOf};
+ghost use Rattle.placements.specs.Answers.{cutOf, isCut, CutSays, CutInSays, foundOf, IsMask, CompareSays};
 
 // A set of gaps: gap g is bit g mod 64 of word g / 64.
 pub struct Placement {
@@ -54,7 +53,7 @@ impl Placement {
 
     // The placement with gap g as well.
     pub fn put(self, g: usize) -> Placement
-        requires { ⌜ g < 256 ⌝ }
+        requires { ⌜ g < GAPS ⌝ }
         ensures { λ r. ⌜ ((i : ℕ) → holds (r .words) i ≡ (eqb i g || holds (self .words) i)) ⌝ }
     {
         let mut p = self;
@@ -65,7 +64,7 @@ impl Placement {
 
     // The placement holds gap g.
     pub fn holds(self, g: usize) -> bool
-        requires { ⌜ g < 256 ⌝ }
+        requires { ⌜ g < GAPS ⌝ }
         ensures { λ r. ⌜ r ≡ holds (self .words) g ⌝ }
     {
         let at = g / 64;
@@ -118,7 +117,7 @@ fn found(g: usize) -> Cut
 
 // The lowest gap of the placement that cuts the dependence, where `end` is the ENDDO of the loop that carries it.
 pub fn cut_in(end: usize, p: Placement, e: Dependence) -> Cut
-    ensures { λ r. ⌜ ((ps : List ℕ) → ((e .kind ≡ INDEPENDENT → ⊥) → end ≡ endOf ps (e .d)) → CutSays ps (depIn e) (gapsIn (p .words)) r) ⌝ }
+    ensures { λ r. ⌜ CutInSays end e (p .words) r ⌝ }
 {
     let s = e.s as usize;
     let t = e.t as usize;
@@ -240,7 +239,7 @@ pub fn compare(points: &[u8], key: Placement, other: Placement) -> Compared
     requires { ⌜ (isShape (now points) ≡ true) × (length (now points) ≤ GAPS) ⌝ }
     requires { ⌜ areGapsFrom 0 (length (now points)) (gapsIn (key .words)) ≡ true ⌝ }
     requires { ⌜ areGapsFrom 0 (length (now points)) (gapsIn (other .words)) ≡ true ⌝ }
-    ensures { λ r. ⌜ ((ds : List Dep) → differenceIn r ≡ differenceOf (nest (now (points .entry)) ds) (gapsIn (key .words)) (gapsIn (other .words))) ⌝ }
+    ensures { λ r. ⌜ CompareSays (now (points .entry)) (key .words) (other .words) r ⌝ }
 {
     let mut e = 0;
     while e < points.len() {

@@ -1,5 +1,4 @@
 -- `deeper` meets its contract: each way out is one case of the definition.
-use Prim.Native.Nat.{_-_}
 use native.Mathlib.Omega.{arith}
 use native.Mathlib.Numerals.{add-one}
 use borrow.Author.Needs.{needs}

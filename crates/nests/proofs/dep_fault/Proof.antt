@@ -4,7 +4,8 @@ use mathlib.Core.Logic.{inl, inr}
 use native.Mathlib.Omega.{arith}
 use borrow.Author.Needs.{needs}
 use Rattle.nests.specs.Stored.{depIn}
-use Rattle.nests.proofs.Faults.{no-source, no-target, no-loop, back-before, back-inside, back-outside, line-forward, line-back}
+use Rattle.nests.proofs.Faults.{no-source, no-target, no-loop}
+use Rattle.nests.proofs.Faults.{back-before, back-inside, back-outside, line-forward, line-back}
 use Rattle.nests.proofs.dep_fault.Statement.{statement}
 use Rattle.nests.proofs.dep_fault.Tie as tie
 
@@ -28,54 +29,117 @@ is-do-requires c κs = search needs
 
 returns : tie.Need-returns
 returns c =
-    let a = c .before .before .before .before .before .before .before .before .before .before .before .before .before .args in
-    back-before (a .points .now) (depIn (a .e)) (sym (c .before .before .before .before .before .before .before .before .is-source .ensures) ∙ c .before .before .before .before .before .before .before .if1 .taken)
-    (sym (c .before .before .before .before .before .before .is-target .ensures) ∙ c .before .before .before .before .before .if2 .taken) (c .before .before .before .if3 .taken) (sym (c .before .before .is-do .ensures) ∙ c .before .if4 .taken) (c .if5 .taken)
+    let b1 = c .before in
+    let b2 = b1 .before in
+    let b3 = b2 .before in
+    let b5 = b3 .before .before in
+    let b6 = b5 .before in
+    let b7 = b6 .before in
+    let b8 = b7 .before in
+    let b13 = b8 .before .before .before .before .before in
+    let a = b13 .args in
+    back-before (a .points .now) (depIn (a .e)) (sym (b8 .is-source .ensures) ∙ b7 .if1 .taken)
+    (sym (b6 .is-target .ensures) ∙ b5 .if2 .taken) (b3 .if3 .taken) (sym (b2 .is-do .ensures) ∙ b1 .if4 .taken)
+    (c .if5 .taken)
 
 end-of-requires : tie.Need-end-of-requires
 end-of-requires c κs = search needs
 
 returns-2 : tie.Need-returns-2
 returns-2 c =
-    let a = c .before .before .before .before .before .before .before .before .before .before .before .before .before .before .before .before .args in
-    back-inside (a .points .now) (depIn (a .e)) (sym (c .before .before .before .before .before .before .before .before .before .before .before .is-source .ensures) ∙ c .before .before .before .before .before .before .before .before .before .before .if1 .taken)
-    (sym (c .before .before .before .before .before .before .before .before .before .is-target .ensures) ∙ c .before .before .before .before .before .before .before .before .if2 .taken) (c .before .before .before .before .before .before .if3 .taken) (sym (c .before .before .before .before .before .is-do .ensures) ∙ c .before .before .before .before .if4 .taken) (c .before .before .before .if5 .left) (c .before .if6 .taken) (omega arith)
+    let b1 = c .before in
+    let b3 = b1 .before .before in
+    let b4 = b3 .before in
+    let b5 = b4 .before in
+    let b6 = b5 .before in
+    let b8 = b6 .before .before in
+    let b9 = b8 .before in
+    let b10 = b9 .before in
+    let b11 = b10 .before in
+    let b16 = b11 .before .before .before .before .before in
+    let a = b16 .args in
+    back-inside (a .points .now) (depIn (a .e)) (sym (b11 .is-source .ensures) ∙ b10 .if1 .taken)
+    (sym (b9 .is-target .ensures) ∙ b8 .if2 .taken) (b6 .if3 .taken) (sym (b5 .is-do .ensures) ∙ b4 .if4 .taken)
+    (b3 .if5 .left) (b1 .if6 .taken) (omega arith)
 
 returns-3 : tie.Need-returns-3
 returns-3 c =
-    let a = c .before .before .before .before .before .before .before .before .before .before .before .before .before .before .before .before .args in
-    back-outside (a .points .now) (depIn (a .e)) (sym (c .before .before .before .before .before .before .before .before .before .before .before .is-source .ensures) ∙ c .before .before .before .before .before .before .before .before .before .before .if1 .taken)
-    (sym (c .before .before .before .before .before .before .before .before .before .is-target .ensures) ∙ c .before .before .before .before .before .before .before .before .if2 .taken) (c .before .before .before .before .before .before .if3 .taken) (sym (c .before .before .before .before .before .is-do .ensures) ∙ c .before .before .before .before .if4 .taken) (c .before .before .before .if5 .left) (inr (omega arith))
+    let b3 = c .before .before .before in
+    let b4 = b3 .before in
+    let b5 = b4 .before in
+    let b6 = b5 .before in
+    let b8 = b6 .before .before in
+    let b9 = b8 .before in
+    let b10 = b9 .before in
+    let b11 = b10 .before in
+    let b16 = b11 .before .before .before .before .before in
+    let a = b16 .args in
+    back-outside (a .points .now) (depIn (a .e)) (sym (b11 .is-source .ensures) ∙ b10 .if1 .taken)
+    (sym (b9 .is-target .ensures) ∙ b8 .if2 .taken) (b6 .if3 .taken) (sym (b5 .is-do .ensures) ∙ b4 .if4 .taken)
+    (b3 .if5 .left) (inr (omega arith))
 
 returns-4 : tie.Need-returns-4
 returns-4 c =
-    let a = c .before .before .before .before .before .before .before .before .before .before .before .before .before .before .before .args in
-    back-outside (a .points .now) (depIn (a .e)) (sym (c .before .before .before .before .before .before .before .before .before .before .is-source .ensures) ∙ c .before .before .before .before .before .before .before .before .before .if1 .taken)
-    (sym (c .before .before .before .before .before .before .before .before .is-target .ensures) ∙ c .before .before .before .before .before .before .before .if2 .taken) (c .before .before .before .before .before .if3 .taken) (sym (c .before .before .before .before .is-do .ensures) ∙ c .before .before .before .if4 .taken) (c .before .before .if5 .left) (inl (c .if6 .left))
+    let b2 = c .before .before in
+    let b3 = b2 .before in
+    let b4 = b3 .before in
+    let b5 = b4 .before in
+    let b7 = b5 .before .before in
+    let b8 = b7 .before in
+    let b9 = b8 .before in
+    let b10 = b9 .before in
+    let b15 = b10 .before .before .before .before .before in
+    let a = b15 .args in
+    back-outside (a .points .now) (depIn (a .e)) (sym (b10 .is-source .ensures) ∙ b9 .if1 .taken)
+    (sym (b8 .is-target .ensures) ∙ b7 .if2 .taken) (b5 .if3 .taken) (sym (b4 .is-do .ensures) ∙ b3 .if4 .taken)
+    (b2 .if5 .left) (inl (c .if6 .left))
 
 returns-5 : tie.Need-returns-5
 returns-5 c =
-    let a = c .before .before .before .before .before .before .before .before .before .before .before .before .args in
-    no-loop (a .points .now) (depIn (a .e)) (sym (c .before .before .before .before .before .before .before .is-source .ensures) ∙ c .before .before .before .before .before .before .if1 .taken)
-    (sym (c .before .before .before .before .before .is-target .ensures) ∙ c .before .before .before .before .if2 .taken) (c .before .before .if3 .taken) (sym (c .before .is-do .ensures) ∙ c .if4 .left)
+    let b1 = c .before in
+    let b2 = b1 .before in
+    let b4 = b2 .before .before in
+    let b5 = b4 .before in
+    let b6 = b5 .before in
+    let b7 = b6 .before in
+    let b12 = b7 .before .before .before .before .before in
+    let a = b12 .args in
+    no-loop (a .points .now) (depIn (a .e)) (sym (b7 .is-source .ensures) ∙ b6 .if1 .taken)
+    (sym (b5 .is-target .ensures) ∙ b4 .if2 .taken) (b2 .if3 .taken) (sym (b1 .is-do .ensures) ∙ c .if4 .left)
 
 returns-6 : tie.Need-returns-6
 returns-6 c =
-    let a = c .before .before .before .before .before .before .before .before .before .before .before .args in
-    line-forward (a .points .now) (depIn (a .e)) (sym (c .before .before .before .before .before .before .is-source .ensures) ∙ c .before .before .before .before .before .if1 .taken)
-    (sym (c .before .before .before .before .is-target .ensures) ∙ c .before .before .before .if2 .taken) (c .before .if3 .left) (c .if8 .taken)
+    let b1 = c .before in
+    let b3 = b1 .before .before in
+    let b4 = b3 .before in
+    let b5 = b4 .before in
+    let b6 = b5 .before in
+    let b11 = b6 .before .before .before .before .before in
+    let a = b11 .args in
+    line-forward (a .points .now) (depIn (a .e)) (sym (b6 .is-source .ensures) ∙ b5 .if1 .taken)
+    (sym (b4 .is-target .ensures) ∙ b3 .if2 .taken) (b1 .if3 .left) (c .if8 .taken)
 
 returns-7 : tie.Need-returns-7
 returns-7 c =
-    let a = c .before .before .before .before .before .before .before .before .before .before .before .args in
-    line-back (a .points .now) (depIn (a .e)) (sym (c .before .before .before .before .before .before .is-source .ensures) ∙ c .before .before .before .before .before .if1 .taken)
-    (sym (c .before .before .before .before .is-target .ensures) ∙ c .before .before .before .if2 .taken) (c .before .if3 .left) (c .if8 .left)
+    let b1 = c .before in
+    let b3 = b1 .before .before in
+    let b4 = b3 .before in
+    let b5 = b4 .before in
+    let b6 = b5 .before in
+    let b11 = b6 .before .before .before .before .before in
+    let a = b11 .args in
+    line-back (a .points .now) (depIn (a .e)) (sym (b6 .is-source .ensures) ∙ b5 .if1 .taken)
+    (sym (b4 .is-target .ensures) ∙ b3 .if2 .taken) (b1 .if3 .left) (c .if8 .left)
 
 returns-8 : tie.Need-returns-8
 returns-8 c =
-    let a = c .before .before .before .before .before .before .before .before .args in
-    no-target (a .points .now) (depIn (a .e)) (sym (c .before .before .before .is-source .ensures) ∙ c .before .before .if1 .taken)
-    (sym (c .before .is-target .ensures) ∙ c .if2 .left)
+    let b1 = c .before in
+    let b2 = b1 .before in
+    let b3 = b2 .before in
+    let b8 = b3 .before .before .before .before .before in
+    let a = b8 .args in
+    no-target (a .points .now) (depIn (a .e)) (sym (b3 .is-source .ensures) ∙ b2 .if1 .taken)
+    (sym (b1 .is-target .ensures) ∙ c .if2 .left)
 
 returns-9 : tie.Need-returns-9
 returns-9 c =

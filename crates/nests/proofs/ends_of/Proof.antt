@@ -1,7 +1,7 @@
--- `ends_of` meets its contract. The invariant: the entries of the DOs passed are there (`Filled`). The measure is what is
--- left of the points.
+-- `ends_of` meets its contract. The invariant: the entries of the DOs passed are there (`Filled`). The measure is what
+-- is left of the points.
 use mathlib.Core.Path.{refl}
-use Prim.Native.Nat.{_-_, _≤_}
+use Prim.Native.Nat.{_-_}
 use native.Mathlib.Omega.{arith}
 use lib.ListN.{length}
 use Rattle.nests.proofs.Ends.{Filled, fill-do, fill-other, fill-done}
@@ -37,8 +37,11 @@ loop-less c = omega arith
 
 loop-again : tie.Need-loop-again Inv-loop μ-loop
 loop-again c =
-    let l = c .before .before .before .before .loop in
-    fill-do (c .before .before .before .before .before .before .args .points .now) (l .ends) (l .d) (l .inv) (c .end-of .result) (omega (arith, c .before .before .before .before .before .before .pre)) (c .end-of .ensures)
+    let b4 = c .before .before .before .before in
+    let b6 = b4 .before .before in
+    let l = b4 .loop in
+    fill-do (b6 .args .points .now) (l .ends) (l .d) (l .inv) (c .end-of .result)
+    (omega (arith, b6 .pre)) (c .end-of .ensures)
 
 add-d-2 : tie.Need-add-d-2 Inv-loop μ-loop
 add-d-2 c = omega (arith, c .before .before .before .before .before .pre)

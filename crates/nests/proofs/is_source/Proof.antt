@@ -10,13 +10,23 @@ shared-slice-read-p c = search needs
 
 returns : tie.Need-returns
 returns c =
-    let a = c .before .before .before .args in
-    rw (lt-ltb (a .s) (length (a .points .now)) (c .before .before .if1 .taken), eq-eqb (getD (a .points .now) (a .s) 0) 3 (c .if2 .taken))
+    let b2 = c .before .before in
+    let b3 = b2 .before in
+    let a = b3 .args in
+    rw (
+      lt-ltb (a .s) (length (a .points .now)) (b2 .if1 .taken),
+      eq-eqb (getD (a .points .now) (a .s) 0) 3 (c .if2 .taken),
+    )
 
 returns-2 : tie.Need-returns-2
 returns-2 c =
-    let a = c .before .before .before .args in
-    rw (lt-ltb (a .s) (length (a .points .now)) (c .before .before .if1 .taken), ne-eqb (getD (a .points .now) (a .s) 0) 3 (c .if2 .left))
+    let b2 = c .before .before in
+    let b3 = b2 .before in
+    let a = b3 .args in
+    rw (
+      lt-ltb (a .s) (length (a .points .now)) (b2 .if1 .taken),
+      ne-eqb (getD (a .points .now) (a .s) 0) 3 (c .if2 .left),
+    )
 
 returns-3 : tie.Need-returns-3
 returns-3 c = rw (le-ltb (c .before .args .s) (length (c .before .args .points .now)) (c .if1 .left))

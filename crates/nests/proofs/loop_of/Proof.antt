@@ -1,8 +1,7 @@
 -- `loop_of` meets its contract. The invariant: back to i no level is below the gap's (`Back`). The measure is i.
-use Prim.Native.Nat.{_-_, _≤_}
 use native.Mathlib.Omega.{arith}
-use lib.ListN.{length}
-use Rattle.nests.proofs.Backward.{Back, back-start, back-found, back-over-do, back-over-end, back-over-other, back-ends}
+use Rattle.nests.proofs.Backward.{Back, back-start, back-found, back-ends}
+use Rattle.nests.proofs.Backward.{back-over-do, back-over-end, back-over-other}
 use Rattle.nests.proofs.loop_of.Statement.{statement}
 use Rattle.nests.proofs.loop_of.Tie as tie
 
@@ -26,11 +25,15 @@ sub-result c = omega arith
 
 returns : tie.Need-returns Inv-loop μ-loop
 returns c =
-    let a = c .before .before .before .before .before .args in
-    let p = c .before .before .before .before .before .pre in
-    let l = c .before .before .before .before .loop in
-    back-found (a .points .now) (p .0) (a .g) (p .1 .0) (p .1 .1) (l .depth) (l .i) (c .before .before .before .loop-test .taken) (l .inv)
-    (c .before .if1 .taken) (c .if2 .taken)
+    let b1 = c .before in
+    let b3 = b1 .before .before in
+    let b4 = b3 .before in
+    let b5 = b4 .before in
+    let a = b5 .args in
+    let p = b5 .pre in
+    let l = b4 .loop in
+    back-found (a .points .now) (p .0) (a .g) (p .1 .0) (p .1 .1) (l .depth) (l .i) (b3 .loop-test .taken) (l .inv)
+    (b1 .if1 .taken) (c .if2 .taken)
 
 sub-depth : tie.Need-sub-depth Inv-loop μ-loop
 sub-depth c = omega arith
@@ -43,11 +46,15 @@ loop-less c = omega arith
 
 loop-again : tie.Need-loop-again Inv-loop μ-loop
 loop-again c =
-    let a = c .before .before .before .before .before .args in
-    let p = c .before .before .before .before .before .pre in
-    let l = c .before .before .before .before .loop in
-    back-over-do (a .points .now) (p .0) (a .g) (p .1 .0) (p .1 .1) (l .depth) (l .i) (c .before .before .before .loop-test .taken) (l .inv)
-    (c .before .if1 .taken) (c .if2 .left)
+    let b1 = c .before in
+    let b3 = b1 .before .before in
+    let b4 = b3 .before in
+    let b5 = b4 .before in
+    let a = b5 .args in
+    let p = b5 .pre in
+    let l = b4 .loop in
+    back-over-do (a .points .now) (p .0) (a .g) (p .1 .0) (p .1 .1) (l .depth) (l .i) (b3 .loop-test .taken) (l .inv)
+    (b1 .if1 .taken) (c .if2 .left)
 
 add-depth : tie.Need-add-depth Inv-loop μ-loop
 add-depth c = omega arith
@@ -60,10 +67,13 @@ loop-less-2 c = omega arith
 
 loop-again-2 : tie.Need-loop-again-2 Inv-loop μ-loop
 loop-again-2 c =
-    let a = c .before .before .before .before .before .args in
-    let p = c .before .before .before .before .before .pre in
-    let l = c .before .before .before .before .loop in
-    back-over-end (a .points .now) (p .0) (a .g) (p .1 .0) (p .1 .1) (l .depth) (l .i) (c .before .before .before .loop-test .taken) (l .inv)
+    let b3 = c .before .before .before in
+    let b4 = b3 .before in
+    let b5 = b4 .before in
+    let a = b5 .args in
+    let p = b5 .pre in
+    let l = b4 .loop in
+    back-over-end (a .points .now) (p .0) (a .g) (p .1 .0) (p .1 .1) (l .depth) (l .i) (b3 .loop-test .taken) (l .inv)
     (c .if3 .taken)
 
 sub-i-3 : tie.Need-sub-i-3 Inv-loop μ-loop
@@ -74,18 +84,25 @@ loop-less-3 c = omega arith
 
 loop-again-3 : tie.Need-loop-again-3 Inv-loop μ-loop
 loop-again-3 c =
-    let a = c .before .before .before .before .before .args in
-    let p = c .before .before .before .before .before .pre in
-    let l = c .before .before .before .before .loop in
-    back-over-other (a .points .now) (p .0) (a .g) (p .1 .0) (p .1 .1) (l .depth) (l .i) (c .before .before .before .loop-test .taken) (l .inv)
-    (c .before .if1 .left) (c .if3 .left)
+    let b1 = c .before in
+    let b3 = b1 .before .before in
+    let b4 = b3 .before in
+    let b5 = b4 .before in
+    let a = b5 .args in
+    let p = b5 .pre in
+    let l = b4 .loop in
+    back-over-other (a .points .now) (p .0) (a .g) (p .1 .0) (p .1 .1) (l .depth) (l .i) (b3 .loop-test .taken) (l .inv)
+    (b1 .if1 .left) (c .if3 .left)
 
 returns-2 : tie.Need-returns-2 Inv-loop μ-loop
 returns-2 c =
-    let a = c .before .before .args in
-    let p = c .before .before .pre in
-    let l = c .before .loop in
-    absurd (back-ends (a .points .now) (p .0) (a .g) (p .1 .0) (p .1 .1) (l .depth) (l .i) (c .loop-test .left) (l .inv))
+    let b1 = c .before in
+    let b2 = b1 .before in
+    let a = b2 .args in
+    let p = b2 .pre in
+    let l = b1 .loop in
+    absurd (back-ends (a .points .now) (p .0) (a .g) (p .1 .0) (p .1 .1) (l .depth) (l .i)
+    (c .loop-test .left) (l .inv))
 
 pub loop-of-spec : {M : Type 1} → statement M
 loop-of-spec =

@@ -14,7 +14,8 @@ use Rattle.nests.proofs.Loops.{end-has-do, owner-is-do}
 use Rattle.placements.specs.Placements.{loopCount}
 use Rattle.placements.specs.Words.{gapsIn}
 use Rattle.placements.proofs.Masked.{count-masked}
-use Rattle.placements.proofs.Comparing.{Compares, compare-start, compare-other, compare-same, compare-differ, compare-done}
+use Rattle.placements.proofs.Comparing.{Compares, compare-start, compare-other, compare-done}
+use Rattle.placements.proofs.Comparing.{compare-same, compare-differ}
 use Rattle.placements.proofs.compare.Statement.{statement}
 use Rattle.placements.proofs.compare.Tie as tie
 
@@ -33,8 +34,13 @@ shared-slice-read-if1 : tie.Need-shared-slice-read-if1 Inv-loop μ-loop
 shared-slice-read-if1 c = omega arith
 
 -- the point is an ENDDO
-ends : (c : tie.Then1 Inv-loop μ-loop) → isEnd (c .before .before .before .before .before .args .points .now) (c .before .before .before .loop .e) ≡ true
-ends c = eq-eqb (getD (c .before .before .before .before .before .args .points .now) (c .before .before .before .loop .e) 0) 2 (c .if1 .taken)
+ends
+    : (c : tie.Then1 Inv-loop μ-loop)
+    → let l = c .before .before .before in isEnd (l .before .before .args .points .now) (l .loop .e) ≡ true
+ends c =
+    let b3 = c .before .before .before in
+    let b5 = b3 .before .before in
+    eq-eqb (getD (b5 .args .points .now) (b3 .loop .e) 0) 2 (c .if1 .taken)
 
 loop-of-requires : tie.Need-loop-of-requires Inv-loop μ-loop
 loop-of-requires c κs =
@@ -44,12 +50,16 @@ loop-of-requires c κs =
 
 loop-mask-requires : tie.Need-loop-mask-requires Inv-loop μ-loop
 loop-mask-requires c κs =
-    let ps = c .before .before .before .before .before .before .args .points .now in
-    let s = c .before .before .before .before .before .before .pre .0 .0 in
-    let e = c .before .before .before .before .loop .e in
-    let f = end-not-first ps s e (ends (c .before)) in
+    let b1 = c .before in
+    let b3 = b1 .before .before in
+    let b4 = b3 .before in
+    let b6 = b4 .before .before in
+    let ps = b6 .args .points .now in
+    let s = b6 .pre .0 .0 in
+    let e = b4 .loop .e in
+    let f = end-not-first ps s e (ends b1) in
     let o = c .loop-of .ensures in
-    (c .before .before .before .before .before .before .pre .0, (rw o (owner-is-do ps s e f (c .before .before .before .loop-test .taken)), rw o (sym (end-has-do ps s e (ends (c .before))))))
+    (b6 .pre .0, (rw o (owner-is-do ps s e f (b3 .loop-test .taken)), rw o (sym (end-has-do ps s e (ends b1)))))
 
 loop-count-requires : tie.Need-loop-count-requires Inv-loop μ-loop
 loop-count-requires c κs = tt
@@ -60,23 +70,33 @@ loop-count-requires-2 c κs = tt
 -- the ones under the mask are the loop's counts
 ours
     : (c : tie.After-loop-count2 Inv-loop μ-loop) (ds : List Dep)
-    → c .before .loop-count .result
-    ≡ loopCount (nest (c .before .before .before .before .before .before .before .before .before .args .points .now) ds) (gapsIn (c .before .before .before .before .before .before .before .before .before .args .key .words)) (c .before .before .before .loop-of .result)
+    → let d = c .before .before .before in
+    let a = d .before .before .before .before .before .before .args in
+    c .before .loop-count .result ≡
+    loopCount (nest (a .points .now) ds) (gapsIn (a .key .words)) (d .loop-of .result)
 ours c ds =
-    let a = c .before .before .before .before .before .before .before .before .before .args in
-    c .before .loop-count .ensures ∙
-    count-masked (nest (a .points .now) ds) (a .key .words) (c .before .before .loop-mask .result .words) (c .before .before .before .loop-of .result)
-    (c .before .before .before .before .before .before .before .before .before .pre .1 .0) (c .before .before .loop-mask .ensures)
+    let b1 = c .before in
+    let b2 = b1 .before in
+    let b3 = b2 .before in
+    let b9 = b3 .before .before .before .before .before .before in
+    let a = b9 .args in
+    b1 .loop-count .ensures ∙
+    count-masked (nest (a .points .now) ds) (a .key .words) (b2 .loop-mask .result .words) (b3 .loop-of .result)
+    (b9 .pre .1 .0) (b2 .loop-mask .ensures)
 
 theirs
     : (c : tie.After-loop-count2 Inv-loop μ-loop) (ds : List Dep)
-    → c .loop-count2 .result
-    ≡ loopCount (nest (c .before .before .before .before .before .before .before .before .before .args .points .now) ds) (gapsIn (c .before .before .before .before .before .before .before .before .before .args .other .words)) (c .before .before .before .loop-of .result)
+    → let d = c .before .before .before in
+    let a = d .before .before .before .before .before .before .args in
+    c .loop-count2 .result ≡ loopCount (nest (a .points .now) ds) (gapsIn (a .other .words)) (d .loop-of .result)
 theirs c ds =
-    let a = c .before .before .before .before .before .before .before .before .before .args in
+    let b2 = c .before .before in
+    let b3 = b2 .before in
+    let b9 = b3 .before .before .before .before .before .before in
+    let a = b9 .args in
     c .loop-count2 .ensures ∙
-    count-masked (nest (a .points .now) ds) (a .other .words) (c .before .before .loop-mask .result .words) (c .before .before .before .loop-of .result)
-    (c .before .before .before .before .before .before .before .before .before .pre .1 .1) (c .before .before .loop-mask .ensures)
+    count-masked (nest (a .points .now) ds) (a .other .words) (b2 .loop-mask .result .words) (b3 .loop-of .result)
+    (b9 .pre .1 .1) (b2 .loop-mask .ensures)
 
 returns : tie.Need-returns Inv-loop μ-loop
 returns c =
@@ -143,9 +163,12 @@ loop-again-2 c =
 
 returns-2 : tie.Need-returns-2 Inv-loop μ-loop
 returns-2 c =
-    let a = c .before .before .before .args in
-    let l = c .before .loop in
-    compare-done (a .points .now) (gapsIn (a .key .words)) (gapsIn (a .other .words)) (l .e) (l .inv) (c .loop-test .left)
+    let b1 = c .before in
+    let b3 = b1 .before .before in
+    let a = b3 .args in
+    let l = b1 .loop in
+    compare-done (a .points .now) (gapsIn (a .key .words)) (gapsIn (a .other .words)) (l .e) (l .inv)
+    (c .loop-test .left)
 
 pub compare-spec : {M : Type 1} → statement M
 compare-spec =

@@ -1,5 +1,5 @@
 -- `count_of` meets its contract: the ones under the mask of the loop's own gaps (`count-masked`).
-use mathlib.Core.Path.{_≡_, sym, _∙_}
+use mathlib.Core.Path.{_∙_}
 use borrow.Author.Needs.{needs}
 use Rattle.nests.specs.Nests.{nest}
 use Rattle.placements.proofs.Masked.{count-masked}
@@ -17,10 +17,13 @@ loop-count-requires c κs = search needs
 
 returns : tie.Need-returns
 returns c =
-    let a = c .before .before .before .before .args in
+    let b1 = c .before in
+    let b4 = b1 .before .before .before in
+    let a = b4 .args in
     λ ds.
     c .loop-count .ensures ∙
-    count-masked (nest (a .points .now) ds) (a .p .words) (c .before .loop-mask .result .words) (a .d) (c .before .before .before .before .pre .1 .1) (c .before .loop-mask .ensures)
+    count-masked (nest (a .points .now) ds) (a .p .words) (b1 .loop-mask .result .words) (a .d) (b4 .pre .1 .1)
+    (b1 .loop-mask .ensures)
 
 pub count-of-spec : {M : Type 1} → statement M
 count-of-spec = tie.close (tie.spec end-of-requires loop-mask-requires loop-count-requires returns)

@@ -1,6 +1,5 @@
 -- `cut_by` meets its contract: `cut_in` at the ENDDO of the loop that carries the dependence, unless a gap of the first
 -- interval decides.
-use Prim.Native.Nat.{_<_}
 use native.Mathlib.Omega.{arith}
 use borrow.Author.Needs.{needs}
 use Rattle.nests.specs.Stored.{depIn}
@@ -12,7 +11,10 @@ cut-in-requires : tie.Need-cut-in-requires
 cut-in-requires c κs = search needs
 
 returns : tie.Need-returns
-returns c = c .cut-in .ensures (c .before .before .before .before .args .points .now) (λ h. absurd (h (c .before .if1 .taken)))
+returns c =
+    let b1 = c .before in
+    let b4 = b1 .before .before .before in
+    c .cut-in .ensures (b4 .args .points .now) (λ h. absurd (h (b1 .if1 .taken)))
 
 cast-d : tie.Need-cast-d
 cast-d c = search needs
@@ -55,7 +57,10 @@ cut-in-requires-2 : tie.Need-cut-in-requires-2
 cut-in-requires-2 c κs = search needs
 
 returns-3 : tie.Need-returns-3
-returns-3 c = c .cut-in2 .ensures (c .before .before .before .before .before .before .before .before .before .before .args .points .now) (λ h. c .before .end-of .ensures)
+returns-3 c =
+    let b1 = c .before in
+    let b10 = b1 .before .before .before .before .before .before .before .before .before in
+    c .cut-in2 .ensures (b10 .args .points .now) (λ h. b1 .end-of .ensures)
 
 pub cut-by-spec : {M : Type 1} → statement M
 cut-by-spec =

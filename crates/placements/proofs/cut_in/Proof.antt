@@ -1,5 +1,5 @@
--- `cut_in` meets its contract: an independent dependence has one interval of gaps, a carried one two, of which the lower
--- gap counts.
+-- `cut_in` meets its contract: an independent dependence has one interval of gaps, a carried one two, of which the
+-- lower gap counts.
 use mathlib.Core.Path.{refl}
 use mathlib.Core.Logic.{inl, inr}
 use borrow.Author.Needs.{needs}

@@ -1,5 +1,4 @@
 -- `loop_count` meets its contract: the shared ones of the four words, one after another (`words-tally`).
-use mathlib.Core.Path.{_≡_, sym, _∙_}
 use native.Mathlib.Omega.{arith}
 use borrow.Author.Needs.{needs}
 use Rattle.placements.proofs.Masked.{words-tally}
@@ -53,9 +52,13 @@ add-result-3 c = search needs
 
 returns : tie.Need-returns
 returns c =
-    let a = c .before .before .before .before .before .before .args in
+    let b1 = c .before in
+    let b2 = b1 .before in
+    let b3 = b2 .before in
+    let b6 = b3 .before .before .before in
+    let a = b6 .args in
     let z = words-tally (a .p .words) (a .mask .words) in
-    omega (arith, z, c .before .before .before .shared .ensures .0, c .before .before .shared2 .ensures .0, c .before .shared3 .ensures .0, c .shared4 .ensures .0)
+    omega (arith, z, b3 .shared .ensures .0, b2 .shared2 .ensures .0, b1 .shared3 .ensures .0, c .shared4 .ensures .0)
 
 pub loop-count-spec : {M : Type 1} → statement M
 loop-count-spec =

@@ -1,7 +1,6 @@
--- `loop_mask` meets its contract. The invariant: the own gaps passed are in the mask (`Masking`). The measure is what is
--- left of the loop's range.
-use mathlib.Core.Path.{_≡_, sym, _∙_}
-use Prim.Native.Nat.{suc, _+_, _-_, _≤_, _<_}
+-- `loop_mask` meets its contract. The invariant: the own gaps passed are in the mask (`Masking`). The measure is what
+-- is left of the loop's range.
+use Prim.Native.Nat.{suc, _-_, _≤_, _<_}
 use native.Mathlib.Omega.{arith}
 use lib.ListN.{length}
 use Rattle.nests.specs.Loops.{endOf}
@@ -19,7 +18,8 @@ abbrev μ-loop : tie.MeasureT-loop
 -- in a turn the point after the gap is there, and the depth is small
 inside
     : (c : tie.In-loop Inv-loop μ-loop)
-    → (c .before .loop .g < length (c .before .before .before .before .args .points .now)) × ((0 < c .before .loop .depth) × (c .before .loop .depth ≤ 8))
+    → let l = c .before .loop in
+    (l .g < length (c .before .before .before .before .args .points .now)) × ((0 < l .depth) × (l .depth ≤ 8))
 inside c =
     let a = c .before .before .before .before .args in
     let p = c .before .before .before .before .pre in
@@ -33,7 +33,9 @@ empty-requires : tie.Need-empty-requires Inv-loop μ-loop
 empty-requires c κs = tt
 
 add-g : tie.Need-add-g Inv-loop μ-loop
-add-g c = omega (arith, point-in (c .before .before .args .points .now) (c .before .before .args .d) 0 (c .before .before .pre .1 .0))
+add-g c =
+    let b2 = c .before .before in
+    omega (arith, point-in (b2 .args .points .now) (b2 .args .d) 0 (b2 .pre .1 .0))
 
 loop-holds : tie.Need-loop-holds Inv-loop μ-loop
 loop-holds c =

@@ -1,11 +1,11 @@
 -- `shared` meets its contract: the ones of a word are its bits (`ones-tally`).
-use mathlib.Core.Path.{_≡_, sym, _∙_}
+use mathlib.Core.Path.{_∙_}
 use mathlib.Core.Bool.{_&&_}
 use Prim.Native.Nat.{ℕ, _≤_}
 use native.Mathlib.Omega.{arith}
 use lib.Bits.{bitAnd, and-le-l}
 use lib.Count.{ones, ones-le}
-use Rattle.laws.specs.Bits.{bit, tally}
+use Rattle.laws.specs.Bits.{bit}
 use Rattle.laws.proofs.Bits.{bit-and, ones-tally, tally-same}
 use Rattle.placements.proofs.shared.Statement.{statement}
 use Rattle.placements.proofs.shared.Tie as tie

@@ -1,17 +1,19 @@
--- `uncut` meets its contract. The invariant: the dependences before i are cut (`Tried`). The measure is how many are left.
-use mathlib.Core.Path.{_≡_, refl, sym, ap, _∙_}
-use mathlib.Core.List.{List, _∷_}
-use Prim.Native.Nat.{ℕ, suc, _-_, _≤_, _<_}
+-- `uncut` meets its contract. The invariant: the dependences before i are cut (`Tried`). The measure is how many are
+-- left.
+use mathlib.Core.Path.{_≡_, sym, ap, _∙_}
+use mathlib.Core.List.{_∷_}
+use Prim.Native.Nat.{suc, _-_}
 use native.Mathlib.Omega.{arith}
-use lib.ListN.{length, getD, take, drop, length-take}
+use lib.ListN.{getD, drop}
 use borrow.Author.Needs.{needs}
 use Rattle.nests.specs.declared.Dependence as DE
-use Rattle.nests.specs.Nests.{Dep, Nest}
-use Rattle.nests.specs.Stored.{depIn, depsIn, nestIn}
+use Rattle.nests.specs.Nests.{Dep}
+use Rattle.nests.specs.Stored.{depIn, nestIn}
 use Rattle.nests.proofs.Stored.{depsIn-at, counted-many, counted-points}
 use Rattle.placements.specs.Words.{gapsIn}
 use Rattle.placements.specs.Answers.{isCut, CutSays}
-use Rattle.placements.proofs.Trying.{Tried, tried-start, tried-cut, tried-uncut, tried-done, valid-deps, carried-by-loop}
+use Rattle.placements.proofs.Trying.{Tried, tried-start, tried-cut, tried-uncut, tried-done}
+use Rattle.placements.proofs.Trying.{valid-deps, carried-by-loop}
 use Rattle.placements.proofs.uncut.Statement.{statement}
 use Rattle.placements.proofs.uncut.Tie as tie
 
@@ -55,28 +57,48 @@ cut-in-requires c κs = tt
 
 -- the dependence that a turn tries
 abbrev tried : (c : tie.After-cut-in Inv-loop μ-loop) → Dep
-tried c = depIn (getD (c .before .before .before .before .before .before .before .before .args .t1 .deps) (c .before .before .before .before .loop .i) (record { kind = 0; d = 0; s = 0; t = 0 }))
+tried c =
+    let b4 = c .before .before .before .before in
+    let b8 = b4 .before .before .before .before in
+    depIn (getD (b8 .args .t1 .deps) (b4 .loop .i) (record { kind = 0; d = 0; s = 0; t = 0 }))
 
 here
     : (c : tie.After-cut-in Inv-loop μ-loop)
-    → let ds = nestIn (c .before .before .before .before .before .before .before .before .args .t1) .deps in drop (c .before .before .before .before .loop .i) ds ≡ tried c ∷ drop (suc (c .before .before .before .before .loop .i)) ds
+    → let l = c .before .before .before .before in
+    let ds = nestIn (l .before .before .before .before .args .t1) .deps in
+    drop (l .loop .i) ds ≡ tried c ∷ drop (suc (l .loop .i)) ds
 here c =
-    let n = c .before .before .before .before .before .before .before .before .args .t1 in
-    depsIn-at (n .many) (n .deps) (c .before .before .before .before .loop .i) (record { kind = 0; d = 0; s = 0; t = 0 }) (c .before .before .before .loop-test .taken)
-    (counted-many n (c .before .before .before .before .before .before .before .before .pre .0))
+    let b3 = c .before .before .before in
+    let b4 = b3 .before in
+    let b8 = b4 .before .before .before .before in
+    let n = b8 .args .t1 in
+    depsIn-at (n .many) (n .deps) (b4 .loop .i) (record { kind = 0; d = 0; s = 0; t = 0 }) (b3 .loop-test .taken)
+    (counted-many n (b8 .pre .0))
 
 -- what the cut test says of it
 told
     : (c : tie.After-cut-in Inv-loop μ-loop)
-    → CutSays (nestIn (c .before .before .before .before .before .before .before .before .args .t1) .points) (tried c) (gapsIn (c .before .before .before .before .before .before .before .before .args .p .words)) (c .cut-in .result)
+    → let a = c .before .before .before .before .before .before .before .before .args in
+    CutSays (nestIn (a .t1) .points) (tried c) (gapsIn (a .p .words)) (c .cut-in .result)
 told c =
-    let n = nestIn (c .before .before .before .before .before .before .before .before .args .t1) in
+    let b4 = c .before .before .before .before in
+    let b5 = b4 .before in
+    let b8 = b5 .before .before .before in
+    let n = nestIn (b8 .args .t1) in
     c .cut-in .ensures
     (n .points)
     (λ k.
-    c .before .before .before .before .before .ends-of .ensures
+    b5 .ends-of .ensures
     (tried c .d)
-    (carried-by-loop (n .points) (n .deps) (c .before .before .before .before .loop .i) (tried c) (drop (suc (c .before .before .before .before .loop .i)) (n .deps)) (valid-deps n (c .before .before .before .before .before .before .before .before .pre .1)) (here c) k))
+    (carried-by-loop
+    (n .points)
+    (n .deps)
+    (b4 .loop .i)
+    (tried c)
+    (drop (suc (b4 .loop .i)) (n .deps))
+    (valid-deps n (b8 .pre .1))
+    (here c)
+    k))
 
 enum-told : tie.Need-enum-told Inv-loop μ-loop
 enum-told c = c .match .keys1
@@ -121,9 +143,11 @@ loop-again c =
 
 returns-2 : tie.Need-returns-2 Inv-loop μ-loop
 returns-2 c =
-    let n = c .before .before .before .before .before .args .t1 in
-    tried-done (nestIn n .points) (nestIn n .deps) (gapsIn (c .before .before .before .before .before .args .p .words)) (c .before .loop .i) (c .before .loop .inv)
-    (omega (arith, c .loop-test .left, c .before .before .before .before .before .pre .0 .many-is))
+    let b1 = c .before in
+    let b5 = b1 .before .before .before .before in
+    let n = b5 .args .t1 in
+    tried-done (nestIn n .points) (nestIn n .deps) (gapsIn (b5 .args .p .words)) (b1 .loop .i) (b1 .loop .inv)
+    (omega (arith, c .loop-test .left, b5 .pre .0 .many-is))
 
 pub uncut-spec : {M : Type 1} → statement M
 uncut-spec =

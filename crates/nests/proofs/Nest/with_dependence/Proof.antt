@@ -19,7 +19,8 @@ add-n c = search needs
 returns : tie.Need-returns
 returns c =
     let s = c .args .self in
-    dependence-added s (c .pre .0) (c .args .e) (c .pre .1) (sym (length-map (s .deps) _) ∙ c .good .0 .1 .1 .1 .1 .1 .0 .1 .0 .1)
+    dependence-added s (c .pre .0) (c .args .e) (c .pre .1)
+    (sym (length-map (s .deps) _) ∙ c .good .0 .1 .1 .1 .1 .1 .0 .1 .0 .1)
 
 pub with-dependence-spec : {M : Type 1} → statement M
 with-dependence-spec = tie.close (tie.spec mul-e element-set-from-e add-n returns)

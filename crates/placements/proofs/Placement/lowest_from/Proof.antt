@@ -1,12 +1,13 @@
 -- `Placement::lowest_from` meets its contract. The invariant: no gap is held from lo up to the words still to be looked
 -- at (`Passed`). The measure is how many those are.
-use Prim.Native.Nat.{ℕ, _-_, _*_, _^_, _≤_, _<_}
+use Prim.Native.Nat.{ℕ, _-_, _*_, _^_, _<_}
 use native.Mathlib.Omega.{arith}
 use mir.Syntax.{w64}
 use mir.Val.{Fits}
 use lib.ListN.{getD}
 use borrow.Author.Needs.{needs}
-use Rattle.placements.proofs.Lowest.{Passed, First, Later, low-beyond, low-first, pass-first, low-later, pass-later, low-none}
+use Rattle.placements.proofs.Lowest.{Passed, First, Later, low-beyond, low-none}
+use Rattle.placements.proofs.Lowest.{low-first, pass-first, low-later, pass-later}
 use Rattle.placements.proofs.Placement.lowest_from.Statement.{statement}
 use Rattle.placements.proofs.Placement.lowest_from.Tie as tie
 
@@ -31,17 +32,26 @@ word-fits c i =
     f .fits
 
 -- what is known where the first word has a bit
-first : (c : tie.Then2 Inv-loop μ-loop) → First (c .before .before .before .args .t1 .words) (c .before .before .before .args .lo)
+first : (c : tie.Then2 Inv-loop μ-loop) → let a = c .before .before .before .args in First (a .t1 .words) (a .lo)
 first c =
-    let a = c .before .before .before .args in
-    low-first (a .t1 .words) (word-fits (c .before .before .before)) (a .lo) (c .before .before .if1 .taken) (c .if2 .taken)
+    let b2 = c .before .before in
+    let b3 = b2 .before in
+    let a = b3 .args in
+    low-first (a .t1 .words) (word-fits b3) (a .lo) (b2 .if1 .taken) (c .if2 .taken)
 
 -- and where a later word has one
-later : (c : tie.Then3 Inv-loop μ-loop) → Later (c .before .before .before .before .before .before .before .args .t1 .words) (c .before .before .before .before .before .before .before .args .lo) (c .before .before .before .loop .i)
+later
+    : (c : tie.Then3 Inv-loop μ-loop)
+    → let l = c .before .before .before in
+    let a = l .before .before .before .before .args in
+    Later (a .t1 .words) (a .lo) (l .loop .i)
 later c =
-    let a = c .before .before .before .before .before .before .before .args in
-    let l = c .before .before .before .loop in
-    low-later (a .t1 .words) (word-fits (c .before .before .before .before .before .before .before)) (a .lo) (l .i) (c .before .before .loop-test .taken) (l .inv) (c .if3 .taken)
+    let b2 = c .before .before in
+    let b3 = b2 .before in
+    let b7 = b3 .before .before .before .before in
+    let a = b7 .args in
+    let l = b3 .loop in
+    low-later (a .t1 .words) (word-fits b7) (a .lo) (l .i) (b2 .loop-test .taken) (l .inv) (c .if3 .taken)
 
 cast-result : tie.Need-cast-result Inv-loop μ-loop
 cast-result c = omega (arith, first c .0)
@@ -56,7 +66,10 @@ add-i : tie.Need-add-i Inv-loop μ-loop
 add-i c = omega arith
 
 loop-holds : tie.Need-loop-holds Inv-loop μ-loop
-loop-holds c = pass-first (c .before .before .before .args .t1 .words) (word-fits (c .before .before .before)) (c .before .before .before .args .lo) (c .before .before .if1 .taken) (c .if2 .left)
+loop-holds c =
+    let b2 = c .before .before in
+    let b3 = b2 .before in
+    pass-first (b3 .args .t1 .words) (word-fits b3) (b3 .args .lo) (b2 .if1 .taken) (c .if2 .left)
 
 mul-w : tie.Need-mul-w Inv-loop μ-loop
 mul-w c = omega arith
@@ -84,15 +97,19 @@ loop-less c = omega arith
 
 loop-again : tie.Need-loop-again Inv-loop μ-loop
 loop-again c =
-    let a = c .before .before .before .before .before .before .before .args in
-    let l = c .before .before .before .loop in
-    pass-later (a .t1 .words) (word-fits (c .before .before .before .before .before .before .before)) (a .lo) (l .i) (l .inv) (c .if3 .left)
+    let b3 = c .before .before .before in
+    let b7 = b3 .before .before .before .before in
+    let a = b7 .args in
+    let l = b3 .loop in
+    pass-later (a .t1 .words) (word-fits b7) (a .lo) (l .i) (l .inv) (c .if3 .left)
 
 returns-3 : tie.Need-returns-3 Inv-loop μ-loop
 returns-3 c =
-    let a = c .before .before .before .before .before .args in
-    let l = c .before .loop in
-    low-none (a .t1 .words) (word-fits (c .before .before .before .before .before)) (a .lo) (l .i) (c .loop-test .left) (l .inv)
+    let b1 = c .before in
+    let b5 = b1 .before .before .before .before in
+    let a = b5 .args in
+    let l = b1 .loop in
+    low-none (a .t1 .words) (word-fits b5) (a .lo) (l .i) (c .loop-test .left) (l .inv)
 
 returns-4 : tie.Need-returns-4 Inv-loop μ-loop
 returns-4 c = low-beyond (c .before .args .t1 .words) (c .before .args .lo) (c .if1 .left)
