@@ -1,6 +1,6 @@
 -- One test where another holds, written `not a || b`.
 -- Main statements: `implied`, `implies-by`.
-use mathlib.Core.Path.{_≡_, refl, sym}
+use mathlib.Core.Path.{_≡_, refl}
 use mathlib.Core.Bool.{Bool, true, false, _||_, not}
 use Rattle.laws.proofs.Tests.{never}
 

@@ -14,8 +14,8 @@ use Rattle.nests.specs.Loops.{isDo}
 use Rattle.nests.specs.Valid.{isValid}
 use Rattle.nests.proofs.Cases.{forward, carried, paper-P, paper-Q, paper-R, paper-turn, paper-bare, paper-ring}
 use Rattle.nests.proofs.Cases.{sameList, share}
-use Rattle.placements.specs.Placements.{isCorrect, loopCount}
-use Rattle.placements.specs.Trees.{node, bare, beside, treeOf}
+use Rattle.placements.specs.Placements.{isCorrect, loopCount, asGood}
+use Rattle.placements.specs.Trees.{node, bare, beside, treeOf, asGoodTree}
 use Rattle.placements.specs.Verdicts.{Verdict, Uncut, Dearer, Best, markOf}
 
 abbrev sameVerdict : Verdict → Verdict → Bool
@@ -30,11 +30,11 @@ sameVerdict Best (Dearer loop theirs ours) = false
 sameVerdict Best Best = true
 
 -- a placement's counts, in order of the loops' DO
-abbrev countsFrom : ℕ → ℕ → Nest → List ℕ → List ℕ
+abbrev pub countsFrom : ℕ → ℕ → Nest → List ℕ → List ℕ
 countsFrom zero d n gs = []
 countsFrom (suc f) d n gs = pick (isDo (n .points) d) (loopCount n gs d ∷ []) [] ++ countsFrom f (suc d) n gs
 
-abbrev countsOf : Nest → List ℕ → List ℕ
+abbrev pub countsOf : Nest → List ℕ → List ℕ
 countsOf n gs = countsFrom (length (n .points)) 0 n gs
 
 -- a row: the case's number, the paper, its key and the key's counts, a placement marked, the verdict, what else is said
@@ -59,12 +59,15 @@ row i n k c gs v b =
       also = b;
     }
 
+-- the key is correct, has its counts, and is as good as what is marked, loop by loop and as a tree; the verdict is given
 abbrev pub holds : Case → Bool
 holds c =
     isValid (c .paper) &&
     (isCorrect (c .paper) (c .key) &&
     (sameList (countsOf (c .paper) (c .key)) (c .counts) &&
-    (sameVerdict (markOf (c .paper) (c .key) (c .marked)) (c .verdict) && c .also)))
+    (asGood (c .paper) (c .key) (c .marked) &&
+    (asGoodTree (treeOf (c .paper) (c .key)) (treeOf (c .paper) (c .marked)) &&
+    (sameVerdict (markOf (c .paper) (c .key) (c .marked)) (c .verdict) && c .also)))))
 
 abbrev pub allHold : List Case → Bool
 allHold [] = true

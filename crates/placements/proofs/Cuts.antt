@@ -1,18 +1,18 @@
 -- Cuts: which gap cuts a dependence, the lowest uncut dependence, and correct placements taken apart.
 -- Main statements: `cut-has-gap`, `gap-cuts`, `uncut-none`, `none-uncut`, `uncut-first`, `first-uncut`, `correct-by`,
 -- `correct-gaps`, `correct-cuts`.
-use mathlib.Core.Path.{_≡_, refl, sym, _∙_}
-use mathlib.Core.Bool.{Bool, true, false, _&&_, _||_}
+use mathlib.Core.Path.{_≡_, refl}
+use mathlib.Core.Bool.{Bool, true, false}
 use mathlib.Core.List.{List, [], _∷_}
-use mathlib.Core.Logic.{_⊎_, inl, inr, ⊎-elim}
-use Prim.Native.Nat.{ℕ, zero, suc, _+_, _≤_, _<_}
+use mathlib.Core.Logic.{inl, inr, ⊎-elim}
+use Prim.Native.Nat.{ℕ, zero, suc, _+_, _<_}
 use native.Mathlib.Omega.{arith}
 use lib.Dec.{eqb}
 use lib.ListN.{length, getD}
 use borrow.Author.Tests.{eqb-true, eq-eqb}
 use Rattle.laws.specs.Choice.{pick, isIn}
 use Rattle.laws.specs.Members.{Among}
-use Rattle.laws.proofs.Tests.{test, never, never-both, and-intro, and-true, or-left, or-right, or-true}
+use Rattle.laws.proofs.Tests.{never, and-intro, and-true, or-left, or-right, or-true}
 use Rattle.laws.proofs.Members.{in-here, in-later, in-cons}
 use Rattle.nests.specs.Nests.{Dep, Nest}
 use Rattle.nests.specs.Gaps.{hasGap}

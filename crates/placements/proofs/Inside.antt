@@ -1,7 +1,7 @@
 -- Loops inside loops: how they are nested, induction from the inner loops outwards, and the loops directly inside one.
 -- Main statements: `inside-lies`, `inside-by`, `inside-inside`, `inside-outermost`, `from-inside`, `right-in-around`.
-use mathlib.Core.Path.{_≡_, refl, sym}
-use mathlib.Core.Bool.{Bool, true, false, _&&_}
+use mathlib.Core.Path.{_≡_}
+use mathlib.Core.Bool.{true, _&&_}
 use mathlib.Core.List.{List}
 use mathlib.Core.Logic.{_⊎_, inl, inr, ⊎-elim}
 use Prim.Native.Nat.{ℕ, zero, suc, _+_, _≤_, _<_}

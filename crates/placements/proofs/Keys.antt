@@ -1,10 +1,10 @@
 -- Keys: all keys of a nest have the same counts, and a key is least loop by loop (demand 3).
 -- Main statements: `keys-agree`, `keys-same-tree`, `key-least-tree`, `same-counts-key`, `by-loops`.
 use mathlib.Core.Path.{_≡_, refl, sym, _∙_}
-use mathlib.Core.Bool.{Bool, true, false, _&&_}
+use mathlib.Core.Bool.{true, _&&_}
 use mathlib.Core.List.{List, [], _∷_}
-use mathlib.Core.Logic.{_⊎_, inl, inr, ⊎-elim}
-use Prim.Native.Nat.{ℕ, zero, suc, _+_, _≤_, _<_}
+use mathlib.Core.Logic.{⊎-elim}
+use Prim.Native.Nat.{ℕ, _≤_, _<_}
 use native.Mathlib.Omega.{arith}
 use lib.Dec.{eqb, ltb}
 use lib.ListN.{length}
@@ -13,11 +13,11 @@ use Rattle.laws.specs.Choice.{isIn, when}
 use Rattle.laws.proofs.Tests.{never, and-true}
 use Rattle.laws.proofs.Members.{in-cons}
 use Rattle.nests.specs.Nests.{Nest}
-use Rattle.nests.specs.Loops.{isDo, ownerOf, inLoop}
+use Rattle.nests.specs.Loops.{isDo, ownerOf}
 use Rattle.nests.specs.Valid.{isShape}
 use Rattle.nests.proofs.Levels.{starts-with-do}
 use Rattle.nests.proofs.Loops.{owner-is-do}
-use Rattle.placements.specs.Placements.{areGapsFrom, areGaps, isCorrect, loopCount, loopsOf, asGood}
+use Rattle.placements.specs.Placements.{areGapsFrom, areGaps, isCorrect, loopCount, loopsOf}
 use Rattle.placements.specs.Trees.{treeOf, asGoodTree}
 use Rattle.placements.specs.Keys.{IsKey, By-loops}
 use Rattle.placements.proofs.Cuts.{correct-gaps}

@@ -1,4 +1,7 @@
 -- Laws of placements.
+pub mod Words
+pub mod Rising
+pub mod Lowest
 pub mod Cuts
 pub mod Inside
 pub mod LoopLists
@@ -8,7 +11,4 @@ pub mod Keys
 pub mod Verdicts
 pub mod Cases
 pub mod Planners
-pub mod Words
-pub mod Rising
-pub mod Lowest
 pub mod CutTest

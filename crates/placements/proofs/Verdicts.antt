@@ -1,13 +1,12 @@
 -- Verdicts mean what they say: Best is said of the keys alone, Dearer of a loop that costs more than in the key, Uncut
 -- of the lowest uncut dependence.
 -- Main statements: `best-iff-key`, `dearer-greater`, `uncut-iff-lowest`.
-use mathlib.Core.Path.{_≡_, refl, sym, _∙_}
-use mathlib.Core.Bool.{Bool, true, false}
-use mathlib.Core.List.{List, [], _∷_}
+use mathlib.Core.Path.{_≡_, refl}
+use mathlib.Core.Bool.{true}
+use mathlib.Core.List.{List}
 use mathlib.Core.Logic.{_↔_}
-use Prim.Native.Nat.{ℕ, zero, suc, _+_, _≤_, _<_}
+use Prim.Native.Nat.{ℕ, zero, suc, _<_}
 use native.Mathlib.Omega.{arith}
-use lib.Dec.{eqb}
 use borrow.Author.Tests.{eq-eqb}
 use Rattle.laws.proofs.Tests.{and-intro}
 use Rattle.nests.specs.Nests.{Dep, Nest}
@@ -15,10 +14,10 @@ use Rattle.nests.specs.Loops.{isDo, endOf}
 use Rattle.nests.specs.Valid.{isShape}
 use Rattle.placements.specs.Placements.{uncut, differ, areGaps, isCorrect, loopCount}
 use Rattle.placements.specs.Keys.{IsKey}
-use Rattle.placements.specs.Verdicts.{Verdict, Uncut, Dearer, Best, verdictBy, markOf}
+use Rattle.placements.specs.Verdicts.{Uncut, Dearer, Best, verdictBy, markOf}
 use Rattle.placements.proofs.Cuts.{correct-uncut, LowestUncut, uncut-first, first-uncut}
 use Rattle.placements.proofs.LoopLists.{Differ, differ-none, none-differ, differ-at}
-use Rattle.placements.proofs.LoopOrder.{SameCounts, asGood-elim}
+use Rattle.placements.proofs.LoopOrder.{asGood-elim}
 use Rattle.placements.proofs.Keys.{keys-agree, same-counts-key}
 
 -- how each verdict comes about

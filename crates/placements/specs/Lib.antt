@@ -1,5 +1,4 @@
--- Placements: cuts, counts, cost trees, keys, verdicts.
--- Placements: cuts, counts, cost trees, keys; placements as words.
+-- Placements: cuts, counts, cost trees, keys, verdicts; placements as words.
 pub mod Placements
 pub mod Words
 pub mod Answers
