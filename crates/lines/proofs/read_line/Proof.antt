@@ -2,6 +2,7 @@
 use mathlib.Core.Path.{_≡_, sym, _∙_}
 use mathlib.Core.Bool.{true}
 use mathlib.Core.List.{List}
+use native.Mathlib.Omega.{arith}
 use Prim.Native.Nat.{ℕ, _-_}
 use lib.ListN.{take, drop}
 use Rattle.lines.specs.Lines.{allHex}
@@ -21,7 +22,7 @@ returns-2 : tie.Need-returns-2
 returns-2 c =
     let s = c .before .before .before .before in
     let e = c .before .line-end in
-    unended (s .args .text .now) (s .args .at) (e .result) (c .before .before .if1 .left) (e .ensures) (c .if2 .taken)
+    unended (s .args .text .now) (s .args .at) (e .result) (c .before .before .if1 .left) (e .ensures) (omega arith)
 
 sub-line : tie.Need-sub-line
 sub-line c = search needs
@@ -78,7 +79,7 @@ returns-3 c =
     (c .before .before .byte-at2 .result)
     (c .before .byte-at3 .result)
     (c .byte-at4 .result)
-    (c .before .before .before .before .before .before .before .if2 .left)
+    (omega arith)
     (sym (t .before .is-digits .ensures) ∙ t .if3 .taken)
     (c .before .before .before .byte-at .ensures)
     (c .before .before .byte-at2 .ensures)

@@ -1,4 +1,5 @@
 -- The tests are those of the definition, in its order.
+use native.Mathlib.Omega.{arith}
 use Rattle.texts.proofs.Barriers.{barrier-kind, barrier-length, barrier-low, barrier-high, barrier-good}
 use borrow.Author.Needs.{needs}
 use Rattle.texts.proofs.barrier_fault.Statement.{statement}
@@ -11,20 +12,20 @@ returns : tie.Need-returns
 returns c l i =
     let a = c .before .before .before .before .before .args in
     let k = c .before .before .before .before .match .keys1 in
-    barrier-low (a .last) (a .points) (a .f) l i k (c .before .before .if1 .taken) (c .if2 .taken)
+    barrier-low (a .last) (a .points) (a .f) l i k (c .before .before .if1 .taken) (omega arith)
 
 returns-2 : tie.Need-returns-2
 returns-2 c l i =
     let a = c .before .before .before .before .before .before .args in
     let k = c .before .before .before .before .before .match .keys1 in
-    barrier-high (a .last) (a .points) (a .f) l i k (c .before .before .before .if1 .taken) (c .if3 .taken)
+    barrier-high (a .last) (a .points) (a .f) l i k (c .before .before .before .if1 .taken) (omega arith)
 
 returns-3 : tie.Need-returns-3
 returns-3 c l i =
     let a = c .before .before .before .before .before .before .args in
     let k = c .before .before .before .before .before .match .keys1 in
     let e = c .before .before .before .if1 .taken in
-    barrier-good (a .last) (a .points) (a .f) l i k e (c .before .if2 .left) (c .if3 .left)
+    barrier-good (a .last) (a .points) (a .f) l i k e (omega arith) (omega arith)
 
 returns-4 : tie.Need-returns-4
 returns-4 c l i =

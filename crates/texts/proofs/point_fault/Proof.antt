@@ -1,6 +1,7 @@
 -- The tests are those of the definition, in its order.
 use mathlib.Core.Path.{sym, _∙_}
 use borrow.Author.Tests.{le-leb, lt-leb}
+use native.Mathlib.Omega.{arith}
 use Rattle.texts.proofs.Faults.{point-is}
 use borrow.Author.Needs.{needs}
 use Rattle.texts.proofs.point_fault.Statement.{statement}
@@ -9,7 +10,7 @@ use Rattle.texts.proofs.point_fault.Tie as tie
 returns : tie.Need-returns
 returns c n h =
     let a = c .before .args in
-    rw (point-is n (a .count) (a .many) (a .depth) h (a .kind), le-leb 1 (a .many) (c .if1 .taken))
+    rw (point-is n (a .count) (a .many) (a .depth) h (a .kind), le-leb 1 (a .many) (omega arith))
 
 is-misplaced-requires : tie.Need-is-misplaced-requires
 is-misplaced-requires c κs = search needs
@@ -19,7 +20,7 @@ returns-2 c n h =
     let a = c .before .before .before .args in
     rw (
       point-is n (a .count) (a .many) (a .depth) h (a .kind),
-      lt-leb 1 (a .many) (c .before .before .if1 .left),
+      lt-leb 1 (a .many) (omega arith),
       sym (c .before .is-misplaced .ensures) ∙ c .if2 .taken,
     )
 
@@ -31,7 +32,7 @@ returns-3 c n h =
     let a = c .before .before .before .before .before .args in
     rw (
       point-is n (a .count) (a .many) (a .depth) h (a .kind),
-      lt-leb 1 (a .many) (c .before .before .before .before .if1 .left),
+      lt-leb 1 (a .many) (omega arith),
       sym (c .before .before .before .is-misplaced .ensures) ∙ c .before .before .if2 .left,
       sym (c .before .is-too-many .ensures) ∙ c .if3 .taken,
     )
@@ -41,7 +42,7 @@ returns-4 c n h =
     let a = c .before .before .before .before .before .args in
     rw (
       point-is n (a .count) (a .many) (a .depth) h (a .kind),
-      lt-leb 1 (a .many) (c .before .before .before .before .if1 .left),
+      lt-leb 1 (a .many) (omega arith),
       sym (c .before .before .before .is-misplaced .ensures) ∙ c .before .before .if2 .left,
       sym (c .before .is-too-many .ensures) ∙ c .if3 .left,
     )
