@@ -1,0 +1,43 @@
+-- The loops of a nest as tables: for each gap its loop, for each DO its ENDDO and its height.
+-- Main definitions: `Charted`, `cell`.
+use mathlib.Core.Path.{_≡_}
+use mathlib.Core.Bool.{true}
+use mathlib.Core.List.{List}
+use Prim.Native.Nat.{ℕ, _+_, _*_, _≤_, _<_}
+use lib.ListN.{length, getD, take}
+use Rattle.nests.specs.Kinds.{POINTS, DEPTH}
+use Rattle.nests.specs.Loops.{isDo, depth, endOf, ownerOf}
+use Rattle.nests.specs.Valid.{isShape}
+
+-- an entry of a list
+abbrev pub at : List ℕ → ℕ → ℕ
+at xs i = getD xs i 0
+
+-- a table with a row of 256 entries for each height, 0 to 8
+abbrev pub ROW : ℕ
+ROW = 256
+
+abbrev pub TABLE : ℕ
+TABLE = 2304
+
+-- the place of q in the row of loop d. At one height the loops' ranges are disjoint, so that they share a row
+abbrev pub cell : List ℕ → ℕ → ℕ → ℕ
+cell heights d q = at heights d * ROW + q
+
+-- the points of a nest within the limits
+pub record Points (ps : List ℕ) : Type 0 where
+  pub shape : isShape ps ≡ true
+  pub few : length ps ≤ POINTS
+
+-- the height of a loop is 8 less its depth, the outermost at depth 0
+pub record Charted (ps own ends heights : List ℕ) : Type 0 where
+  pub own-is : (g : ℕ) → g < length ps → at own g ≡ ownerOf ps g
+  pub own-low : (g : ℕ) → at own g ≤ g
+  pub ends-is : (d : ℕ) → isDo ps d ≡ true → at ends d ≡ endOf ps d
+  pub heights-is : (d : ℕ) → isDo ps d ≡ true → at heights d + depth (take d ps) ≡ DEPTH
+
+-- room for an entry at each point
+pub record ChartRoom (own ends heights : List ℕ) : Type 0 where
+  pub own-room : POINTS ≤ length own
+  pub ends-room : POINTS ≤ length ends
+  pub heights-room : POINTS ≤ length heights
