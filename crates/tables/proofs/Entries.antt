@@ -30,6 +30,11 @@ module _ (xs : List ℕ) (i v : ℕ) where
 pub entry-past : (xs : List ℕ) (i : ℕ) → length xs ≤ i → at xs i ≡ 0
 entry-past xs i h = List·getD-eq-default xs 0 h
 
+-- entries that are 0 up to the end are all 0
+pub all-zero : (xs : List ℕ) (n : ℕ) → length xs ≡ n → ((i : ℕ) → i < n → at xs i ≡ 0) → (i : ℕ) → at xs i ≡ 0
+all-zero xs n e z i =
+    ⊎-elim (λ (h : n ≤ i). entry-past xs i (omega arith)) (λ (h : i < n). z i h) (le-or n i)
+
 -- the lesser of an entry and t in its place, stored or left
 pub lowered : (xs : List ℕ) (i t : ℕ) → t < at xs i → set xs i t ≡ set xs i (min t (at xs i))
 lowered xs i t h = let z : min t (at xs i) ≡ t = omega arith in rw z

@@ -1,2 +1,4 @@
--- Laws of the tables.
+-- Laws of the tables: entries of a list after a store; the pass over the points.
 pub mod Entries
+pub mod Charting
+pub mod Climbing

@@ -29,12 +29,16 @@ pub record Points (ps : List ℕ) : Type 0 where
   pub shape : isShape ps ≡ true
   pub few : length ps ≤ POINTS
 
--- the height of a loop is 8 less its depth, the outermost at depth 0
-pub record Charted (ps own ends heights : List ℕ) : Type 0 where
+-- the loop of each gap, and of each DO its ENDDO
+pub record Owned (ps own ends : List ℕ) : Type 0 where
   pub own-is : (g : ℕ) → g < length ps → at own g ≡ ownerOf ps g
   pub own-low : (g : ℕ) → at own g ≤ g
-  pub ends-is : (d : ℕ) → isDo ps d ≡ true → at ends d ≡ endOf ps d
-  pub heights-is : (d : ℕ) → isDo ps d ≡ true → at heights d + depth (take d ps) ≡ DEPTH
+  pub ends-are : (d : ℕ) → isDo ps d ≡ true → at ends d ≡ endOf ps d
+
+-- and of each DO its height, 8 less the depth, which is 0 for the outermost
+pub record Charted (ps own ends heights : List ℕ) : Type 0 where
+  pub owned : Owned ps own ends
+  pub heights-are : (d : ℕ) → isDo ps d ≡ true → at heights d + depth (take d ps) ≡ DEPTH
 
 -- room for an entry at each point
 pub record ChartRoom (own ends heights : List ℕ) : Type 0 where

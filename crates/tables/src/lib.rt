@@ -3,14 +3,14 @@ use nests::{Nest, Dependence};
 ghost use mathlib.Core.Path.{_≡_};
 ghost use mathlib.Core.Bool.{true};
 ghost use mathlib.Core.List.{List, _∷_};
-ghost use Prim.Native.Nat.{ℕ, _+_, _<_, _≤_, min};
+ghost use Prim.Native.Nat.{ℕ, suc, _+_, _<_, _≤_, min};
 ghost use lib.ListN.{length, getD, set};
 ghost use Rattle.nests.specs.Kinds.{POINTS};
 ghost use Rattle.nests.specs.Nests.{Dep};
 ghost use Rattle.nests.specs.Loops.{isDo, ownerFrom};
 ghost use Rattle.nests.specs.Stored.{depIn, nestIn, IsCounted};
 ghost use Rattle.nests.proofs.Deps.{Fits};
-ghost use Rattle.tables.specs.Charts.{at, Points, Charted, ChartRoom, TABLE};
+ghost use Rattle.tables.specs.Charts.{at, Points, Owned, Charted, ChartRoom, TABLE};
 ghost use Rattle.tables.specs.Collected.{AllFit, Collected, LinesRoom, Narrowed};
 ghost use Rattle.tables.specs.Prepared.{Prepared};
 
@@ -37,3 +37,53 @@ fn fill(xs: &mut [usize], v: usize)
         i += 1;
     }
 }
+
+// The loop of each gap, and of each DO its ENDDO and its height; no other gap has a loop.
+pub fn chart(points: &[u8], own: &mut [usize], ends: &mut [usize], heights: &mut [usize])
+    requires { ⌜ Points (now points) ⌝ }
+    requires { ⌜ ChartRoom (now own) (now ends) (now heights) ⌝ }
+    ensures { λ r. ⌜ Charted (now (points .entry)) (now (own .exit)) (now (ends .exit)) (now (heights .exit)) ⌝ }
+{
+    fill(own, 0);
+    let mut o = 0;
+    let mut h = Nest::DEPTH;
+    let mut i = 0;
+    while i < points.len() {
+        own[i] = o;
+        let kind = points[i];
+        if kind == nests::DO {
+            heights[i] = h;
+            h -= 1;
+            o = i;
+            i += 1;
+        } else if kind == nests::ENDDO {
+            ends[o] = i;
+            h += 1;
+            o = own[o];
+            i += 1;
+        } else {
+            i += 1;
+        }
+    }
+}
+
+// The innermost loop that holds all gaps from s + 1 to t.
+fn home_of(points: &[u8], own: &[usize], ends: &[usize], s: usize, t: usize) -> usize
+    requires { ⌜ Points (now points) ⌝ }
+    requires { ⌜ Owned (now points) (now own) (now ends) ⌝ }
+    requires { ⌜ POINTS ≤ length (now own) ⌝ }
+    requires { ⌜ POINTS ≤ length (now ends) ⌝ }
+    requires { ⌜ s < t ⌝ }
+    requires { ⌜ t < length (now points) ⌝ }
+    ensures { λ r. ⌜ r ≡ ownerFrom (suc s) t (now (points .entry)) ⌝ }
+{
+    let mut l = own[s];
+    if points[s] == nests::DO {
+        l = s;
+    }
+    while ends[l] < t {
+        l = own[l];
+    }
+    l
+}
+
