@@ -1,57 +1,67 @@
+-- `home_of` meets its contract: no loop that reaches the target is passed (`Climbing`). The measure is the loop itself.
+use mathlib.Core.Logic.{⊎-elim}
+use native.Mathlib.Omega.{arith}
+use borrow.Author.Needs.{needs}
+use Rattle.tables.proofs.Climbing.{Climbing, climb-from-do, climb-from-owner, climb-falls, climb-on, climb-done}
 use Rattle.tables.proofs.home_of.Statement.{statement}
 use Rattle.tables.proofs.home_of.Tie as tie
-use Rattle.tables.proofs.home_of.Reads as reads
-use Rattle.tables.proofs.home_of.Lts as lts
 
 abbrev Inv-loop : tie.InvT-loop
-Inv-loop points own ends s t l₀ l = ?
+Inv-loop points own ends s t l₀ l = Climbing points s t l
 
 abbrev μ-loop : tie.MeasureT-loop
-μ-loop points own ends s t l₀ l = ?
+μ-loop points own ends s t l₀ l = l
 
--- src/lib.rt:80:17
 mul-l : tie.Need-mul-l Inv-loop μ-loop
-mul-l c = ?
+mul-l c = search needs
 
--- src/lib.rt:80:17
 shared-slice-read-l : tie.Need-shared-slice-read-l Inv-loop μ-loop
-shared-slice-read-l c = ?
+shared-slice-read-l c = search needs
 
--- src/lib.rt:81:8
 shared-slice-read-if1 : tie.Need-shared-slice-read-if1 Inv-loop μ-loop
-shared-slice-read-if1 c = ?
+shared-slice-read-if1 c = search needs
 
--- src/lib.rt:84:5
 loop-holds : tie.Need-loop-holds Inv-loop μ-loop
-loop-holds c = ?
+loop-holds c = 
+    let a = c .before .before .before .args in
+    let w = c .before .before .before .pre in
+    ⊎-elim
+    (λ x. rw (x .1) (climb-from-do (a .points .now) (w .0) (a .own .now) (a .ends .now) (w .1 .0) (a .s) (a .t) (w .1 .1 .1 .1 .0) (w .1 .1 .1 .1 .1) (x .0 .taken)))
+    (λ x. rw (x .1) (climb-from-owner (a .points .now) (w .0) (a .own .now) (a .ends .now) (w .1 .0) (a .s) (a .t) (w .1 .1 .1 .1 .0) (w .1 .1 .1 .1 .1) (x .0 .left)))
+    (c .if1 .came)
 
--- src/lib.rt:84:11
 mul-if2 : tie.Need-mul-if2 Inv-loop μ-loop
-mul-if2 c = ?
+mul-if2 c = search needs
 
--- src/lib.rt:84:11
 shared-slice-read-if2 : tie.Need-shared-slice-read-if2 Inv-loop μ-loop
-shared-slice-read-if2 c = ?
+shared-slice-read-if2 c = search needs
 
--- src/lib.rt:85:13
 mul-l-2 : tie.Need-mul-l-2 Inv-loop μ-loop
-mul-l-2 c = ?
+mul-l-2 c = search needs
 
--- src/lib.rt:85:13
 shared-slice-read-l-2 : tie.Need-shared-slice-read-l-2 Inv-loop μ-loop
-shared-slice-read-l-2 c = ?
+shared-slice-read-l-2 c = search needs
 
--- src/lib.rt:84:5
 loop-less : tie.Need-loop-less Inv-loop μ-loop
-loop-less c = ?
+loop-less c = 
+    let a = c .before .before .before .before .before .before .before .before .args in
+    let w = c .before .before .before .before .before .before .before .before .pre in
+    let l = c .before .before .before .before .loop in
+    climb-falls (a .points .now) (w .0) (a .own .now) (a .ends .now) (w .1 .0) (a .s) (a .t) (w .1 .1 .1 .1 .0) (w .1 .1 .1 .1 .1) (l .l) (l .inv) (c .before .before .if2 .taken)
 
--- src/lib.rt:84:5
 loop-again : tie.Need-loop-again Inv-loop μ-loop
-loop-again c = ?
+loop-again c = 
+    let a = c .before .before .before .before .before .before .before .before .args in
+    let w = c .before .before .before .before .before .before .before .before .pre in
+    let l = c .before .before .before .before .loop in
+    climb-on (a .points .now) (w .0) (a .own .now) (a .ends .now) (w .1 .0) (a .s) (a .t) (w .1 .1 .1 .1 .0) (w .1 .1 .1 .1 .1) (l .l) (l .inv) (c .before .before .if2 .taken)
 
--- src/lib.rt:71:1
 returns : tie.Need-returns Inv-loop μ-loop
-returns c = ?
+returns c = 
+    let a = c .before .before .before .before .before .before .args in
+    let w = c .before .before .before .before .before .before .pre in
+    let l = c .before .before .loop in
+    climb-done (a .points .now) (w .0) (a .own .now) (a .ends .now) (w .1 .0) (a .s) (a .t) (w .1 .1 .1 .1 .0) (w .1 .1 .1 .1 .1) (l .l) (l .inv) (c .if2 .left)
 
 pub home-of-spec : {M : Type 1} → statement M
 home-of-spec =
