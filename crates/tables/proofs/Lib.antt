@@ -2,3 +2,5 @@
 pub mod Entries
 pub mod Charting
 pub mod Climbing
+pub mod Cells
+pub mod Collecting

@@ -1,5 +1,5 @@
 -- The loops of a nest as tables: for each gap its loop, for each DO its ENDDO and its height.
--- Main definitions: `Charted`, `cell`.
+-- Main definitions: `Charted`, `cell`, `Rows`.
 use mathlib.Core.Path.{_≡_}
 use mathlib.Core.Bool.{true}
 use mathlib.Core.List.{List}
@@ -39,6 +39,10 @@ pub record Owned (ps own ends : List ℕ) : Type 0 where
 pub record Charted (ps own ends heights : List ℕ) : Type 0 where
   pub owned : Owned ps own ends
   pub heights-are : (d : ℕ) → isDo ps d ≡ true → at heights d + depth (take d ps) ≡ DEPTH
+
+-- a table whose entry for each loop d and each gap q of its range is f d q
+abbrev pub Rows : List ℕ → List ℕ → List ℕ → (ℕ → ℕ → ℕ) → Type 0
+Rows ps heights xs f = (d q : ℕ) → isDo ps d ≡ true → d < q → q ≤ endOf ps d → at xs (cell heights d q) ≡ f d q
 
 -- room for an entry at each point
 pub record ChartRoom (own ends heights : List ℕ) : Type 0 where

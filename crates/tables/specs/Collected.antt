@@ -11,10 +11,10 @@ use Rattle.laws.specs.Bits.{one}
 use Rattle.laws.specs.Members.{Among}
 use Rattle.nests.specs.Kinds.{INDEPENDENT, POINTS}
 use Rattle.nests.specs.Nests.{Dep}
-use Rattle.nests.specs.Loops.{isDo, endOf}
+use Rattle.nests.specs.Loops.{isDo}
 use Rattle.nests.proofs.Deps.{Fits}
 use Rattle.planner.specs.Home.{homeOf, leastEnd, reachOf, hasAt}
-use Rattle.tables.specs.Charts.{at, cell, TABLE}
+use Rattle.tables.specs.Charts.{at, Rows, TABLE}
 
 -- all dependences are placed well
 abbrev pub AllFit : List ℕ → List Dep → Type 0
@@ -30,8 +30,8 @@ backOf ps ds d q = leastEnd (leavesAt ps d q) (length ps) ds
 
 -- each dependence stands in the row of its home: independent ones where their gaps start, carried ones at their source
 pub record Collected (ps : List ℕ) (ds : List Dep) (heights reach back has : List ℕ) : Type 0 where
-  pub reach-is : (d a : ℕ) → isDo ps d ≡ true → d < a → a ≤ endOf ps d → at reach (cell heights d a) ≡ reachOf ps ds d a
-  pub back-is : (d q : ℕ) → isDo ps d ≡ true → d < q → q ≤ endOf ps d → at back (cell heights d q) ≡ backOf ps ds d q
+  pub reach-is : Rows ps heights reach (reachOf ps ds)
+  pub back-is : Rows ps heights back (backOf ps ds)
   pub has-is : (d : ℕ) → isDo ps d ≡ true → at has d ≡ one (hasAt ps ds d)
 
 pub record LinesRoom (reach limit has : List ℕ) : Type 0 where

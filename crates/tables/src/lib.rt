@@ -87,3 +87,36 @@ fn home_of(points: &[u8], own: &[usize], ends: &[usize], s: usize, t: usize) -> 
     l
 }
 
+// One dependence more: it stands in its home's row.
+fn enter(
+    points: &[u8],
+    own: &[usize],
+    ends: &[usize],
+    heights: &[usize],
+    reach: &mut [usize],
+    back: &mut [usize],
+    has: &mut [usize],
+    e: Dependence,
+)
+    requires { ⌜ Points (now points) ⌝ }
+    requires { ⌜ Charted (now points) (now own) (now ends) (now heights) ⌝ }
+    requires { ⌜ ChartRoom (now own) (now ends) (now heights) ⌝ }
+    requires { ⌜ LinesRoom (now reach) (now back) (now has) ⌝ }
+    requires { ⌜ Fits (now points) (depIn e) ⌝ }
+    ensures {
+        λ r. ⌜ ((ds : List Dep) → Collected (now (points .entry)) ds (now (heights .entry)) (now (reach .entry)) (now (back .entry)) (now (has .entry)) → Collected (now (points .entry)) (depIn e ∷ ds) (now (heights .entry)) (now (reach .exit)) (now (back .exit)) (now (has .exit))) ⌝
+    }
+{
+    let s = e.s as usize;
+    let t = e.t as usize;
+    if e.kind == nests::INDEPENDENT {
+        let home = home_of(points, own, ends, s, t);
+        lower(reach, heights[home] * ROW + (s + 1), t);
+        has[home] = 1;
+        return;
+    }
+    let d = e.d as usize;
+    lower(back, heights[d] * ROW + s, t);
+    has[d] = 1;
+}
+
