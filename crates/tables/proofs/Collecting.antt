@@ -4,26 +4,30 @@ use mathlib.Core.Path.{_≡_, refl, sym, ap, _∙_}
 use mathlib.Core.Bool.{Bool, true, false, _&&_, _||_, not}
 use mathlib.Core.List.{List, [], _∷_}
 use mathlib.Core.Logic.{_⊎_, inl, inr, ⊎-elim}
-use Prim.Native.Nat.{ℕ, suc, _+_, _≤_, _<_, min}
+use Prim.Native.Nat.{ℕ, zero, suc, _+_, _-_, _≤_, _<_, min}
 use native.Mathlib.Numerals.{add-one}
 use native.Mathlib.Omega.{arith}
 use lib.Dec.{eqb}
-use lib.ListN.{length, set}
+use lib.ListN.{length, getD, drop, set, drop-of-length-le}
 use borrow.Author.Tests.{eqb-true, eq-eqb, ne-eqb}
 use Rattle.laws.specs.Bits.{one}
 use Rattle.laws.specs.Choice.{pick}
+use Rattle.laws.specs.Members.{Among}
 use Rattle.laws.proofs.Tests.{never, never-both, eq-or, and-true, and-intro}
 use Rattle.nests.specs.Kinds.{INDEPENDENT, CARRIED, POINTS}
 use Rattle.nests.specs.Nests.{Dep}
 use Rattle.nests.specs.Loops.{isDo, endOf, ownerFrom}
+use Rattle.nests.specs.declared.Dependence as DE
+use Rattle.nests.specs.Stored.{depIn, depsIn}
+use Rattle.nests.proofs.Stored.{depsIn-at}
 use Rattle.nests.proofs.Levels.{point-in}
 use Rattle.nests.proofs.Loops.{Owner, end-there}
 use Rattle.nests.proofs.Deps.{Line, Back, Fits}
 use Rattle.nests.proofs.Gaps.{home-law}
 use Rattle.planner.specs.Home.{homeOf, startsAt, leastEnd, reachOf, hasAt}
 use Rattle.tables.specs.Charts.{at, ROW, TABLE, cell, Rows, Points, Charted}
-use Rattle.tables.specs.Collected.{leavesAt, backOf, Collected, LinesRoom}
-use Rattle.tables.proofs.Entries.{entry-here, entry-elsewhere}
+use Rattle.tables.specs.Collected.{AllFit, leavesAt, backOf, Collected, LinesRoom}
+use Rattle.tables.proofs.Entries.{entry-here, entry-elsewhere, all-zero}
 use Rattle.tables.proofs.Cells.{cell-fits, same-cell}
 
 -- with no dependence every cell holds n and no loop is a home
@@ -176,3 +180,72 @@ module _ (ps : List ℕ) (w : Points ps) (own ends heights : List ℕ) (c : Char
             let y = and-true (not (eqb (e .kind) INDEPENDENT)) (eqb (homeOf ps e) d && eqb (e .s) q) h in
             let z = and-true (eqb (homeOf ps e) d) (eqb (e .s) q) (y .1) in
             (sym (eqb-true (homeOf ps e) d (z .0)) ∙ home-is, sym (eqb-true (e .s) q (z .1)))
+
+-- the dependences from the i-th on are in the tables
+pub record Collecting (ps : List ℕ) (ds : List Dep) (heights : List ℕ) (i : ℕ) (reach back has : List ℕ) : Type 0 where
+  pub here : i ≤ length ds
+  pub rest : Collected ps (drop i ds) heights reach back has
+  pub room : LinesRoom reach back has
+
+pub collect-start :
+    (ps : List ℕ) → Points ps → (own ends heights : List ℕ) → Charted ps own ends heights → (ds : List Dep) (i : ℕ) →
+    i ≡ length ds → (reach back has : List ℕ) → LinesRoom reach back has →
+    ((k : ℕ) → k < length reach → at reach k ≡ length ps) → ((k : ℕ) → k < length back → at back k ≡ length ps) →
+    ((k : ℕ) → k < length has → at has k ≡ 0) → Collecting ps ds heights i reach back has
+collect-start ps w own ends heights c ds i e reach back has room r b z =
+    record { here = omega arith; rest = rw (drop-of-length-le ds at-end) none; room = room }
+  where
+    at-end : length ds ≤ i
+    at-end = omega arith
+
+    none : Collected ps [] heights reach back has
+    none =
+        collect-none ps heights reach back has (λ k l. r k (omega (arith, room .reach-room)))
+        (λ k l. b k (omega (arith, room .limit-room))) (all-zero has (length has) refl z)
+        (cell-there ps w own ends heights c)
+
+pub collect-done :
+    (ps : List ℕ) (ds : List Dep) (heights : List ℕ) (i : ℕ) (reach back has : List ℕ) → i ≤ 0 →
+    Collecting ps ds heights i reach back has → Collected ps ds heights reach back has
+collect-done ps ds heights i reach back has l p =
+    let z : i ≡ 0 = omega arith in
+    rw z at (p .rest)
+
+-- the dependence at i stands in front of the rest, and is one of them
+among-drop : (e : Dep) (ds es : List Dep) (i : ℕ) → drop i ds ≡ e ∷ es → Among e ds
+among-drop e [] es zero h = let z : _≡_ {A = ℕ} 0 1 = cc h in absurd (omega arith)
+among-drop e [] es (suc i) h = let z : _≡_ {A = ℕ} 0 1 = cc h in absurd (omega arith)
+among-drop e (x ∷ ds) es zero h = inl (cc h)
+among-drop e (x ∷ ds) es (suc i) h = inr (among-drop e ds es i h)
+
+-- what a list of dependences has past its end
+abbrev no-dependence : DE.Dependence
+no-dependence = record { kind = 0; d = 0; s = 0; t = 0 }
+
+-- the first n dependences of an array are there
+pub deps-there : (n : ℕ) (xs : List DE.Dependence) → length (depsIn n xs) ≤ length xs
+deps-there zero xs = omega arith
+deps-there (suc n) [] = omega arith
+deps-there (suc n) (x ∷ xs) = omega (arith, deps-there n xs)
+
+module _ (ps : List ℕ) (n : ℕ) (xs : List DE.Dependence) (room : n ≤ length xs) (i : ℕ) (l : 0 < i) (m : i ≤ n) where
+  here-is : drop (i - 1) (depsIn n xs) ≡ depIn (getD xs (i - 1) no-dependence) ∷ drop i (depsIn n xs)
+  here-is =
+      let e : suc (i - 1) ≡ i = omega arith in
+      rw e at (depsIn-at n xs (i - 1) no-dependence (omega arith) room)
+
+  pub fits-here : AllFit ps (depsIn n xs) → Fits ps (depIn (getD xs (i - 1) no-dependence))
+  fits-here f = f (depIn (getD xs (i - 1) no-dependence)) (among-drop (depIn (getD xs (i - 1) no-dependence)) (depsIn n xs) (drop i (depsIn n xs)) (i - 1) here-is)
+
+  pub collect-on :
+      (heights reach back has reach′ back′ has′ : List ℕ) → Collecting ps (depsIn n xs) heights i reach back has →
+      LinesRoom reach′ back′ has′ →
+      ((ds : List Dep) → Collected ps ds heights reach back has →
+      Collected ps (depIn (getD xs (i - 1) no-dependence) ∷ ds) heights reach′ back′ has′) →
+      Collecting ps (depsIn n xs) heights (i - 1) reach′ back′ has′
+  collect-on heights reach back has reach′ back′ has′ p r f =
+      record {
+        here = omega (arith, p .here);
+        rest = rw here-is (f (drop i (depsIn n xs)) (p .rest));
+        room = r;
+      }

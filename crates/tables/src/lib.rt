@@ -120,3 +120,35 @@ fn enter(
     has[d] = 1;
 }
 
+// All dependences of the nest.
+fn collect(
+    nest: Nest,
+    points: &[u8],
+    own: &[usize],
+    ends: &[usize],
+    heights: &[usize],
+    reach: &mut [usize],
+    back: &mut [usize],
+    has: &mut [usize],
+)
+    requires { ⌜ Points (now points) ⌝ }
+    requires { ⌜ Charted (now points) (now own) (now ends) (now heights) ⌝ }
+    requires { ⌜ ChartRoom (now own) (now ends) (now heights) ⌝ }
+    requires { ⌜ LinesRoom (now reach) (now back) (now has) ⌝ }
+    requires { ⌜ IsCounted nest ⌝ }
+    requires { ⌜ AllFit (now points) (nestIn nest .deps) ⌝ }
+    ensures {
+        λ r. ⌜ Collected (now (points .entry)) (nestIn nest .deps) (now (heights .entry)) (now (reach .exit)) (now (back .exit)) (now (has .exit)) ⌝
+    }
+{
+    fill(reach, points.len());
+    fill(back, points.len());
+    fill(has, 0);
+    let mut i = nest.many;
+    while 0 < i {
+        i -= 1;
+        let e = nest.deps[i];
+        enter(points, own, ends, heights, reach, back, has, e);
+    }
+}
+
