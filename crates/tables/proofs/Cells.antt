@@ -11,12 +11,12 @@ use Rattle.nests.specs.Kinds.{DEPTH}
 use Rattle.nests.specs.Loops.{isDo, endOf}
 use Rattle.nests.proofs.Levels.{lev, lev-up, lev-deep, point-in}
 use Rattle.nests.proofs.Loops.{range-above, end-there}
-use Rattle.tables.specs.Charts.{at, ROW, TABLE, cell, Points, Charted}
+use Rattle.tables.specs.Charts.{at, ROW, TABLE, cell, Points, HeightsAre}
 
-module _ (ps : List ℕ) (w : Points ps) (own ends heights : List ℕ) (c : Charted ps own ends heights) where
+module _ (ps : List ℕ) (w : Points ps) (heights : List ℕ) (tall : HeightsAre ps heights) where
   height-level : (d : ℕ) → isDo ps d ≡ true → at heights d + lev ps d ≡ DEPTH
   unfolding lev
-  height-level d h = c .heights-are d h
+  height-level d h = tall d h
 
   pub height-most : (d : ℕ) → isDo ps d ≡ true → at heights d ≤ DEPTH
   height-most d h = omega (arith, height-level d h)

@@ -18,7 +18,7 @@ use Rattle.nests.specs.Loops.{isDo, isEnd, endOf, ownerOf}
 use Rattle.nests.proofs.Levels.{lev, lev-zero, lev-up, lev-falls, lev-same, lev-deep, end-not-first}
 use Rattle.nests.proofs.Loops.{owner-from-below, owner-is-do, owner-below, end-has-do, owner-of-end, end-is-end, end-there, end-after}
 use Rattle.nests.proofs.Gaps.{owner-after-do, owner-after-end, owner-after-plain}
-use Rattle.tables.specs.Charts.{at, Points, Owned, Charted, ChartRoom}
+use Rattle.tables.specs.Charts.{at, Points, Charted, ChartRoom}
 use Rattle.tables.proofs.Entries.{entry-here, entry-elsewhere, entries-more}
 
 pub owner-at-most : (ps : List ℕ) (g : ℕ) → ownerOf ps g ≤ g
@@ -59,12 +59,9 @@ pub chart-done :
 unfolding lev
 chart-done ps w i o h own ends heights l p =
     record {
-      owned =
-          record {
-            own-is = λ g m. p .own-is g (omega arith);
-            own-low = low;
-            ends-are = λ d k. p .ends-are d k (omega (arith, end-there ps (w .shape) d k));
-          };
+      own-is = λ g m. p .own-is g (omega arith);
+      own-low = low;
+      ends-are = λ d k. p .ends-are d k (omega (arith, end-there ps (w .shape) d k));
       heights-are = λ d k. p .heights-are d k (omega (arith, end-there ps (w .shape) d k, end-after ps (w .shape) d k));
     }
   where

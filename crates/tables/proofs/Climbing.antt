@@ -15,7 +15,7 @@ use Rattle.laws.proofs.Tests.{never-both, eq-or}
 use Rattle.nests.specs.Loops.{isDo, endOf, ownerFrom, ownerOf}
 use Rattle.nests.proofs.Levels.{starts-with-do}
 use Rattle.nests.proofs.Loops.{Owner, owner-law, owner-from-is, outermost}
-use Rattle.tables.specs.Charts.{at, Points, Owned}
+use Rattle.tables.specs.Charts.{at, Points, OwnIs, EndsAre}
 
 -- every loop that starts up to s and reaches t starts up to l
 pub record Climbing (ps : List ℕ) (s t l : ℕ) : Type 0 where
@@ -24,14 +24,14 @@ pub record Climbing (ps : List ℕ) (s t l : ℕ) : Type 0 where
   pub most : (d : ℕ) → isDo ps d ≡ true → d ≤ s → t ≤ endOf ps d → d ≤ l
 
 module _
-  (ps : List ℕ) (w : Points ps) (own ends : List ℕ) (c : Owned ps own ends) (s t : ℕ) (f : s < t) (u : t < length ps)
+  (ps : List ℕ) (w : Points ps) (own ends : List ℕ) (owners : OwnIs ps own) (stops : EndsAre ps ends) (s t : ℕ) (f : s < t) (u : t < length ps)
   where
   pub climb-from-do : getD ps s 0 ≡ 1 → Climbing ps s t s
   climb-from-do k =
       record { loop = eq-eqb (getD ps s 0) 1 k; low = omega arith; most = λ d a b e. b }
 
   pub climb-from-owner : (getD ps s 0 ≡ 1 → ⊥) → Climbing ps s t (at own s)
-  climb-from-owner k = rw (c .own-is s (omega arith)) from-owner
+  climb-from-owner k = rw (owners s (omega arith)) from-owner
     where
       no-do : isDo ps s ≡ false
       no-do = ne-eqb (getD ps s 0) 1 k
@@ -62,7 +62,7 @@ module _
     passed : at ends l < t → 0 < l
     passed h = ⊎-elim
         (λ (z : l ≡ 0). 
-        let e : at ends 0 ≡ endOf ps 0 = c .ends-are 0 (starts-with-do ps (w .shape)) in
+        let e : at ends 0 ≡ endOf ps 0 = stops 0 (starts-with-do ps (w .shape)) in
         let y : at ends 0 < t = rw z at h in
         absurd (omega (arith, outermost ps (w .shape))))
         (λ (z : l ≡ 0 → ⊥). omega arith)
@@ -72,10 +72,10 @@ module _
     around h = owner-law ps (w .shape) l (passed h) (omega (arith, p .low))
 
     pub climb-falls : at ends l < t → at own l < l
-    climb-falls h = omega (arith, c .own-is l (omega (arith, p .low)), around h .below)
+    climb-falls h = omega (arith, owners l (omega (arith, p .low)), around h .below)
 
     pub climb-on : at ends l < t → Climbing ps s t (at own l)
-    climb-on h = rw (c .own-is l (omega (arith, p .low)))
+    climb-on h = rw (owners l (omega (arith, p .low)))
         (record {
           loop = around h .loop;
           low = omega (arith, around h .below, p .low);
@@ -86,7 +86,7 @@ module _
         most d a b e = ⊎-elim
             (λ (z : d ≡ l).
             let y : t ≤ endOf ps l = rw z at e in
-            absurd (omega (arith, c .ends-are l (p .loop))))
+            absurd (omega (arith, stops l (p .loop))))
             (λ (z : d ≡ l → ⊥).
             around h .most d a (omega (arith, p .most d a b e)) (omega (arith, p .low)))
             (eq-or d l)
@@ -98,6 +98,6 @@ module _
         (record {
           loop = p .loop;
           below = omega (arith, p .low);
-          holds = omega (arith, c .ends-are l (p .loop));
+          holds = omega (arith, stops l (p .loop));
           most = λ d a b e. p .most d a (omega arith) e;
         }))

@@ -25,7 +25,7 @@ use Rattle.nests.proofs.Loops.{Owner, end-there}
 use Rattle.nests.proofs.Deps.{Line, Back, Fits}
 use Rattle.nests.proofs.Gaps.{home-law}
 use Rattle.planner.specs.Home.{homeOf, startsAt, leastEnd, reachOf, hasAt}
-use Rattle.tables.specs.Charts.{at, ROW, TABLE, cell, Rows, Points, Charted}
+use Rattle.tables.specs.Charts.{at, ROW, TABLE, cell, Rows, Points, HeightsAre}
 use Rattle.tables.specs.Collected.{AllFit, leavesAt, backOf, Collected, LinesRoom}
 use Rattle.tables.proofs.Entries.{entry-here, entry-elsewhere, all-zero}
 use Rattle.tables.proofs.Cells.{cell-fits, same-cell}
@@ -64,12 +64,12 @@ pub is-back : (ps : List ℕ) (e : Dep) → Fits ps e → (e .kind ≡ INDEPENDE
 is-back ps e (inl f) k = absurd (k (f .kind-is))
 is-back ps e (inr f) k = f
 
-module _ (ps : List ℕ) (w : Points ps) (own ends heights : List ℕ) (c : Charted ps own ends heights) where
+module _ (ps : List ℕ) (w : Points ps) (heights : List ℕ) (tall : HeightsAre ps heights) where
   range-fits : (d q : ℕ) → isDo ps d ≡ true → q ≤ endOf ps d → q < ROW
   range-fits d q h m = omega (arith, end-there ps (w .shape) d h, w .few)
 
   pub cell-there : (d q : ℕ) → isDo ps d ≡ true → d < q → q ≤ endOf ps d → cell heights d q < TABLE
-  cell-there d q h l m = cell-fits ps w own ends heights c d q h (range-fits d q h m)
+  cell-there d q h l m = cell-fits ps w heights tall d q h (range-fits d q h m)
 
   -- where a dependence stands: its home is a point, and its cell is in the table
   line-home : (e : Dep) → Line ps e → (x : ℕ) → x ≡ ownerFrom (suc (e .s)) (e .t) ps → Owner ps (suc (e .s)) (e .t) x
@@ -114,7 +114,7 @@ module _ (ps : List ℕ) (w : Points ps) (own ends heights : List ℕ) (c : Char
       go false z =
           entry-elsewhere xs (cell heights x r) v (cell heights d q)
           (λ s.
-          let o = same-cell ps w own ends heights c d q x r h l m k a b s in
+          let o = same-cell ps w heights tall d q x r h l m k a b s in
           never-both (rw (← o .0, ← o .1) at hit) z) ∙
           p d q h l m
 
@@ -188,11 +188,11 @@ pub record Collecting (ps : List ℕ) (ds : List Dep) (heights : List ℕ) (i : 
   pub room : LinesRoom reach back has
 
 pub collect-start :
-    (ps : List ℕ) → Points ps → (own ends heights : List ℕ) → Charted ps own ends heights → (ds : List Dep) (i : ℕ) →
+    (ps : List ℕ) → Points ps → (heights : List ℕ) → HeightsAre ps heights → (ds : List Dep) (i : ℕ) →
     i ≡ length ds → (reach back has : List ℕ) → LinesRoom reach back has →
     ((k : ℕ) → k < length reach → at reach k ≡ length ps) → ((k : ℕ) → k < length back → at back k ≡ length ps) →
     ((k : ℕ) → k < length has → at has k ≡ 0) → Collecting ps ds heights i reach back has
-collect-start ps w own ends heights c ds i e reach back has room r b z =
+collect-start ps w heights tall ds i e reach back has room r b z =
     record { here = omega arith; rest = rw (drop-of-length-le ds at-end) none; room = room }
   where
     at-end : length ds ≤ i
@@ -202,7 +202,7 @@ collect-start ps w own ends heights c ds i e reach back has room r b z =
     none =
         collect-none ps heights reach back has (λ k l. r k (omega (arith, room .reach-room)))
         (λ k l. b k (omega (arith, room .limit-room))) (all-zero has (length has) refl z)
-        (cell-there ps w own ends heights c)
+        (cell-there ps w heights tall)
 
 pub collect-done :
     (ps : List ℕ) (ds : List Dep) (heights : List ℕ) (i : ℕ) (reach back has : List ℕ) → i ≤ 0 →

@@ -4,3 +4,4 @@ pub mod Charting
 pub mod Climbing
 pub mod Cells
 pub mod Collecting
+pub mod Narrowing

@@ -29,16 +29,23 @@ pub record Points (ps : List ℕ) : Type 0 where
   pub shape : isShape ps ≡ true
   pub few : length ps ≤ POINTS
 
--- the loop of each gap, and of each DO its ENDDO
-pub record Owned (ps own ends : List ℕ) : Type 0 where
-  pub own-is : (g : ℕ) → g < length ps → at own g ≡ ownerOf ps g
-  pub own-low : (g : ℕ) → at own g ≤ g
-  pub ends-are : (d : ℕ) → isDo ps d ≡ true → at ends d ≡ endOf ps d
+-- of each gap its loop
+abbrev pub OwnIs : List ℕ → List ℕ → Type 0
+OwnIs ps own = (g : ℕ) → g < length ps → at own g ≡ ownerOf ps g
 
--- and of each DO its height, 8 less the depth, which is 0 for the outermost
+-- of each DO its ENDDO
+abbrev pub EndsAre : List ℕ → List ℕ → Type 0
+EndsAre ps ends = (d : ℕ) → isDo ps d ≡ true → at ends d ≡ endOf ps d
+
+-- of each DO its height: 8 less the depth, which is 0 for the outermost
+abbrev pub HeightsAre : List ℕ → List ℕ → Type 0
+HeightsAre ps heights = (d : ℕ) → isDo ps d ≡ true → at heights d + depth (take d ps) ≡ DEPTH
+
 pub record Charted (ps own ends heights : List ℕ) : Type 0 where
-  pub owned : Owned ps own ends
-  pub heights-are : (d : ℕ) → isDo ps d ≡ true → at heights d + depth (take d ps) ≡ DEPTH
+  pub own-is : OwnIs ps own
+  pub own-low : (g : ℕ) → at own g ≤ g
+  pub ends-are : EndsAre ps ends
+  pub heights-are : HeightsAre ps heights
 
 -- a table whose entry for each loop d and each gap q of its range is f d q
 abbrev pub Rows : List ℕ → List ℕ → List ℕ → (ℕ → ℕ → ℕ) → Type 0

@@ -49,6 +49,6 @@ pub record Narrowed (xs : List ℕ) (base d e : ℕ) (xs′ : List ℕ) : Type 0
   pub inside
       : (q k : ℕ)
       → d < q
-      → q + k ≡ suc e
-      → at xs′ (base + q) ≡ lowestFrom (λ i. at xs (base + i)) e k q
+      → q + k ≡ e
+      → at xs′ (base + q) ≡ lowestFrom (λ i. at xs (base + i)) e (suc k) q
   pub outside : (i : ℕ) → (i ≤ base + d) ⊎ (base + e < i) → at xs′ i ≡ at xs i

@@ -10,8 +10,9 @@ ghost use Rattle.nests.specs.Nests.{Dep};
 ghost use Rattle.nests.specs.Loops.{isDo, ownerFrom};
 ghost use Rattle.nests.specs.Stored.{depIn, nestIn, IsCounted};
 ghost use Rattle.nests.proofs.Deps.{Fits};
-ghost use Rattle.tables.specs.Charts.{at, Points, Owned, Charted, ChartRoom, TABLE};
-ghost use Rattle.tables.specs.Collected.{AllFit, Collected, LinesRoom, Narrowed};
+ghost use Rattle.tables.specs.Charts.{at, Points, OwnIs, EndsAre, HeightsAre, Rows, Charted, ChartRoom, TABLE};
+ghost use Rattle.tables.specs.Collected.{AllFit, backOf, Collected, LinesRoom, Narrowed};
+ghost use Rattle.planner.specs.Home.{limitOf};
 ghost use Rattle.tables.specs.Prepared.{Prepared};
 
 // The places of a row, one for each point.
@@ -70,7 +71,8 @@ pub fn chart(points: &[u8], own: &mut [usize], ends: &mut [usize], heights: &mut
 // The innermost loop that holds all gaps from s + 1 to t.
 fn home_of(points: &[u8], own: &[usize], ends: &[usize], s: usize, t: usize) -> usize
     requires { ⌜ Points (now points) ⌝ }
-    requires { ⌜ Owned (now points) (now own) (now ends) ⌝ }
+    requires { ⌜ OwnIs (now points) (now own) ⌝ }
+    requires { ⌜ EndsAre (now points) (now ends) ⌝ }
     requires { ⌜ POINTS ≤ length (now own) ⌝ }
     requires { ⌜ POINTS ≤ length (now ends) ⌝ }
     requires { ⌜ s < t ⌝ }
@@ -149,6 +151,27 @@ fn collect(
         i -= 1;
         let e = nest.deps[i];
         enter(points, own, ends, heights, reach, back, has, e);
+    }
+}
+
+// In each place of the loop's range the least from there to its ENDDO, and at most that.
+fn narrow_row(xs: &mut [usize], base: usize, d: usize, e: usize)
+    requires { ⌜ d ≤ e ⌝ }
+    requires { ⌜ base + e < length (now xs) ⌝ }
+    ensures { λ r. ⌜ Narrowed (now (xs .entry)) base d e (now (xs .exit)) ⌝ }
+{
+    let mut m = e;
+    let mut q = e;
+    while d < q {
+        let place = base + q;
+        let x = xs[place];
+        if x < m {
+            m = x;
+            q -= 1;
+        } else {
+            xs[place] = m;
+            q -= 1;
+        }
     }
 }
 

@@ -34,7 +34,7 @@ loop-holds c =
     let r = c .before .before .before .before .before .before .before .before .before .before .fill in
     let b = c .before .before .before .before .before .before .fill2 in
     let h = c .before .before .fill3 in
-    (collect-start (a .points .now) (w .0) (a .own .now) (a .ends .now) (a .heights .now) (w .1 .0) (depsIn (a .t1 .many) (a .t1 .deps)) (a .t1 .many) (w .1 .1 .1 .1 .0 .many-is) (r .last .0) (b .last .0) (h .last .0)
+    (collect-start (a .points .now) (w .0) (a .heights .now) (w .1 .0 .heights-are) (depsIn (a .t1 .many) (a .t1 .deps)) (a .t1 .many) (w .1 .1 .1 .1 .0 .many-is) (r .last .0) (b .last .0) (h .last .0)
     (record {
       reach-room = omega (arith, r .kept .0, w .1 .1 .1 .0 .reach-room);
       limit-room = omega (arith, b .kept .0, w .1 .1 .1 .0 .limit-room);

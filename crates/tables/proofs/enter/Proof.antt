@@ -22,7 +22,7 @@ home-of-requires c κs =
     let a = c .before .before .before .before .before .before .before .before .before .before .before .args in
     let w = c .before .before .before .before .before .before .before .before .before .before .before .pre in
     let f = is-line (a .points .now) (depIn (a .e)) (w .1 .1 .1 .1) (c .if1 .taken) in
-    (w .0, (w .1 .0 .owned, (w .1 .1 .0 .own-room, (w .1 .1 .0 .ends-room, (f .forward, f .target-there)))))
+    (w .0, (w .1 .0 .own-is, (w .1 .0 .ends-are, (w .1 .1 .0 .own-room, (w .1 .1 .0 .ends-room, (f .forward, f .target-there))))))
 
 mul-lower : tie.Need-mul-lower
 mul-lower c = 
@@ -30,7 +30,7 @@ mul-lower c =
     let w = c .before .before .before .before .before .before .before .before .before .before .before .before .before .pre in
     let f = is-line (a .points .now) (depIn (a .e)) (w .1 .1 .1 .1) (c .before .before .if1 .taken) in
     let h = c .before .home-of in
-    let t = line-there (a .points .now) (w .0) (a .own .now) (a .ends .now) (a .heights .now) (w .1 .0) (depIn (a .e)) f (h .result) (h .ensures) in
+    let t = line-there (a .points .now) (w .0) (a .heights .now) (w .1 .0 .heights-are) (depIn (a .e)) f (h .result) (h .ensures) in
     omega arith
 
 shared-slice-read-lower : tie.Need-shared-slice-read-lower
@@ -39,7 +39,7 @@ shared-slice-read-lower c =
     let w = c .before .before .before .before .before .before .before .before .before .before .before .before .before .before .pre in
     let f = is-line (a .points .now) (depIn (a .e)) (w .1 .1 .1 .1) (c .before .before .before .if1 .taken) in
     let h = c .before .before .home-of in
-    let t = line-there (a .points .now) (w .0) (a .own .now) (a .ends .now) (a .heights .now) (w .1 .0) (depIn (a .e)) f (h .result) (h .ensures) in
+    let t = line-there (a .points .now) (w .0) (a .heights .now) (w .1 .0 .heights-are) (depIn (a .e)) f (h .result) (h .ensures) in
     omega (arith, w .1 .1 .0 .heights-room)
 
 mul-lower-2 : tie.Need-mul-lower-2
@@ -48,7 +48,7 @@ mul-lower-2 c =
     let w = c .before .before .before .before .before .before .before .before .before .before .before .before .before .before .pre in
     let f = is-line (a .points .now) (depIn (a .e)) (w .1 .1 .1 .1) (c .before .before .before .if1 .taken) in
     let h = c .before .before .home-of in
-    let t = line-there (a .points .now) (w .0) (a .own .now) (a .ends .now) (a .heights .now) (w .1 .0) (depIn (a .e)) f (h .result) (h .ensures) in
+    let t = line-there (a .points .now) (w .0) (a .heights .now) (w .1 .0 .heights-are) (depIn (a .e)) f (h .result) (h .ensures) in
     omega arith
 
 add-lower : tie.Need-add-lower
@@ -60,7 +60,7 @@ add-lower-2 c =
     let w = c .before .before .before .before .before .before .before .before .before .before .before .before .before .before .pre in
     let f = is-line (a .points .now) (depIn (a .e)) (w .1 .1 .1 .1) (c .before .before .before .if1 .taken) in
     let h = c .before .before .home-of in
-    let t = line-there (a .points .now) (w .0) (a .own .now) (a .ends .now) (a .heights .now) (w .1 .0) (depIn (a .e)) f (h .result) (h .ensures) in
+    let t = line-there (a .points .now) (w .0) (a .heights .now) (w .1 .0 .heights-are) (depIn (a .e)) f (h .result) (h .ensures) in
     omega arith
 
 lower-requires : tie.Need-lower-requires
@@ -69,7 +69,7 @@ lower-requires c κs =
     let w = c .before .before .before .before .before .before .before .before .before .before .before .before .before .before .pre in
     let f = is-line (a .points .now) (depIn (a .e)) (w .1 .1 .1 .1) (c .before .before .before .if1 .taken) in
     let h = c .before .before .home-of in
-    let t = line-there (a .points .now) (w .0) (a .own .now) (a .ends .now) (a .heights .now) (w .1 .0) (depIn (a .e)) f (h .result) (h .ensures) in
+    let t = line-there (a .points .now) (w .0) (a .heights .now) (w .1 .0 .heights-are) (depIn (a .e)) f (h .result) (h .ensures) in
     omega (arith, w .1 .1 .1 .0 .reach-room)
 
 mul-has : tie.Need-mul-has
@@ -78,7 +78,7 @@ mul-has c =
     let w = c .before .before .before .before .before .before .before .before .before .before .before .before .before .before .before .before .before .pre in
     let f = is-line (a .points .now) (depIn (a .e)) (w .1 .1 .1 .1) (c .before .before .before .before .before .before .if1 .taken) in
     let h = c .before .before .before .before .before .home-of in
-    let t = line-there (a .points .now) (w .0) (a .own .now) (a .ends .now) (a .heights .now) (w .1 .0) (depIn (a .e)) f (h .result) (h .ensures) in
+    let t = line-there (a .points .now) (w .0) (a .heights .now) (w .1 .0 .heights-are) (depIn (a .e)) f (h .result) (h .ensures) in
     omega arith
 
 slice-write-has : tie.Need-slice-write-has
@@ -87,7 +87,7 @@ slice-write-has c =
     let w = c .before .before .before .before .before .before .before .before .before .before .before .before .before .before .before .before .before .pre in
     let f = is-line (a .points .now) (depIn (a .e)) (w .1 .1 .1 .1) (c .before .before .before .before .before .before .if1 .taken) in
     let h = c .before .before .before .before .before .home-of in
-    let t = line-there (a .points .now) (w .0) (a .own .now) (a .ends .now) (a .heights .now) (w .1 .0) (depIn (a .e)) f (h .result) (h .ensures) in
+    let t = line-there (a .points .now) (w .0) (a .heights .now) (w .1 .0 .heights-are) (depIn (a .e)) f (h .result) (h .ensures) in
     omega (arith, w .1 .1 .1 .0 .has-room)
 
 same-length : tie.Need-same-length
@@ -104,7 +104,7 @@ returns c =
     let h = c .before .before .before .before .before .home-of in
     λ ds p.
     rw (c .before .before .lower .ensures)
-    (line-entered (a .points .now) (w .0) (a .own .now) (a .ends .now) (a .heights .now) (w .1 .0) ds (depIn (a .e)) (a .reach .now) (a .back .now) (a .has .now) (w .1 .1 .1 .0) p f (h .result) (h .ensures))
+    (line-entered (a .points .now) (w .0) (a .heights .now) (w .1 .0 .heights-are) ds (depIn (a .e)) (a .reach .now) (a .back .now) (a .has .now) (w .1 .1 .1 .0) p f (h .result) (h .ensures))
 
 cast-d : tie.Need-cast-d
 cast-d c = search needs
@@ -120,7 +120,7 @@ mul-lower-4 c =
     let a = c .before .before .before .before .before .before .before .before .before .before .before .before .before .before .args in
     let w = c .before .before .before .before .before .before .before .before .before .before .before .before .before .before .pre in
     let f = is-back (a .points .now) (depIn (a .e)) (w .1 .1 .1 .1) (c .before .before .before .if1 .left) in
-    let t = back-there (a .points .now) (w .0) (a .own .now) (a .ends .now) (a .heights .now) (w .1 .0) (depIn (a .e)) f in
+    let t = back-there (a .points .now) (w .0) (a .heights .now) (w .1 .0 .heights-are) (depIn (a .e)) f in
     omega arith
 
 add-lower-3 : tie.Need-add-lower-3
@@ -128,7 +128,7 @@ add-lower-3 c =
     let a = c .before .before .before .before .before .before .before .before .before .before .before .before .before .before .args in
     let w = c .before .before .before .before .before .before .before .before .before .before .before .before .before .before .pre in
     let f = is-back (a .points .now) (depIn (a .e)) (w .1 .1 .1 .1) (c .before .before .before .if1 .left) in
-    let t = back-there (a .points .now) (w .0) (a .own .now) (a .ends .now) (a .heights .now) (w .1 .0) (depIn (a .e)) f in
+    let t = back-there (a .points .now) (w .0) (a .heights .now) (w .1 .0 .heights-are) (depIn (a .e)) f in
     omega arith
 
 lower-requires-2 : tie.Need-lower-requires-2
@@ -136,7 +136,7 @@ lower-requires-2 c κs =
     let a = c .before .before .before .before .before .before .before .before .before .before .before .before .before .before .args in
     let w = c .before .before .before .before .before .before .before .before .before .before .before .before .before .before .pre in
     let f = is-back (a .points .now) (depIn (a .e)) (w .1 .1 .1 .1) (c .before .before .before .if1 .left) in
-    let t = back-there (a .points .now) (w .0) (a .own .now) (a .ends .now) (a .heights .now) (w .1 .0) (depIn (a .e)) f in
+    let t = back-there (a .points .now) (w .0) (a .heights .now) (w .1 .0 .heights-are) (depIn (a .e)) f in
     omega (arith, w .1 .1 .1 .0 .limit-room)
 
 mul-has-2 : tie.Need-mul-has-2
@@ -158,7 +158,7 @@ returns-2 c =
     let f = is-back (a .points .now) (depIn (a .e)) (w .1 .1 .1 .1) (c .before .before .before .before .before .before .if1 .left) in
     λ ds p.
     rw (c .before .before .lower2 .ensures)
-    (back-entered (a .points .now) (w .0) (a .own .now) (a .ends .now) (a .heights .now) (w .1 .0) ds (depIn (a .e)) (a .reach .now) (a .back .now) (a .has .now) (w .1 .1 .1 .0) p f)
+    (back-entered (a .points .now) (w .0) (a .heights .now) (w .1 .0 .heights-are) ds (depIn (a .e)) (a .reach .now) (a .back .now) (a .has .now) (w .1 .1 .1 .0) p f)
 
 pub enter-spec : {M : Type 1} → statement M
 enter-spec =
