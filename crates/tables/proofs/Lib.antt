@@ -5,3 +5,4 @@ pub mod Climbing
 pub mod Cells
 pub mod Collecting
 pub mod Narrowing
+pub mod Limits

@@ -175,3 +175,24 @@ fn narrow_row(xs: &mut [usize], base: usize, d: usize, e: usize)
     }
 }
 
+// The rows of all loops.
+fn narrow(points: &[u8], ends: &[usize], heights: &[usize], limit: &mut [usize])
+    requires { ⌜ Points (now points) ⌝ }
+    requires { ⌜ EndsAre (now points) (now ends) ⌝ }
+    requires { ⌜ HeightsAre (now points) (now heights) ⌝ }
+    requires { ⌜ POINTS ≤ length (now ends) ⌝ }
+    requires { ⌜ POINTS ≤ length (now heights) ⌝ }
+    requires { ⌜ TABLE ≤ length (now limit) ⌝ }
+    ensures {
+        λ r. ⌜ ((ds : List Dep) → AllFit (now (points .entry)) ds → Rows (now (points .entry)) (now (heights .entry)) (now (limit .entry)) (backOf (now (points .entry)) ds) → Rows (now (points .entry)) (now (heights .entry)) (now (limit .exit)) (limitOf (now (points .entry)) ds)) ⌝
+    }
+{
+    let mut d = 0;
+    while d < points.len() {
+        if points[d] == nests::DO {
+            narrow_row(limit, heights[d] * ROW, d, ends[d]);
+        }
+        d += 1;
+    }
+}
+

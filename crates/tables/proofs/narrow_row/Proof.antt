@@ -1,69 +1,68 @@
+-- `narrow_row` meets its contract: the places passed hold the least from there on (`Narrowing`).
+use native.Mathlib.Omega.{arith}
+use borrow.Author.Needs.{needs}
+use Rattle.tables.proofs.Narrowing.{Narrowing, narrow-start, narrow-lower, narrow-store, narrow-done}
 use Rattle.tables.proofs.narrow_row.Statement.{statement}
 use Rattle.tables.proofs.narrow_row.Tie as tie
-use Rattle.tables.proofs.narrow_row.Reads as reads
-use Rattle.tables.proofs.narrow_row.Lts as lts
 
 abbrev Inv-loop : tie.InvT-loop
-Inv-loop xs₀ base d e m₀ q₀ xs m q = ?
+Inv-loop xs₀ base d e m₀ q₀ xs m q = Narrowing xs₀ base d e m q xs
 
 abbrev μ-loop : tie.MeasureT-loop
-μ-loop xs₀ base d e m₀ q₀ xs m q = ?
+μ-loop xs₀ base d e m₀ q₀ xs m q = q
 
--- src/lib.rt:162:5
 loop-holds : tie.Need-loop-holds Inv-loop μ-loop
-loop-holds c = ?
+loop-holds c = 
+    let a = c .args in
+    narrow-start (a .xs .now) (a .base) (a .d) (a .e) (c .pre .0)
 
--- src/lib.rt:163:21
 add-place : tie.Need-add-place Inv-loop μ-loop
-add-place c = ?
+add-place c = search needs
 
--- src/lib.rt:164:17
 mul-x : tie.Need-mul-x Inv-loop μ-loop
-mul-x c = ?
+mul-x c = search needs
 
--- src/lib.rt:164:17
 slice-read-x : tie.Need-slice-read-x Inv-loop μ-loop
-slice-read-x c = ?
+slice-read-x c = search needs
 
--- src/lib.rt:167:13
 sub-q : tie.Need-sub-q Inv-loop μ-loop
-sub-q c = ?
+sub-q c = search needs
 
--- src/lib.rt:162:5
 loop-less : tie.Need-loop-less Inv-loop μ-loop
-loop-less c = ?
+loop-less c = search needs
 
--- src/lib.rt:162:5
 loop-again : tie.Need-loop-again Inv-loop μ-loop
-loop-again c = ?
+loop-again c = 
+    let a = c .before .before .before .before .args in
+    let l = c .before .before .before .loop in
+    narrow-lower (a .xs .now) (a .base) (a .d) (a .e) (l .m) (l .q) (l .xs) (l .inv) (c .before .before .loop-test .taken) (c .if1 .taken)
 
--- src/lib.rt:169:13
 mul-xs : tie.Need-mul-xs Inv-loop μ-loop
-mul-xs c = ?
+mul-xs c = search needs
 
--- src/lib.rt:169:13
 slice-write-xs : tie.Need-slice-write-xs Inv-loop μ-loop
-slice-write-xs c = ?
+slice-write-xs c = search needs
 
--- src/lib.rt:170:13
 sub-q-2 : tie.Need-sub-q-2 Inv-loop μ-loop
-sub-q-2 c = ?
+sub-q-2 c = search needs
 
--- src/lib.rt:162:5
 loop-less-2 : tie.Need-loop-less-2 Inv-loop μ-loop
-loop-less-2 c = ?
+loop-less-2 c = search needs
 
--- src/lib.rt:162:5
 loop-again-2 : tie.Need-loop-again-2 Inv-loop μ-loop
-loop-again-2 c = ?
+loop-again-2 c = 
+    let a = c .before .before .before .before .args in
+    let l = c .before .before .before .loop in
+    narrow-store (a .xs .now) (a .base) (a .d) (a .e) (l .m) (l .q) (l .xs) (l .inv) (c .before .before .loop-test .taken) (c .if1 .left) (c .before .before .before .before .pre .1)
 
--- src/lib.rt:156:1
 same-length : tie.Need-same-length Inv-loop μ-loop
-same-length c = ?
+same-length c = search needs
 
--- src/lib.rt:156:1
 returns : tie.Need-returns Inv-loop μ-loop
-returns c = ?
+returns c = 
+    let a = c .before .before .args in
+    let l = c .before .loop in
+    narrow-done (a .xs .now) (a .base) (a .d) (a .e) (l .m) (l .q) (l .xs) (l .inv) (c .loop-test .left)
 
 pub narrow-row-spec : {M : Type 1} → statement M
 narrow-row-spec =
