@@ -119,6 +119,15 @@ module _ (ps : List ℕ) (w : Points ps) (ds : List Dep) (fit : AllFit ps ds) (d
       omega
       (arith, lowest-is-limit f k (suc q) (omega arith) (omega arith) p, p q l (omega arith), limit-step q)
 
+-- a loop's row is in the table
+pub row-there :
+    (ps : List ℕ) → Points ps → (heights : List ℕ) → HeightsAre ps heights → (d e : ℕ) → getD ps d 0 ≡ 1 →
+    e ≡ endOf ps d → (d ≤ e) × (cell heights d e < TABLE)
+row-there ps w heights tall d e k e-is =
+    let h = eq-eqb (getD ps d 0) 1 k in
+    let l = end-there ps (w .shape) d h in
+    (omega (arith, end-after ps (w .shape) d h), cell-fits ps w heights tall d e h (omega (arith, w .few)))
+
 -- the rows of the loops before i hold the limits, the others what goes back
 pub record Limiting (ps : List ℕ) (ds : List Dep) (heights : List ℕ) (i : ℕ) (limit : List ℕ) : Type 0 where
   pub done :

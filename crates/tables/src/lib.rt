@@ -196,3 +196,28 @@ fn narrow(points: &[u8], ends: &[usize], heights: &[usize], limit: &mut [usize])
     }
 }
 
+// All tables of a nest.
+pub fn prepare(
+    nest: Nest,
+    own: &mut [usize],
+    ends: &mut [usize],
+    heights: &mut [usize],
+    reach: &mut [usize],
+    limit: &mut [usize],
+    has: &mut [usize],
+)
+    requires { ⌜ IsCounted nest ⌝ }
+    requires { ⌜ Points (nestIn nest .points) ⌝ }
+    requires { ⌜ AllFit (nestIn nest .points) (nestIn nest .deps) ⌝ }
+    requires { ⌜ ChartRoom (now own) (now ends) (now heights) ⌝ }
+    requires { ⌜ LinesRoom (now reach) (now limit) (now has) ⌝ }
+    ensures {
+        λ r. ⌜ Prepared (nestIn nest .points) (nestIn nest .deps) (now (own .exit)) (now (ends .exit)) (now (heights .exit)) (now (reach .exit)) (now (limit .exit)) (now (has .exit)) ⌝
+    }
+{
+    let n = nest.count;
+    let points = nest.points;
+    chart(&points[..n], own, ends, heights);
+    collect(nest, &points[..n], own, ends, heights, reach, limit, has);
+    narrow(&points[..n], ends, heights, limit);
+}
