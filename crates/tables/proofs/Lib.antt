@@ -6,3 +6,4 @@ pub mod Cells
 pub mod Collecting
 pub mod Narrowing
 pub mod Limits
+pub mod Preparing

@@ -1,75 +1,86 @@
+-- `prepare` meets its contract: what `chart`, `collect` and `narrow` promise is all that is asked (`all-prepared`).
+use native.Mathlib.Omega.{arith}
+use Rattle.nests.specs.Stored.{nestIn}
+use Rattle.tables.proofs.Preparing.{count-there, all-prepared}
 use borrow.Author.Needs.{needs}
 use Rattle.tables.proofs.prepare.Statement.{statement}
 use Rattle.tables.proofs.prepare.Tie as tie
-use Rattle.tables.proofs.prepare.Reads as reads
-use Rattle.tables.proofs.prepare.Lts as lts
-use Rattle.tables.proofs.chart.Reads as chart-reads
-use Rattle.tables.proofs.collect.Reads as collect-reads
-use Rattle.tables.proofs.narrow.Reads as narrow-reads
 
--- src/lib.rt:220:11
 array-share-prefix-points : tie.Need-array-share-prefix-points
-array-share-prefix-points c = ?
+array-share-prefix-points c = 
+    let n = c .before .before .before .before .before .before .before .args .nest in
+    count-there (n .count) (n .points) (c .before .before .before .before .before .before .before .pre .0 .count-is)
 
--- src/lib.rt:220:11
 slice-aggregate-chart : tie.Need-slice-aggregate-chart
 slice-aggregate-chart c = search needs
 
--- src/lib.rt:220:5
 chart-requires : tie.Need-chart-requires
 chart-requires c κs = search needs
 
--- src/lib.rt:221:19
 array-share-prefix-points-2 : tie.Need-array-share-prefix-points-2
-array-share-prefix-points-2 c = ?
+array-share-prefix-points-2 c = 
+    let n = c .before .before .before .before .before .before .before .before .before .before .before .before .before .before .before .before .before .before .args .nest in
+    count-there (n .count) (n .points) (c .before .before .before .before .before .before .before .before .before .before .before .before .before .before .before .before .before .before .pre .0 .count-is)
 
--- src/lib.rt:221:19
 slice-aggregate-collect : tie.Need-slice-aggregate-collect
 slice-aggregate-collect c = search needs
 
--- src/lib.rt:221:5
 collect-requires : tie.Need-collect-requires
-collect-requires c κs = ?
+collect-requires c κs = 
+    let w = c .before .before .before .before .before .before .before .before .before .before .before .before .before .before .before .before .before .before .before .before .before .before .before .before .before .pre in
+    let h = c .before .before .before .before .before .before .before .before .before .before .before .before .before .chart in
+    (w .1 .0, (h .ensures,
+    (record {
+      own-room = omega (arith, h .kept .1 .0, w .1 .1 .1 .0 .own-room);
+      ends-room = omega (arith, h .kept .1 .1 .0, w .1 .1 .1 .0 .ends-room);
+      heights-room = omega (arith, h .kept .1 .1 .1 .0, w .1 .1 .1 .0 .heights-room);
+    }, (w .1 .1 .1 .1, (w .0, w .1 .1 .0)))))
 
--- src/lib.rt:222:12
 array-share-prefix-points-3 : tie.Need-array-share-prefix-points-3
-array-share-prefix-points-3 c = ?
+array-share-prefix-points-3 c = 
+    let n = c .before .before .before .before .before .before .before .before .before .before .before .before .before .before .before .before .before .before .before .before .before .before .before .before .before .before .before .before .before .before .before .before .args .nest in
+    count-there (n .count) (n .points) (c .before .before .before .before .before .before .before .before .before .before .before .before .before .before .before .before .before .before .before .before .before .before .before .before .before .before .before .before .before .before .before .before .pre .0 .count-is)
 
--- src/lib.rt:222:12
 slice-aggregate-narrow : tie.Need-slice-aggregate-narrow
 slice-aggregate-narrow c = search needs
 
--- src/lib.rt:222:5
 narrow-requires : tie.Need-narrow-requires
-narrow-requires c κs = ?
+narrow-requires c κs = 
+    let w = c .before .before .before .before .before .before .before .before .before .before .before .before .before .before .before .before .before .before .before .before .before .before .before .before .before .before .before .before .before .before .before .before .before .before .before .before .pre in
+    let h = c .before .before .before .before .before .before .before .before .before .before .before .before .before .before .before .before .before .before .before .before .before .before .before .before .chart in
+    let l = c .before .before .before .before .before .before .before .before .before .before .collect in
+    (w .1 .0, (h .ensures .ends-are, (h .ensures .heights-are,
+    (omega (arith, h .kept .1 .1 .0, w .1 .1 .1 .0 .ends-room),
+    (omega (arith, h .kept .1 .1 .1 .0, w .1 .1 .1 .0 .heights-room),
+    omega (arith, l .kept .1 .1 .1 .1 .1 .1 .0, w .1 .1 .1 .1 .limit-room))))))
 
--- src/lib.rt:200:1
 same-length : tie.Need-same-length
 same-length c = search needs
 
--- src/lib.rt:200:1
 same-length-2 : tie.Need-same-length-2
 same-length-2 c = search needs
 
--- src/lib.rt:200:1
 same-length-3 : tie.Need-same-length-3
 same-length-3 c = search needs
 
--- src/lib.rt:200:1
 same-length-4 : tie.Need-same-length-4
 same-length-4 c = search needs
 
--- src/lib.rt:200:1
 same-length-5 : tie.Need-same-length-5
 same-length-5 c = search needs
 
--- src/lib.rt:200:1
 same-length-6 : tie.Need-same-length-6
 same-length-6 c = search needs
 
--- src/lib.rt:200:1
 returns : tie.Need-returns
-returns c = ?
+returns c = 
+    let n = nestIn (c .before .before .before .before .before .before .before .before .before .before .before .before .before .before .before .before .before .before .before .before .before .before .before .before .before .before .before .before .before .before .before .before .before .before .before .before .before .before .before .args .nest) in
+    let h = c .before .before .before .before .before .before .before .before .before .before .before .before .before .before .before .before .before .before .before .before .before .before .before .before .before .before .before .chart in
+    let l = c .before .before .before .before .before .before .before .before .before .before .before .before .before .collect in
+    let r = c .before .before .narrow in
+    all-prepared (n .points) (n .deps) (h .last .1 .0) (h .last .1 .1 .0) (h .last .1 .1 .1 .0)
+    (l .last .1 .1 .1 .1 .1 .0) (l .last .1 .1 .1 .1 .1 .1 .0) (r .last .1 .1 .1 .0) (l .last .1 .1 .1 .1 .1 .1 .1 .0)
+    (h .ensures) (l .ensures) (c .before .before .before .before .before .before .before .before .before .before .before .before .before .before .before .before .before .before .before .before .before .before .before .before .before .before .before .before .before .before .before .before .before .before .before .before .before .before .before .pre .1 .1 .0) (r .ensures)
 
 pub prepare-spec : {M : Type 1} → statement M
 prepare-spec =

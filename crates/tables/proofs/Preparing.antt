@@ -1,0 +1,34 @@
+-- The tables of a nest, from their parts.
+-- Main statements: `count-there`, `all-prepared`, and what a valid nest gives: `points-of`, `fits-of`.
+use mathlib.Core.Path.{_≡_}
+use mathlib.Core.Bool.{true}
+use mathlib.Core.List.{List}
+use Prim.Native.Nat.{ℕ, _≤_}
+use native.Mathlib.Omega.{arith}
+use lib.ListN.{length, take, length-take}
+use Rattle.nests.specs.Nests.{Dep, Nest}
+use Rattle.nests.specs.Valid.{isValid}
+use Rattle.nests.proofs.Deps.{valid-is, deps-fit}
+use Rattle.planner.specs.Home.{limitOf}
+use Rattle.tables.specs.Charts.{Rows, Points, Charted}
+use Rattle.tables.specs.Collected.{AllFit, backOf, Collected}
+use Rattle.tables.specs.Prepared.{Prepared}
+
+-- the first n of a list are there
+pub count-there : (n : ℕ) (xs : List ℕ) → n ≡ length (take n xs) → n ≤ length xs
+count-there n xs e = omega (arith, length-take n xs)
+
+pub all-prepared :
+    (ps : List ℕ) (ds : List Dep) (own ends heights reach back limit has : List ℕ) → Charted ps own ends heights →
+    Collected ps ds heights reach back has → AllFit ps ds →
+    ((es : List Dep) → AllFit ps es → Rows ps heights back (backOf ps es) → Rows ps heights limit (limitOf ps es)) →
+    Prepared ps ds own ends heights reach limit has
+all-prepared ps ds own ends heights reach back limit has c l f n =
+    record { charted = c; reach-is = l .reach-is; limit-is = n ds f (l .back-is); has-is = l .has-is }
+
+-- a valid nest is one that can be prepared
+pub points-of : (n : Nest) → isValid n ≡ true → Points (n .points)
+points-of n v = let p = valid-is n v in record { shape = p .shape; few = p .few-points }
+
+pub fits-of : (n : Nest) → isValid n ≡ true → AllFit (n .points) (n .deps)
+fits-of n v = deps-fit (n .points) (n .deps) (valid-is n v .all-deps)
