@@ -24,9 +24,10 @@ use Rattle.nests.proofs.Levels.{point-in}
 use Rattle.nests.proofs.Loops.{Owner, end-there}
 use Rattle.nests.proofs.Deps.{Line, Back, Fits}
 use Rattle.nests.proofs.Gaps.{home-law}
+use Rattle.planner.proofs.Instance.{AllFit}
 use Rattle.planner.specs.Home.{homeOf, startsAt, leastEnd, reachOf, hasAt}
 use Rattle.tables.specs.Charts.{at, ROW, TABLE, cell, Rows, Points, HeightsAre}
-use Rattle.tables.specs.Collected.{AllFit, leavesAt, backOf, Collected, LinesRoom}
+use Rattle.tables.specs.Collected.{leavesAt, backOf, Collected, LinesRoom}
 use Rattle.tables.proofs.Entries.{entry-here, entry-elsewhere, all-zero}
 use Rattle.tables.proofs.Cells.{cell-fits, same-cell}
 

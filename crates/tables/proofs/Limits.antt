@@ -20,9 +20,10 @@ use Rattle.nests.specs.Nests.{Dep}
 use Rattle.nests.specs.Loops.{isDo, endOf}
 use Rattle.nests.proofs.Loops.{end-there, end-after}
 use Rattle.nests.proofs.Deps.{Line, Back, Fits}
+use Rattle.planner.proofs.Instance.{AllFit}
 use Rattle.planner.specs.Home.{homeOf, returnsAfter, leastEnd, limitOf}
 use Rattle.tables.specs.Charts.{at, ROW, TABLE, cell, Rows, Points, HeightsAre}
-use Rattle.tables.specs.Collected.{AllFit, leavesAt, backOf, lowestFrom, Narrowed}
+use Rattle.tables.specs.Collected.{leavesAt, backOf, lowestFrom, Narrowed}
 use Rattle.tables.proofs.Cells.{cell-fits, same-cell}
 
 -- a test that is one of two: the least end is the lesser of theirs

@@ -9,9 +9,9 @@ use lib.ListN.{length, take, length-take}
 use Rattle.nests.specs.Nests.{Dep, Nest}
 use Rattle.nests.specs.Valid.{isValid}
 use Rattle.nests.proofs.Deps.{valid-is, deps-fit}
-use Rattle.planner.specs.Home.{limitOf}
+use Rattle.planner.proofs.Instance.{AllFit}
 use Rattle.tables.specs.Charts.{Rows, Points, Charted}
-use Rattle.tables.specs.Collected.{AllFit, backOf, Collected}
+use Rattle.tables.specs.Collected.{backOf, Collected, Limited}
 use Rattle.tables.specs.Prepared.{Prepared}
 
 -- the first n of a list are there
@@ -21,7 +21,7 @@ count-there n xs e = omega (arith, length-take n xs)
 pub all-prepared :
     (ps : List ℕ) (ds : List Dep) (own ends heights reach back limit has : List ℕ) → Charted ps own ends heights →
     Collected ps ds heights reach back has → AllFit ps ds →
-    ((es : List Dep) → AllFit ps es → Rows ps heights back (backOf ps es) → Rows ps heights limit (limitOf ps es)) →
+    Limited ps heights back limit →
     Prepared ps ds own ends heights reach limit has
 all-prepared ps ds own ends heights reach back limit has c l f n =
     record { charted = c; reach-is = l .reach-is; limit-is = n ds f (l .back-is); has-is = l .has-is }

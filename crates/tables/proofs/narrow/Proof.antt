@@ -9,7 +9,8 @@ use borrow.Author.Tests.{eq-eqb}
 use lib.ListN.{length, getD}
 use Rattle.nests.specs.Nests.{Dep}
 use Rattle.tables.specs.Charts.{Rows}
-use Rattle.tables.specs.Collected.{AllFit, backOf}
+use Rattle.planner.proofs.Instance.{AllFit}
+use Rattle.tables.specs.Collected.{backOf}
 use Rattle.tables.proofs.Limits.{Limiting, row-there, limits-start, limits-on, limits-skip, limits-done}
 use Rattle.tables.proofs.narrow.Statement.{statement}
 use Rattle.tables.proofs.narrow.Tie as tie
