@@ -16,7 +16,8 @@ use Rattle.laws.proofs.Tests.{never-both, eq-or, le-or}
 use Rattle.nests.specs.Kinds.{POINTS, DEPTH}
 use Rattle.nests.specs.Loops.{isDo, isEnd, endOf, ownerOf}
 use Rattle.nests.proofs.Levels.{lev, lev-zero, lev-up, lev-falls, lev-same, lev-deep, end-not-first}
-use Rattle.nests.proofs.Loops.{owner-from-below, owner-is-do, owner-below, end-has-do, owner-of-end, end-is-end, end-there, end-after}
+use Rattle.nests.proofs.Loops.{owner-from-below, owner-below, end-has-do, owner-of-end, end-is-end, end-there}
+use Rattle.nests.proofs.Loops.{end-after}
 use Rattle.nests.proofs.Gaps.{owner-after-do, owner-after-end, owner-after-plain}
 use Rattle.tables.specs.Charts.{at, Points, Charted, ChartRoom}
 use Rattle.tables.proofs.Entries.{entry-here, entry-elsewhere, entries-more}
@@ -77,7 +78,9 @@ module _
   where
   -- one more gap's loop noted
   own-more : (g : ℕ) → g < i + 1 → at (set own i o) g ≡ ownerOf ps g
-  own-more = entries-more own i o (λ g x. x ≡ ownerOf ps g) (omega (arith, w .few, p .room .own-room)) (p .own-is) (p .owner-is l)
+  own-more =
+      entries-more own i o (λ g x. x ≡ ownerOf ps g) (omega (arith, w .few, p .room .own-room)) (p .own-is)
+      (p .owner-is l)
 
   own-after : (g : ℕ) → i + 1 ≤ g → at (set own i o) g ≡ 0
   own-after g m = entry-elsewhere own i o g (λ e. omega arith) ∙ p .own-rest g (omega arith)
@@ -108,7 +111,12 @@ module _
         own-rest = own-after;
         ends-are = λ d a m. p .ends-are d a (ended-before flat d a m);
         heights-are = λ d a m. heights-more d m a;
-        room = record { own-room = own-fits; ends-room = p .room .ends-room; heights-room = omega (arith, length-set heights i h, p .room .heights-room) };
+        room =
+            record {
+              own-room = own-fits;
+              ends-room = p .room .ends-room;
+              heights-room = omega (arith, length-set heights i h, p .room .heights-room);
+            };
       }
     where
       is-do : isDo ps i ≡ true
@@ -166,7 +174,12 @@ module _
         own-rest = own-after;
         ends-are = ends-more;
         heights-are = heights-same;
-        room = record { own-room = own-fits; ends-room = omega (arith, length-set ends o i, p .room .ends-room); heights-room = p .room .heights-room };
+        room =
+            record {
+              own-room = own-fits;
+              ends-room = omega (arith, length-set ends o i, p .room .ends-room);
+              heights-room = p .room .heights-room;
+            };
       }
     where
       is-end : isEnd ps i ≡ true

@@ -24,7 +24,8 @@ pub record Climbing (ps : List ℕ) (s t l : ℕ) : Type 0 where
   pub most : (d : ℕ) → isDo ps d ≡ true → d ≤ s → t ≤ endOf ps d → d ≤ l
 
 module _
-  (ps : List ℕ) (w : Points ps) (own ends : List ℕ) (owners : OwnIs ps own) (stops : EndsAre ps ends) (s t : ℕ) (f : s < t) (u : t < length ps)
+  (ps : List ℕ) (w : Points ps) (own ends : List ℕ) (owners : OwnIs ps own) (stops : EndsAre ps ends) (s t : ℕ)
+  (f : s < t) (u : t < length ps)
   where
   pub climb-from-do : getD ps s 0 ≡ 1 → Climbing ps s t s
   climb-from-do k =

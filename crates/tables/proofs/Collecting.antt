@@ -27,7 +27,7 @@ use Rattle.nests.proofs.Gaps.{home-law}
 use Rattle.planner.proofs.Instance.{AllFit}
 use Rattle.planner.specs.Home.{homeOf, startsAt, leastEnd, reachOf, hasAt}
 use Rattle.tables.specs.Charts.{at, ROW, TABLE, cell, Rows, Points, HeightsAre}
-use Rattle.tables.specs.Collected.{leavesAt, backOf, Collected, LinesRoom}
+use Rattle.tables.specs.Collected.{leavesAt, backOf, Collected, Entered, LinesRoom}
 use Rattle.tables.proofs.Entries.{entry-here, entry-elsewhere, all-zero}
 use Rattle.tables.proofs.Cells.{cell-fits, same-cell}
 
@@ -130,7 +130,10 @@ module _ (ps : List ℕ) (w : Points ps) (heights : List ℕ) (tall : HeightsAre
       (λ (z : d ≡ x → ⊥). rw (k, ne-eqb x d (λ y. z (sym y))) (entry-elsewhere has x 1 d z ∙ p d h))
       (eq-or d x)
 
-  module _ (ds : List Dep) (e : Dep) (reach back has : List ℕ) (room : LinesRoom reach back has) (p : Collected ps ds heights reach back has) where
+  module _
+    (ds : List Dep) (e : Dep) (reach back has : List ℕ) (room : LinesRoom reach back has)
+    (p : Collected ps ds heights reach back has)
+    where
     pub line-entered :
         Line ps e → (x : ℕ) → x ≡ ownerFrom (suc (e .s)) (e .t) ps →
         Collected ps (e ∷ ds) heights
@@ -138,7 +141,9 @@ module _ (ps : List ℕ) (w : Points ps) (heights : List ℕ) (tall : HeightsAre
     unfolding reachOf backOf
     line-entered f x x-is =
         record {
-          reach-is = ends-lowered (startsAt ps) ds e reach (room .reach-room) x (e .s + 1) (o .loop) (omega (arith, o .below)) (omega (arith, o .holds, f .forward)) hit once (p .reach-is);
+          reach-is =
+              ends-lowered (startsAt ps) ds e reach (room .reach-room) x (e .s + 1) (o .loop) (omega (arith, o .below))
+              (omega (arith, o .holds, f .forward)) hit once (p .reach-is);
           back-is = ends-kept ps heights (leavesAt ps) ds e back (λ d q. rw (f .kind-is)) (p .back-is);
           has-is = has-more ds e has x (omega (arith, line-there e f x x-is .0, room .has-room)) home-is (p .has-is);
         }
@@ -150,7 +155,9 @@ module _ (ps : List ℕ) (w : Points ps) (heights : List ℕ) (tall : HeightsAre
         home-is = rw (f .kind-is) (sym x-is)
 
         hit : startsAt ps x (e .s + 1) e ≡ true
-        hit = and-intro (eq-eqb (e .kind) INDEPENDENT (f .kind-is)) (and-intro (eq-eqb (homeOf ps e) x home-is) (eq-eqb (suc (e .s)) (e .s + 1) (omega arith)))
+        hit =
+            and-intro (eq-eqb (e .kind) INDEPENDENT (f .kind-is))
+            (and-intro (eq-eqb (homeOf ps e) x home-is) (eq-eqb (suc (e .s)) (e .s + 1) (omega arith)))
 
         once : (d q : ℕ) → startsAt ps d q e ≡ true → (d ≡ x) × (q ≡ e .s + 1)
         once d q h =
@@ -166,7 +173,9 @@ module _ (ps : List ℕ) (w : Points ps) (heights : List ℕ) (tall : HeightsAre
     back-entered f =
         record {
           reach-is = ends-kept ps heights (startsAt ps) ds e reach (λ d q. rw (f .kind-is)) (p .reach-is);
-          back-is = ends-lowered (leavesAt ps) ds e back (room .limit-room) (e .d) (e .s) (f .loop) (f .source-after) (omega (arith, f .source-before)) hit once (p .back-is);
+          back-is =
+              ends-lowered (leavesAt ps) ds e back (room .limit-room) (e .d) (e .s) (f .loop) (f .source-after)
+              (omega (arith, f .source-before)) hit once (p .back-is);
           has-is = has-more ds e has (e .d) (omega (arith, back-there e f .0, room .has-room)) home-is (p .has-is);
         }
       where
@@ -224,25 +233,40 @@ abbrev no-dependence : DE.Dependence
 no-dependence = record { kind = 0; d = 0; s = 0; t = 0 }
 
 -- the first n dependences of an array are there
-pub deps-there : (n : ℕ) (xs : List DE.Dependence) → length (depsIn n xs) ≤ length xs
+deps-there : (n : ℕ) (xs : List DE.Dependence) → length (depsIn n xs) ≤ length xs
 deps-there zero xs = omega arith
 deps-there (suc n) [] = omega arith
 deps-there (suc n) (x ∷ xs) = omega (arith, deps-there n xs)
 
-module _ (ps : List ℕ) (n : ℕ) (xs : List DE.Dependence) (room : n ≤ length xs) (i : ℕ) (l : 0 < i) (m : i ≤ n) where
+-- lists as long have room too
+pub room-kept :
+    (reach back has reach′ back′ has′ : List ℕ) → LinesRoom reach back has → length reach′ ≡ length reach →
+    length back′ ≡ length back → length has′ ≡ length has → LinesRoom reach′ back′ has′
+room-kept reach back has reach′ back′ has′ r a b c =
+    record {
+      reach-room = omega (arith, r .reach-room);
+      limit-room = omega (arith, r .limit-room);
+      has-room = omega (arith, r .has-room);
+    }
+
+module _
+  (ps : List ℕ) (n : ℕ) (xs : List DE.Dependence) (n-is : n ≡ length (depsIn n xs)) (i : ℕ) (l : 0 < i)
+  (m : i ≤ length (depsIn n xs))
+  where
   here-is : drop (i - 1) (depsIn n xs) ≡ depIn (getD xs (i - 1) no-dependence) ∷ drop i (depsIn n xs)
   here-is =
       let e : suc (i - 1) ≡ i = omega arith in
-      rw e at (depsIn-at n xs (i - 1) no-dependence (omega arith) room)
+      rw e at (depsIn-at n xs (i - 1) no-dependence (omega arith) (omega (arith, deps-there n xs)))
 
   pub fits-here : AllFit ps (depsIn n xs) → Fits ps (depIn (getD xs (i - 1) no-dependence))
-  fits-here f = f (depIn (getD xs (i - 1) no-dependence)) (among-drop (depIn (getD xs (i - 1) no-dependence)) (depsIn n xs) (drop i (depsIn n xs)) (i - 1) here-is)
+  fits-here f =
+      let e = depIn (getD xs (i - 1) no-dependence) in
+      f e (among-drop e (depsIn n xs) (drop i (depsIn n xs)) (i - 1) here-is)
 
   pub collect-on :
       (heights reach back has reach′ back′ has′ : List ℕ) → Collecting ps (depsIn n xs) heights i reach back has →
       LinesRoom reach′ back′ has′ →
-      ((ds : List Dep) → Collected ps ds heights reach back has →
-      Collected ps (depIn (getD xs (i - 1) no-dependence) ∷ ds) heights reach′ back′ has′) →
+      Entered ps heights (depIn (getD xs (i - 1) no-dependence)) reach back has reach′ back′ has′ →
       Collecting ps (depsIn n xs) heights (i - 1) reach′ back′ has′
   collect-on heights reach back has reach′ back′ has′ p r f =
       record {

@@ -14,7 +14,7 @@ use lib.ListN.{length, getD}
 use borrow.Author.Tests.{eqb-true, eq-eqb, ne-eqb, ltb-true, lt-ltb, le-ltb}
 use Rattle.laws.specs.Choice.{pick}
 use Rattle.laws.specs.Members.{Among}
-use Rattle.laws.proofs.Tests.{never, never-both, eq-or, le-or, bool-by, false-by, and-true, and-intro, or-true, or-left, or-right}
+use Rattle.laws.proofs.Tests.{never-both, eq-or, le-or, bool-by, false-by, and-true, or-true, or-left, or-right}
 use Rattle.nests.specs.Kinds.{INDEPENDENT, CARRIED}
 use Rattle.nests.specs.Nests.{Dep}
 use Rattle.nests.specs.Loops.{isDo, endOf}
@@ -102,8 +102,9 @@ module _ (ps : List ℕ) (w : Points ps) (ds : List Dep) (fit : AllFit ps ds) (d
       none e (inl f) = rw (f .kind-is)
       none e (inr f) = false-by λ z.
           let k : homeOf ps e ≡ e .d = rw (f .kind-is) in
-          let y = and-true (not (eqb (e .kind) INDEPENDENT)) (eqb (homeOf ps e) d && ltb (suc (endOf ps d)) (suc (e .s))) z in
-          let x = and-true (eqb (homeOf ps e) d) (ltb (suc (endOf ps d)) (suc (e .s))) (y .1) in
+          let late = ltb (suc (endOf ps d)) (suc (e .s)) in
+          let y = and-true (not (eqb (e .kind) INDEPENDENT)) (eqb (homeOf ps e) d && late) z in
+          let x = and-true (eqb (homeOf ps e) d) late (y .1) in
           let same : e .d ≡ d = sym k ∙ eqb-true (homeOf ps e) d (x .0) in
           let u : endOf ps (e .d) ≡ endOf ps d = ap (endOf ps) same in
           omega (arith, ltb-true (suc (endOf ps d)) (suc (e .s)) (x .1), f .source-before)

@@ -1,12 +1,11 @@
 -- `collect` meets its contract: from the last dependence to the first, each is entered in front of those after it
 -- (`Collecting`).
 use mathlib.Core.Path.{_≡_, refl}
-use Prim.Native.Nat.{_≤_}
 use native.Mathlib.Omega.{arith}
 use borrow.Author.Needs.{needs}
 use lib.ListN.{length}
 use Rattle.nests.specs.Stored.{depsIn}
-use Rattle.tables.proofs.Collecting.{Collecting, collect-start, collect-on, collect-done, fits-here, deps-there}
+use Rattle.tables.proofs.Collecting.{Collecting, collect-start, collect-on, collect-done, fits-here, room-kept}
 use Rattle.tables.proofs.collect.Statement.{statement}
 use Rattle.tables.proofs.collect.Tie as tie
 
@@ -28,19 +27,21 @@ fill-requires-3 : tie.Need-fill-requires-3 Inv-loop μ-loop
 fill-requires-3 c κs = search needs
 
 loop-holds : tie.Need-loop-holds Inv-loop μ-loop
-loop-holds c = 
-    let a = c .before .before .before .before .before .before .before .before .before .before .before .before .before .before .before .before .before .before .before .args in
-    let w = c .before .before .before .before .before .before .before .before .before .before .before .before .before .before .before .before .before .before .before .pre in
+loop-holds c =
+    let s = c .before .before .before .before .before .before .before .before .before .before .before .before .before .before .before .before .before .before .before in
+    let a = s .args in
+    let w = s .pre in
     let r = c .before .before .before .before .before .before .before .before .before .before .fill in
     let b = c .before .before .before .before .before .before .fill2 in
     let h = c .before .before .fill3 in
-    (collect-start (a .points .now) (w .0) (a .heights .now) (w .1 .0 .heights-are) (depsIn (a .t1 .many) (a .t1 .deps)) (a .t1 .many) (w .1 .1 .1 .1 .0 .many-is) (r .last .0) (b .last .0) (h .last .0)
-    (record {
-      reach-room = omega (arith, r .kept .0, w .1 .1 .1 .0 .reach-room);
-      limit-room = omega (arith, b .kept .0, w .1 .1 .1 .0 .limit-room);
-      has-room = omega (arith, h .kept .0, w .1 .1 .1 .0 .has-room);
-    })
-    (λ k l. r .ensures k (omega (arith, r .kept .0))) (λ k l. b .ensures k (omega (arith, b .kept .0))) (λ k l. h .ensures k (omega (arith, h .kept .0))), (refl, (refl, refl)))
+    (collect-start (a .points .now) (w .0) (a .heights .now) (w .1 .0 .heights-are)
+    (depsIn (a .t1 .many) (a .t1 .deps)) (a .t1 .many) (w .1 .1 .1 .1 .0 .many-is) (r .last .0) (b .last .0)
+    (h .last .0)
+    (room-kept (a .reach .now) (a .back .now) (a .has .now) (r .last .0) (b .last .0) (h .last .0) (w .1 .1 .1 .0)
+    (r .kept .0) (b .kept .0) (h .kept .0))
+    (λ k l. r .ensures k (omega (arith, r .kept .0))) (λ k l. b .ensures k (omega (arith, b .kept .0)))
+    (λ k l. h .ensures k (omega (arith, h .kept .0))),
+    (refl, (refl, refl)))
 
 sub-i : tie.Need-sub-i Inv-loop μ-loop
 sub-i c = search needs
@@ -53,30 +54,36 @@ element-copy-out-e c = search needs
 
 enter-requires : tie.Need-enter-requires Inv-loop μ-loop
 enter-requires c κs =
-    let a = c .before .before .before .before .before .before .before .before .before .before .before .before .before .before .before .before .before .before .before .before .before .before .before .before .before .args in
-    let w = c .before .before .before .before .before .before .before .before .before .before .before .before .before .before .before .before .before .before .before .before .before .before .before .before .before .pre in
     let l = c .before .before .before .before .before .loop in
-    let n = w .1 .1 .1 .1 .0 in
-    let there : a .t1 .many ≤ length (a .t1 .deps) = omega (arith, n .many-is, deps-there (a .t1 .many) (a .t1 .deps)) in
-    (w .0, (w .1 .0, (w .1 .1 .0, (l .inv .0 .room, fits-here (a .points .now) (a .t1 .many) (a .t1 .deps) there (l .i) (c .before .before .before .before .loop-test .taken) (omega (arith, n .many-is, l .inv .0 .here)) (w .1 .1 .1 .1 .1)))))
+    let s = c .before .before .before .before .before .before .before .before .before .before .before .before .before .before .before .before .before .before .before .before .before .before .before .before .before in
+    let a = s .args in
+    let w = s .pre in
+    (w .0,
+    (w .1 .0,
+    (w .1 .1 .0,
+    (l .inv .0 .room,
+    fits-here (a .points .now) (a .t1 .many) (a .t1 .deps) (w .1 .1 .1 .1 .0 .many-is) (l .i) (c .before .before .before .before .loop-test .taken)
+    (l .inv .0 .here) (w .1 .1 .1 .1 .1)))))
 
 loop-less : tie.Need-loop-less Inv-loop μ-loop
 loop-less c = search needs
 
 loop-again : tie.Need-loop-again Inv-loop μ-loop
 loop-again c =
-    let a = c .before .before .before .before .before .before .before .before .before .before .before .before .before .before .before .before .before .before .before .before .before .before .before .before .before .before .before .before .before .before .before .before .args in
     let l = c .before .before .before .before .before .before .before .before .before .before .before .before .loop in
     let e = c .before .before .before .before .before .before .enter in
-    let n = c .before .before .before .before .before .before .before .before .before .before .before .before .before .before .before .before .before .before .before .before .before .before .before .before .before .before .before .before .before .before .before .before .pre .1 .1 .1 .1 .0 in
-    let there : a .t1 .many ≤ length (a .t1 .deps) = omega (arith, n .many-is, deps-there (a .t1 .many) (a .t1 .deps)) in
-    (collect-on (a .points .now) (a .t1 .many) (a .t1 .deps) there (l .i) (c .before .before .before .before .before .before .before .before .before .before .before .loop-test .taken) (omega (arith, n .many-is, l .inv .0 .here)) (a .heights .now) (l .reach) (l  .back) (l .has) (e .last .1 .1 .1 .1 .0) (e .last .1 .1 .1 .1 .1 .0) (e .last .1 .1 .1 .1 .1 .1 .0) (l .inv .0)
-    (record {
-      reach-room = omega (arith, e .kept .1 .1 .1 .1 .0, l .inv .0 .room .reach-room);
-      limit-room = omega (arith, e .kept .1 .1 .1 .1 .1 .0, l .inv .0 .room .limit-room);
-      has-room = omega (arith, e .kept .1 .1 .1 .1 .1 .1 .0, l .inv .0 .room .has-room);
-    })
-    (e .ensures), (omega (arith, e .kept .1 .1 .1 .1 .0, l .inv .1 .0), (omega (arith, e .kept .1 .1 .1 .1 .1 .0, l .inv .1 .1 .0), omega (arith, e .kept .1 .1 .1 .1 .1 .1 .0, l .inv .1 .1 .1))))
+    let s = c .before .before .before .before .before .before .before .before .before .before .before .before .before .before .before .before .before .before .before .before .before .before .before .before .before .before .before .before .before .before .before .before in
+    let a = s .args in
+    let reach = e .last .1 .1 .1 .1 .0 in
+    let back = e .last .1 .1 .1 .1 .1 .0 in
+    let has = e .last .1 .1 .1 .1 .1 .1 .0 in
+    let k = e .kept .1 .1 .1 .1 in
+    (collect-on (a .points .now) (a .t1 .many) (a .t1 .deps) (s .pre .1 .1 .1 .1 .0 .many-is) (l .i)
+    (c .before .before .before .before .before .before .before .before .before .before .before .loop-test .taken) (l .inv .0 .here) (a .heights .now) (l .reach) (l .back) (l .has) reach back has
+    (l .inv .0)
+    (room-kept (l .reach) (l .back) (l .has) reach back has (l .inv .0 .room) (k .0) (k .1 .0) (k .1 .1 .0))
+    (e .ensures),
+    (omega (arith, k .0, l .inv .1 .0), (omega (arith, k .1 .0, l .inv .1 .1 .0), omega (arith, k .1 .1 .0, l .inv .1 .1 .1))))
 
 same-length : tie.Need-same-length Inv-loop μ-loop
 same-length c = search needs
@@ -88,10 +95,11 @@ same-length-3 : tie.Need-same-length-3 Inv-loop μ-loop
 same-length-3 c = search needs
 
 returns : tie.Need-returns Inv-loop μ-loop
-returns c = 
+returns c =
     let a = c .before .before .before .before .before .before .before .before .before .before .before .before .before .before .before .before .before .before .before .before .before .args in
     let l = c .before .loop in
-    collect-done (a .points .now) (depsIn (a .t1 .many) (a .t1 .deps)) (a .heights .now) (l .i) (l .reach) (l  .back) (l .has) (c .loop-test .left) (l .inv .0)
+    collect-done (a .points .now) (depsIn (a .t1 .many) (a .t1 .deps)) (a .heights .now) (l .i) (l .reach) (l .back)
+    (l .has) (c .loop-test .left) (l .inv .0)
 
 pub collect-spec : {M : Type 1} → statement M
 collect-spec =
