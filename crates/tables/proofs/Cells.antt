@@ -1,16 +1,15 @@
 -- The cells of a table with a row for each height: within the table, and one for each loop and gap of its range.
--- Main statements: `height-most`, `cell-fits`, `same-cell`.
+-- Main statements: `height-most`, `height-least`, `child-height`, `child-cell`, `cell-fits`, `same-cell`.
 use mathlib.Core.Path.{_≡_}
 use mathlib.Core.Bool.{true}
 use mathlib.Core.List.{List}
-use Prim.Native.Nat.{ℕ, suc, _+_, _*_, _≤_, _<_}
+use Prim.Native.Nat.{ℕ, suc, _+_, _≤_, _<_}
 use native.Mathlib.Omega.{arith}
-use lib.ListN.{length}
 use Rattle.laws.proofs.Tests.{le-by}
 use Rattle.nests.specs.Kinds.{DEPTH}
-use Rattle.nests.specs.Loops.{isDo, endOf}
+use Rattle.nests.specs.Loops.{isDo, endOf, ownerOf}
 use Rattle.nests.proofs.Levels.{lev, lev-up, lev-deep, point-in}
-use Rattle.nests.proofs.Loops.{range-above, end-there}
+use Rattle.nests.proofs.Loops.{range-above, end-there, owner-is-do, owner-lower}
 use Rattle.tables.specs.Charts.{at, ROW, TABLE, cell, Points, HeightsAre}
 
 module _ (ps : List ℕ) (w : Points ps) (heights : List ℕ) (tall : HeightsAre ps heights) where
@@ -26,6 +25,17 @@ module _ (ps : List ℕ) (w : Points ps) (heights : List ℕ) (tall : HeightsAre
 
   pub cell-fits : (d q : ℕ) → isDo ps d ≡ true → q < ROW → cell heights d q < TABLE
   cell-fits d q h l = omega (arith, height-most d h)
+
+  -- a loop's row is right above the row of the loops directly inside it
+  pub child-height : (x : ℕ) → isDo ps x ≡ true → 0 < x → at heights (ownerOf ps x) ≡ suc (at heights x)
+  child-height x h l =
+      let there = point-in ps x 0 h in
+      let k = owner-is-do ps (w .shape) x l there in
+      omega (arith, owner-lower ps (w .shape) x l there, height-level x h, height-level (ownerOf ps x) k)
+
+  pub child-cell :
+      (x q : ℕ) → isDo ps x ≡ true → 0 < x → cell heights (ownerOf ps x) q ≡ cell heights x q + ROW
+  child-cell x q h l = omega (arith, child-height x h l)
 
   -- two loops of one height are apart
   same-height :

@@ -7,19 +7,18 @@ use mathlib.Core.Bool.{Bool, true, false, _&&_, _||_, not}
 use mathlib.Core.List.{List, [], _∷_}
 use mathlib.Core.Logic.{_⊎_, inl, inr, ⊎-elim}
 use Prim.Native.Nat.{ℕ, zero, suc, _+_, _-_, _*_, _≤_, _<_, min}
-use native.Mathlib.Numerals.{add-one}
 use native.Mathlib.Omega.{arith}
 use lib.Dec.{eqb, ltb}
 use lib.ListN.{length, getD}
-use borrow.Author.Tests.{eqb-true, eq-eqb, ne-eqb, ltb-true, lt-ltb, le-ltb}
+use borrow.Author.Tests.{eqb-true, eq-eqb, ne-eqb, ltb-true, lt-ltb}
 use Rattle.laws.specs.Choice.{pick}
 use Rattle.laws.specs.Members.{Among}
 use Rattle.laws.proofs.Tests.{never-both, eq-or, le-or, bool-by, false-by, and-true, or-true, or-left, or-right}
-use Rattle.nests.specs.Kinds.{INDEPENDENT, CARRIED}
+use Rattle.nests.specs.Kinds.{INDEPENDENT}
 use Rattle.nests.specs.Nests.{Dep}
 use Rattle.nests.specs.Loops.{isDo, endOf}
 use Rattle.nests.proofs.Loops.{end-there, end-after}
-use Rattle.nests.proofs.Deps.{Line, Back, Fits}
+use Rattle.nests.proofs.Deps.{Fits}
 use Rattle.planner.proofs.Instance.{AllFit}
 use Rattle.planner.specs.Home.{homeOf, returnsAfter, leastEnd, limitOf}
 use Rattle.tables.specs.Charts.{at, ROW, TABLE, cell, Rows, Points, HeightsAre}

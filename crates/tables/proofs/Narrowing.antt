@@ -1,7 +1,7 @@
 -- One row narrowed from right to left: the least so far goes into each place that holds more.
 -- Main definition: `Narrowing`, what a turn keeps. Main statements: `narrow-start`, `narrow-lower`, `narrow-store`,
 -- `narrow-done`.
-use mathlib.Core.Path.{_≡_, refl, sym, ap, _∙_}
+use mathlib.Core.Path.{_≡_, refl, _∙_}
 use mathlib.Core.List.{List}
 use mathlib.Core.Logic.{_⊎_, inl, inr, ⊎-elim}
 use Prim.Native.Nat.{ℕ, zero, suc, _+_, _-_, _≤_, _<_, min}

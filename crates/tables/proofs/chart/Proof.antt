@@ -1,5 +1,5 @@
 -- `chart` meets its contract: each turn notes the loop of one more gap, and what the point there says (`Charting`).
-use mathlib.Core.Path.{_≡_, refl, _∙_}
+use mathlib.Core.Path.{_≡_, refl}
 use Prim.Native.Nat.{_-_}
 use native.Mathlib.Omega.{arith}
 use borrow.Author.Needs.{needs}

@@ -1,6 +1,5 @@
 -- `home_of` meets its contract: no loop that reaches the target is passed (`Climbing`). The measure is the loop itself.
 use mathlib.Core.Logic.{⊎-elim}
-use native.Mathlib.Omega.{arith}
 use borrow.Author.Needs.{needs}
 use Rattle.tables.proofs.Climbing.{Climbing, climb-from-do, climb-from-owner, climb-falls, climb-on, climb-done}
 use Rattle.tables.proofs.home_of.Statement.{statement}

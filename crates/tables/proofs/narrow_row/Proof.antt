@@ -1,5 +1,4 @@
 -- `narrow_row` meets its contract: the places passed hold the least from there on (`Narrowing`).
-use native.Mathlib.Omega.{arith}
 use borrow.Author.Needs.{needs}
 use Rattle.tables.proofs.Narrowing.{Narrowing, narrow-start, narrow-lower, narrow-store, narrow-done}
 use Rattle.tables.proofs.narrow_row.Statement.{statement}
