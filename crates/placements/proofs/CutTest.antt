@@ -1,8 +1,8 @@
 -- The cut test: the lowest gap of the placement among those of the dependence.
 -- Main statements: `lowest-between`, `lowest-either`, `cuts-by`, `cut-lowest`, `cut-line`, `cut-back`,
 -- `cut-before`.
-use mathlib.Core.Path.{_≡_, refl, sym, ap, _∙_}
-use mathlib.Core.Bool.{Bool, true, false, _&&_, _||_}
+use mathlib.Core.Path.{_≡_, refl, sym, _∙_}
+use mathlib.Core.Bool.{Bool, true, false, _||_}
 use mathlib.Core.List.{List, [], _∷_}
 use mathlib.Core.Logic.{_⊎_, inl, inr, ⊎-elim}
 use Prim.Native.Nat.{ℕ, zero, suc, _+_, _≤_, _<_}
@@ -11,7 +11,7 @@ use native.Mathlib.Omega.{arith}
 use lib.Dec.{eqb, ltb, leb}
 use borrow.Author.Tests.{eq-eqb, ne-eqb, lt-ltb, le-ltb, le-leb, leb-true}
 use Rattle.laws.specs.Choice.{pick, between}
-use Rattle.laws.proofs.Tests.{test, le-or, never, and-intro, and-true, or-true, or-left, or-right, false-by}
+use Rattle.laws.proofs.Tests.{le-or, never, and-intro, and-true, or-true, or-left, or-right, false-by}
 use Rattle.nests.specs.Kinds.{INDEPENDENT}
 use Rattle.nests.specs.Nests.{Dep}
 use Rattle.nests.specs.Loops.{endOf}
@@ -100,7 +100,8 @@ module _ (ps : List ℕ) (e : Dep) where
       → cutBy ps e (gapsOf x k g) ≡ 0
   unfolding gapsOf
   cut-none x zero g h = refl
-  cut-none x (suc k) g h = go (x g) (hasGap ps e g) refl refl (cut-none x k (suc g) (λ i a b. h i (omega arith) (omega arith)))
+  cut-none x (suc k) g h =
+      go (x g) (hasGap ps e g) refl refl (cut-none x k (suc g) (λ i a b. h i (omega arith) (omega arith)))
     where
       go
           : (t y : Bool)
@@ -152,13 +153,18 @@ module _ (ps : List ℕ) (e : Dep) where
     where
       go
           : (t : Bool)
-          → pick t (between (suc (e .s)) 0 (e .t)) (between (suc (e .d)) 0 (e .t) || between (suc (e .s)) 0 (endOf ps (e .d))) ≡ true
+          → pick
+          t
+          (between (suc (e .s)) 0 (e .t))
+          (between (suc (e .d)) 0 (e .t) || between (suc (e .s)) 0 (endOf ps (e .d))) ≡
+          true
           → ⊥
       go true h = omega (arith, between-true (suc (e .s)) 0 (e .t) h .0)
       go false h =
           ⊎-elim
           (λ (z : between (suc (e .d)) 0 (e .t) ≡ true). omega (arith, between-true (suc (e .d)) 0 (e .t) z .0))
-          (λ (z : between (suc (e .s)) 0 (endOf ps (e .d)) ≡ true). omega (arith, between-true (suc (e .s)) 0 (endOf ps (e .d)) z .0))
+          (λ (z : between (suc (e .s)) 0 (endOf ps (e .d)) ≡ true).
+          omega (arith, between-true (suc (e .s)) 0 (endOf ps (e .d)) z .0))
           (or-true (between (suc (e .d)) 0 (e .t)) (between (suc (e .s)) 0 (endOf ps (e .d))) h)
 
   pub gap-positive : (i : ℕ) → hasGap ps e i ≡ true → 0 < i
@@ -222,7 +228,13 @@ module _ (ps : List ℕ) (e : Dep) where
       cut-lowest
       ws
       r
-      (lowest-same ws (λ (g : ℕ). between (e .s + 1) g (e .t)) (hasGap ps e) r (λ g. rw (eq-eqb (e .kind) INDEPENDENT k, add-one)) p)
+      (lowest-same
+      ws
+      (λ (g : ℕ). between (e .s + 1) g (e .t))
+      (hasGap ps e)
+      r
+      (λ g. rw (eq-eqb (e .kind) INDEPENDENT k, add-one))
+      p)
 
   pub cut-back
       : (ws : List ℕ) (end a b r : ℕ)
