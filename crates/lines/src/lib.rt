@@ -1,8 +1,8 @@
 // Lines of digits: a reader that answers one line at a time, and the writer of one frame.
 ghost use mathlib.Core.Path.{_≡_};
 ghost use mathlib.Core.Bool.{true};
-ghost use Prim.Native.Nat.{ℕ, _+_, _*_, _≤_, _<_};
-ghost use lib.ListN.{length, getD, take, drop};
+ghost use Prim.Native.Nat.{_+_, _≤_, _<_};
+ghost use lib.ListN.{length, getD, drop};
 ghost use Rattle.lines.specs.Lines.{isHex, valueOf, allHex, isDigits, frameOf, digitOf, lineText};
 ghost use Rattle.lines.specs.Reading.{takeLine, lineAt};
 ghost use Rattle.lines.specs.Writing.{over};
@@ -25,7 +25,12 @@ pub enum Read {
 }
 
 // The byte that ends a line.
-const FEED: u8 = 10;
+const FEED: u8 = b'\n';
+
+// What the bytes of numbers and of letters have above their values.
+const NUMBERS: u8 = b'0';
+
+const LETTERS: u8 = 87;
 
 // Reads the line that starts at a place of a text.
 pub fn read_line(text: &[u8], at: usize) -> Read
@@ -98,6 +103,7 @@ fn is_digits(line: &[u8]) -> bool
     all_hex(line)
 }
 
+// Each byte of a line is a digit.
 fn all_hex(line: &[u8]) -> bool
     ensures { λ r. ⌜ r ≡ allHex (now (line .entry)) ⌝ }
 {
@@ -112,19 +118,20 @@ fn all_hex(line: &[u8]) -> bool
     true
 }
 
+// A byte is one of the digits 0-9 a-f.
 fn is_hex(b: u8) -> bool
     ensures { λ r. ⌜ r ≡ isHex b ⌝ }
 {
-    if b < 48 {
+    if b < b'0' {
         return false;
     }
-    if b <= 57 {
+    if b <= b'9' {
         return true;
     }
-    if b < 97 {
+    if b < b'a' {
         return false;
     }
-    b <= 102
+    b <= b'f'
 }
 
 // The byte of a frame at an index, 0 past its end.
@@ -143,7 +150,7 @@ fn value(b: u8) -> u8
     requires { ⌜ isHex b ≡ true ⌝ }
     ensures { λ r. ⌜ (r ≡ valueOf b) × (r < 16) ⌝ }
 {
-    if b <= 57 { b - 48 } else { b - 87 }
+    if b <= b'9' { b - NUMBERS } else { b - LETTERS }
 }
 
 // The digit of a value.
@@ -151,5 +158,5 @@ fn digit(v: u8) -> u8
     requires { ⌜ v < 16 ⌝ }
     ensures { λ r. ⌜ r ≡ digitOf v ⌝ }
 {
-    if v < 10 { 48 + v } else { 87 + v }
+    if v < 10 { NUMBERS + v } else { LETTERS + v }
 }
