@@ -1,0 +1,3 @@
+-- Laws of the program's answers.
+pub mod Lengths
+pub mod Counting

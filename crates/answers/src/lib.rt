@@ -1,0 +1,74 @@
+// The program's answer: the bytes that it writes for the bytes that it reads.
+ghost use mathlib.Core.Path.{_≡_};
+ghost use mathlib.Core.Bool.{true};
+ghost use mathlib.Core.List.{_++_};
+ghost use Prim.Native.Nat.{_<_, _≤_};
+ghost use lib.ListN.{length};
+ghost use Rattle.nests.specs.Valid.{isValid};
+ghost use Rattle.nests.specs.Stored.{nestIn, IsCounted};
+ghost use Rattle.lines.specs.Writing.{over};
+ghost use Rattle.placements.specs.Placements.{areGaps};
+ghost use Rattle.placements.specs.Words.{gapsIn};
+ghost use Rattle.texts.specs.Program.{refusalText, countsText};
+ghost use Rattle.answers.specs.Answers.{ROOM, LINES, keyAndCounts};
+use lines::put_frame;
+use nests::DO;
+use nests::Nest;
+use placements::Placement;
+use placements::count_of;
+use texts::write_text;
+
+// The kinds of the program's own lines.
+const COUNT: u8 = 34;
+
+const REFUSAL: u8 = 47;
+
+// Writes a key's frames, then the counts; gives the length.
+fn write_key(nest: Nest, key: Placement, out: &mut [u8]) -> usize
+    requires { ⌜ IsCounted nest ⌝ }
+    requires { ⌜ isValid (nestIn nest) ≡ true ⌝ }
+    requires { ⌜ areGaps (nestIn nest) (gapsIn (key .words)) ≡ true ⌝ }
+    requires { ⌜ ROOM ≤ length (now out) ⌝ }
+    ensures { λ r. ⌜ r ≡ length (keyAndCounts (nestIn nest) (gapsIn (key .words))) ⌝ }
+    ensures { λ r. ⌜ now (out .exit) ≡ over (keyAndCounts (nestIn nest) (gapsIn (key .words))) (now (out .entry)) ⌝ }
+{
+    let at = write_text(key, out);
+    at + write_counts(nest, key, &mut out[at..])
+}
+
+// Writes for each loop in order of its DO a line with its count; gives the length.
+fn write_counts(nest: Nest, key: Placement, out: &mut [u8]) -> usize
+    requires { ⌜ IsCounted nest ⌝ }
+    requires { ⌜ isValid (nestIn nest) ≡ true ⌝ }
+    requires { ⌜ areGaps (nestIn nest) (gapsIn (key .words)) ≡ true ⌝ }
+    requires { ⌜ length (countsText (nestIn nest) (gapsIn (key .words))) ≤ length (now out) ⌝ }
+    ensures { λ r. ⌜ r ≡ length (countsText (nestIn nest) (gapsIn (key .words))) ⌝ }
+    ensures { λ r. ⌜ now (out .exit) ≡ over (countsText (nestIn nest) (gapsIn (key .words))) (now (out .entry)) ⌝ }
+{
+    let count = nest.count;
+    let points = nest.points;
+    let mut at: usize = 0;
+    let mut d: usize = 0;
+    while d < count {
+        if points[d] == DO {
+            let ones = count_of(&points[..count], d, key);
+            let frame = [COUNT, (d % 256) as u8, (ones % 256) as u8];
+            at += put_frame(&mut out[at..], &frame);
+            d += 1;
+        } else {
+            d += 1;
+        }
+    }
+    at
+}
+
+// Writes a refusal: number, and line in two bytes, high first; gives the length.
+fn write_refusal(number: u8, line: usize, out: &mut [u8]) -> usize
+    requires { ⌜ line < LINES ⌝ }
+    requires { ⌜ ROOM ≤ length (now out) ⌝ }
+    ensures { λ r. ⌜ r ≡ length (refusalText number line) ⌝ }
+    ensures { λ r. ⌜ now (out .exit) ≡ over (refusalText number line) (now (out .entry)) ⌝ }
+{
+    let frame = [REFUSAL, number, (line / 256 % 256) as u8, (line % 256) as u8];
+    put_frame(out, &frame)
+}
