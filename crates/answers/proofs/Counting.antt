@@ -1,9 +1,10 @@
--- The counts written loop by loop, in order of the DOs: what is written and what is left give the whole text.
--- Main statements: `Counts`, what a turn keeps; `count-begin`, `count-skip`, `count-on`, `count-done`.
-use mathlib.Core.Path.{_≡_, refl, sym, _∙_, ap}
+-- The counts written loop by loop, in order of the DOs: what is written and what is left give the whole text, whatever
+-- the dependences.
+-- Main statements: `Counting`, what a turn keeps; `count-begin`, `count-skip`, `count-on`, `count-done`.
+use mathlib.Core.Path.{_≡_, sym, _∙_, ap}
 use mathlib.Core.Bool.{true}
 use mathlib.Core.List.{List, [], _∷_, _++_}
-use Prim.Native.Nat.{ℕ, suc, _+_, _-_, _%_, _≤_, _<_}
+use Prim.Native.Nat.{ℕ, _+_, _-_, _*_, _%_, _≤_, _<_}
 use native.Mathlib.Numerals.{add-one}
 use native.Mathlib.Omega.{arith}
 use lib.ListN.{length, getD, drop, length-append, drop-of-length-le}
@@ -11,27 +12,20 @@ use lib.Seq.{drop-cons}
 use borrow.Author.Tests.{eq-eqb, ne-eqb}
 use borrow.Rule.Slice.PartMut.{midOf, putMid}
 use Rattle.nests.specs.Kinds.{DO, POINTS}
-use Rattle.nests.specs.Nests.{Nest}
+use Rattle.nests.specs.Nests.{Dep, Nest, nest}
 use Rattle.lines.specs.Lines.{lineText}
 use Rattle.lines.specs.Writing.{over}
 use Rattle.lines.proofs.Parts.{Partly, part-begin, part-room, part-length, part-on, part-left, part-done}
-use Rattle.placements.specs.Placements.{areGaps, loopCount}
+use Rattle.placements.specs.Placements.{areGapsFrom, loopCount}
 use Rattle.texts.specs.Program.{COUNT, countsFrom, countsText}
-use Rattle.answers.proofs.Lengths.{count-byte, line-length}
+use Rattle.answers.specs.Answers.{CountsSay}
+use Rattle.answers.proofs.Lengths.{count-byte, line-length, counts-length}
 
 -- the counts of the loops from point d on are left
 pub restOf : Nest → List ℕ → ℕ → List ℕ
 restOf n gs d = countsFrom n gs d (drop d (n .points))
 
-pub record Counts (n : Nest) (gs o out : List ℕ) (at d : ℕ) : Type 0 where
-  pub low : d ≤ length (n .points)
-  pub part : Partly (countsText n gs) (restOf n gs d) o out at
-
-pub count-begin : (n : Nest) (gs o : List ℕ) → Counts n gs o o 0 0
-unfolding restOf
-count-begin n gs o = record { low = omega arith; part = part-begin (countsText n gs) o }
-
--- the rest at a point that is no DO, at a DO, at the end
+-- at a point that is no DO, at a DO, at the end
 rest-skip
     : (n : Nest) (gs : List ℕ) (d : ℕ)
     → d < length (n .points)
@@ -52,70 +46,97 @@ rest-end : (n : Nest) (gs : List ℕ) (d : ℕ) → length (n .points) ≤ d →
 unfolding restOf countsFrom
 rest-end n gs d h = rw (drop-of-length-le (n .points) {i = d} h)
 
-module _ (n : Nest) (gs o out : List ℕ) (at d : ℕ) (c : Counts n gs o out at d) where
-  pub count-length : length (countsText n gs) ≤ length o → length out ≡ length o
-  count-length fits = part-length (countsText n gs) (restOf n gs d) o out at (c .part) fits
+-- the lines of the loops before point d are written
+pub record Counting (ps gs o out : List ℕ) (at d : ℕ) : Type 0 where
+  pub low : d ≤ length ps
+  pub part : (ds : List Dep) → Partly (countsText (nest ps ds) gs) (restOf (nest ps ds) gs d) o out at
 
-  pub count-within : length (countsText n gs) ≤ length o → at ≤ length o
-  count-within fits = omega (arith, part-room (countsText n gs) (restOf n gs d) o out at (c .part) fits)
+pub count-begin : (ps gs o : List ℕ) → Counting ps gs o o 0 0
+unfolding restOf
+count-begin ps gs o = record { low = omega arith; part = λ ds. part-begin (countsText (nest ps ds) gs) o }
 
-  pub count-skip : d < length (n .points) → (getD (n .points) d 0 ≡ DO → ⊥) → Counts n gs o out at (d + 1)
-  count-skip h e =
-      record {
-        low = omega arith;
-        part = part-left (countsText n gs) (restOf n gs d) o out at (c .part) (restOf n gs (d + 1)) (rest-skip n gs d h e);
-      }
+module _
+    (ps gs o out : List ℕ)
+    (at d : ℕ)
+    (c : Counting ps gs o out at d)
+    (room : 7 * length ps ≤ length o)
+  where
+    fits : (ds : List Dep) → length (countsText (nest ps ds) gs) ≤ length o
+    fits ds = omega (arith, counts-length (nest ps ds) gs 0 ps)
 
-  module _
-      (fits : length (countsText n gs) ≤ length o)
-      (h : d < length (n .points))
-      (e : getD (n .points) d 0 ≡ DO)
-    where
+    pub count-length : length out ≡ length o
+    count-length = part-length (countsText (nest ps []) gs) (restOf (nest ps []) gs d) o out at (c .part []) (fits [])
+
+    pub count-within : at ≤ length o
+    count-within =
+        omega (arith, part-room (countsText (nest ps []) gs) (restOf (nest ps []) gs d) o out at (c .part []) (fits []))
+
+    pub count-skip : d < length ps → (getD ps d 0 ≡ DO → ⊥) → Counting ps gs o out at (d + 1)
+    count-skip h e =
+        record {
+          low = omega arith;
+          part =
+              λ ds.
+              part-left (countsText (nest ps ds) gs) (restOf (nest ps ds) gs d) o out at (c .part ds)
+              (restOf (nest ps ds) gs (d + 1))
+              (rest-skip (nest ps ds) gs d h e);
+        }
+
+    module _ (h : d < length ps) (e : getD ps d 0 ≡ DO) where
       pub count-room : at + 7 ≤ length o
       count-room =
+          let n = nest ps [] in
           let line = lineText (COUNT ∷ (d ∷ (loopCount n gs d ∷ []))) in
           let long : length (restOf n gs d) ≡ length line + length (restOf n gs (d + 1)) =
           ap length (rest-do n gs d h e) ∙ length-append line (restOf n gs (d + 1)) in
           omega
           (arith,
           line-length d (loopCount n gs d),
-          part-room (countsText n gs) (restOf n gs d) o out at (c .part) fits)
+          part-room (countsText n gs) (restOf n gs d) o out at (c .part []) (fits []))
 
       -- the line of the loop whose DO is d, where `ones` is its count
       pub count-on
           : (ones r : ℕ) (q : List ℕ)
-          → length (n .points) ≤ POINTS
-          → areGaps n gs ≡ true
-          → ones ≡ loopCount n gs d
+          → length ps ≤ POINTS
+          → areGapsFrom 0 (length ps) gs ≡ true
+          → ((ds : List Dep) → ones ≡ loopCount (nest ps ds) gs d)
           → r ≡ length (lineText (COUNT ∷ (d % 256 ∷ (ones % 256 ∷ []))))
           → q ≡ over (lineText (COUNT ∷ (d % 256 ∷ (ones % 256 ∷ [])))) (midOf at (length out - at) out)
-          → Counts n gs o (putMid at (length out - at) out q) (at + r) (d + 1)
+          → Counting ps gs o (putMid at (length out - at) out q) (at + r) (d + 1)
       count-on ones r q few gaps is l w =
-          let loop : d % 256 ≡ d = omega arith in
-          let count : ones % 256 ≡ loopCount n gs d = omega (arith, count-byte n gs d few gaps) in
           record {
             low = omega arith;
             part =
+                λ ds.
+                let n = nest ps ds in
+                let loop : d % 256 ≡ d = omega arith in
+                let count : ones % 256 ≡ loopCount n gs d = omega (arith, is ds, count-byte n gs d few gaps) in
                 part-on
                 (countsText n gs)
                 (restOf n gs d)
                 o
                 out
                 at
-                (c .part)
+                (c .part ds)
                 (lineText (COUNT ∷ (d % 256 ∷ (ones % 256 ∷ []))))
                 (restOf n gs (d + 1))
                 q
                 r
-                fits
+                (fits ds)
                 (rw (loop, count) (rest-do n gs d h e))
                 l
                 w;
           }
 
-  pub count-done
-      : length (n .points) ≤ d
-      → (at ≡ length (countsText n gs)) × (out ≡ over (countsText n gs) o)
-  count-done h =
-      part-done (countsText n gs) o out at
-      (part-left (countsText n gs) (restOf n gs d) o out at (c .part) [] (rest-end n gs d h))
+    pub count-done : length ps ≤ d → CountsSay ps gs o out at
+    count-done h =
+        record {
+          length-is = λ ds. all ds .0;
+          out-is = λ ds. all ds .1;
+        }
+      where
+        all : (ds : List Dep) → (at ≡ length (countsText (nest ps ds) gs)) × (out ≡ over (countsText (nest ps ds) gs) o)
+        all ds =
+            part-done (countsText (nest ps ds) gs) o out at
+            (part-left (countsText (nest ps ds) gs) (restOf (nest ps ds) gs d) o out at (c .part ds) []
+            (rest-end (nest ps ds) gs d h))

@@ -1,9 +1,9 @@
--- How long the program's texts are, and that a loop's count is a byte.
--- Main statements: `count-byte`, `key-room`, `counts-length`, `answer-room`.
+-- How long the program's texts are, and that counts and the halves of line numbers are bytes.
+-- Main statements: `line-halves`, `count-byte`, `counts-length`, `answer-room`.
 use mathlib.Core.Path.{_≡_, refl, ap}
 use mathlib.Core.Bool.{Bool, true, false}
 use mathlib.Core.List.{List, [], _∷_, _++_}
-use Prim.Native.Nat.{ℕ, zero, suc, _+_, _-_, _*_, _≤_, _<_}
+use Prim.Native.Nat.{ℕ, suc, _+_, _-_, _*_, _/_, _%_, _≤_, _<_}
 use native.Mathlib.Omega.{arith}
 use lib.Dec.{eqb}
 use lib.ListN.{length, length-append}
@@ -16,9 +16,18 @@ use Rattle.lines.proofs.Writing.{text-length}
 use Rattle.placements.specs.Placements.{areGapsFrom, areGaps, loopCount}
 use Rattle.placements.proofs.Rising.{rises}
 use Rattle.texts.specs.PlacementTexts.{keyText}
-use Rattle.texts.specs.Program.{COUNT, countsFrom, countsText}
+use Rattle.texts.specs.Program.{COUNT, REFUSAL, refusalText, countsFrom, countsText}
 use Rattle.texts.proofs.Written.{key-length}
-use Rattle.answers.specs.Answers.{ROOM, keyAndCounts}
+use Rattle.answers.specs.Answers.{ROOM, LINES, keyAndCounts}
+
+-- a line number in two bytes
+pub line-halves
+    : (number line : ℕ)
+    → line < LINES
+    → lineText (REFUSAL ∷ (number ∷ (line / 256 % 256 ∷ (line % 256 ∷ [])))) ≡ refusalText number line
+line-halves number line h =
+    let high : line / 256 % 256 ≡ line / 256 = omega arith in
+    rw high
 
 -- a rising list has no more gaps than there are between its bounds
 pub rising-length : (last n : ℕ) (gs : List ℕ) → areGapsFrom last n gs ≡ true → length gs ≤ n - suc last

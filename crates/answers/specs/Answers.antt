@@ -4,7 +4,7 @@ use mathlib.Core.Path.{_≡_}
 use mathlib.Core.List.{List, _++_}
 use Prim.Native.Nat.{ℕ}
 use lib.ListN.{length}
-use Rattle.nests.specs.Nests.{Nest}
+use Rattle.nests.specs.Nests.{Dep, Nest, nest}
 use Rattle.lines.specs.Writing.{over}
 use Rattle.placements.specs.Keys.{IsKey}
 use Rattle.texts.specs.NestTexts.{readNest}
@@ -18,6 +18,11 @@ ROOM = 4096
 -- a line number fits two bytes
 abbrev pub LINES : ℕ
 LINES = 65536
+
+-- the counts of the loops in points ps, for any dependences, over the start of the buffer, and their length
+pub record CountsSay (ps gs out out′ : List ℕ) (r : ℕ) : Type 0 where
+  pub length-is : (ds : List Dep) → r ≡ length (countsText (nest ps ds) gs)
+  pub out-is : (ds : List Dep) → out′ ≡ over (countsText (nest ps ds) gs) out
 
 -- the key's frames, then the counts
 abbrev pub keyAndCounts : Nest → List ℕ → List ℕ

@@ -2,15 +2,15 @@
 ghost use mathlib.Core.Path.{_≡_};
 ghost use mathlib.Core.Bool.{true};
 ghost use mathlib.Core.List.{_++_};
-ghost use Prim.Native.Nat.{_<_, _≤_};
+ghost use Prim.Native.Nat.{_*_, _<_, _≤_};
 ghost use lib.ListN.{length};
-ghost use Rattle.nests.specs.Valid.{isValid};
+ghost use Rattle.nests.specs.Valid.{isShape, isValid};
 ghost use Rattle.nests.specs.Stored.{nestIn, IsCounted};
 ghost use Rattle.lines.specs.Writing.{over};
-ghost use Rattle.placements.specs.Placements.{areGaps};
-ghost use Rattle.placements.specs.Words.{gapsIn};
-ghost use Rattle.texts.specs.Program.{refusalText, countsText};
-ghost use Rattle.answers.specs.Answers.{ROOM, LINES, keyAndCounts};
+ghost use Rattle.placements.specs.Placements.{areGapsFrom, areGaps};
+ghost use Rattle.placements.specs.Words.{GAPS, gapsIn};
+ghost use Rattle.texts.specs.Program.{refusalText};
+ghost use Rattle.answers.specs.Answers.{ROOM, LINES, keyAndCounts, CountsSay};
 use lines::put_frame;
 use nests::DO;
 use nests::Nest;
@@ -24,7 +24,7 @@ const COUNT: u8 = 34;
 const REFUSAL: u8 = 47;
 
 // Writes a key's frames, then the counts; gives the length.
-fn write_key(nest: Nest, key: Placement, out: &mut [u8]) -> usize
+fn write_both(nest: Nest, key: Placement, out: &mut [u8]) -> usize
     requires { ⌜ IsCounted nest ⌝ }
     requires { ⌜ isValid (nestIn nest) ≡ true ⌝ }
     requires { ⌜ areGaps (nestIn nest) (gapsIn (key .words)) ≡ true ⌝ }
@@ -32,26 +32,24 @@ fn write_key(nest: Nest, key: Placement, out: &mut [u8]) -> usize
     ensures { λ r. ⌜ r ≡ length (keyAndCounts (nestIn nest) (gapsIn (key .words))) ⌝ }
     ensures { λ r. ⌜ now (out .exit) ≡ over (keyAndCounts (nestIn nest) (gapsIn (key .words))) (now (out .entry)) ⌝ }
 {
+    let count = nest.count;
+    let points = nest.points;
     let at = write_text(key, out);
-    at + write_counts(nest, key, &mut out[at..])
+    at + write_counts(&points[..count], key, &mut out[at..])
 }
 
 // Writes for each loop in order of its DO a line with its count; gives the length.
-fn write_counts(nest: Nest, key: Placement, out: &mut [u8]) -> usize
-    requires { ⌜ IsCounted nest ⌝ }
-    requires { ⌜ isValid (nestIn nest) ≡ true ⌝ }
-    requires { ⌜ areGaps (nestIn nest) (gapsIn (key .words)) ≡ true ⌝ }
-    requires { ⌜ length (countsText (nestIn nest) (gapsIn (key .words))) ≤ length (now out) ⌝ }
-    ensures { λ r. ⌜ r ≡ length (countsText (nestIn nest) (gapsIn (key .words))) ⌝ }
-    ensures { λ r. ⌜ now (out .exit) ≡ over (countsText (nestIn nest) (gapsIn (key .words))) (now (out .entry)) ⌝ }
+fn write_counts(points: &[u8], key: Placement, out: &mut [u8]) -> usize
+    requires { ⌜ (isShape (now points) ≡ true) × (length (now points) ≤ GAPS) ⌝ }
+    requires { ⌜ areGapsFrom 0 (length (now points)) (gapsIn (key .words)) ≡ true ⌝ }
+    requires { ⌜ 7 * length (now points) ≤ length (now out) ⌝ }
+    ensures { λ r. ⌜ CountsSay (now (points .entry)) (gapsIn (key .words)) (now (out .entry)) (now (out .exit)) r ⌝ }
 {
-    let count = nest.count;
-    let points = nest.points;
     let mut at: usize = 0;
     let mut d: usize = 0;
-    while d < count {
+    while d < points.len() {
         if points[d] == DO {
-            let ones = count_of(&points[..count], d, key);
+            let ones = count_of(points, d, key);
             let frame = [COUNT, (d % 256) as u8, (ones % 256) as u8];
             at += put_frame(&mut out[at..], &frame);
             d += 1;

@@ -1,3 +1,8 @@
+use mathlib.Core.Path.{_≡_, _∙_, ap}
+use mathlib.Core.List.{List}
+use Prim.Native.Nat.{ℕ}
+use Rattle.lines.specs.Writing.{over}
+use Rattle.answers.proofs.Lengths.{line-halves}
 use borrow.Author.Needs.{needs}
 use Rattle.answers.proofs.write_refusal.Statement.{statement}
 use Rattle.answers.proofs.write_refusal.Tie as tie
@@ -27,7 +32,12 @@ same-length c = search needs
 
 -- src/lib.rt:66:1
 returns : tie.Need-returns
-returns c = ?
+returns c =
+    let a = c .before .before .before .before .before .before .args in
+    let f = c .before .before .put-frame in
+    (f .ensures .0,
+    f .ensures .1 ∙
+    ap (λ (t : List ℕ). over t (a .out .now)) (line-halves (a .number) (a .line) (c .before .before .before .before .before .before .pre .0)))
 
 pub write-refusal-spec : {M : Type 1} → statement M
 write-refusal-spec =
