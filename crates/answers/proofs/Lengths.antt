@@ -1,6 +1,6 @@
 -- How long the program's texts are, and that counts and the halves of line numbers are bytes.
--- Main statements: `line-halves`, `count-byte`, `counts-length`, `answer-room`.
-use mathlib.Core.Path.{_≡_, refl, ap}
+-- Main statements: `line-halves`, `count-byte`, `counts-length`, `key-room`.
+use mathlib.Core.Path.{_≡_, refl}
 use mathlib.Core.Bool.{Bool, true, false}
 use mathlib.Core.List.{List, [], _∷_, _++_}
 use Prim.Native.Nat.{ℕ, suc, _+_, _-_, _*_, _/_, _%_, _≤_, _<_}
@@ -16,9 +16,9 @@ use Rattle.lines.proofs.Writing.{text-length}
 use Rattle.placements.specs.Placements.{areGapsFrom, areGaps, loopCount}
 use Rattle.placements.proofs.Rising.{rises}
 use Rattle.texts.specs.PlacementTexts.{keyText}
-use Rattle.texts.specs.Program.{COUNT, REFUSAL, refusalText, countsFrom, countsText}
+use Rattle.texts.specs.Program.{COUNT, REFUSAL, refusalText, countsFrom}
 use Rattle.texts.proofs.Written.{key-length}
-use Rattle.answers.specs.Answers.{ROOM, LINES, keyAndCounts}
+use Rattle.answers.specs.Answers.{ROOM, LINES}
 
 -- a line number in two bytes
 pub line-halves
@@ -80,14 +80,10 @@ counts-length n gs i (p ∷ ps) = go (eqb p DO) (counts-length n gs (suc i) ps)
     go true h = omega (arith, length-append line (countsFrom n gs (suc i) ps), line-length i (loopCount n gs i))
     go false h = omega arith
 
--- and the buffer has room for all
-pub answer-room
+-- and the buffer has room for the key and the counts
+pub key-room
     : (n : Nest) (gs : List ℕ)
     → length (n .points) ≤ POINTS
     → areGaps n gs ≡ true
-    → length (keyAndCounts n gs) ≤ ROOM
-answer-room n gs few h =
-    let key = key-bytes gs in
-    let gaps = rising-length 0 (length (n .points)) gs h in
-    let counts = counts-length n gs 0 (n .points) in
-    omega (arith, length-append (keyText gs) (countsText n gs))
+    → length (keyText gs) + 7 * length (n .points) ≤ ROOM
+key-room n gs few h = omega (arith, key-bytes gs, rising-length 0 (length (n .points)) gs h)

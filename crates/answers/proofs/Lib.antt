@@ -1,3 +1,4 @@
 -- Laws of the program's answers.
 pub mod Lengths
 pub mod Counting
+pub mod Both
