@@ -1,2 +1,3 @@
 -- Laws of the row of one loop.
-pub mod Values
+pub mod Suffix
+pub mod Listings

@@ -2,9 +2,53 @@
 use sweeps::Front;
 ghost use mathlib.Core.Path.{_≡_};
 ghost use Prim.Native.Nat.{ℕ, _+_, _<_, _≤_, min};
+ghost use mathlib.Core.Bool.{_||_};
+ghost use lib.Dec.{leb};
 ghost use lib.ListN.{length};
+ghost use Rattle.laws.specs.Choice.{pick};
 ghost use Rattle.sweeps.specs.Listed.{Low};
-ghost use Rattle.rows.specs.Valued.{ValueSays};
+ghost use Rattle.rows.specs.Valued.{ValueSays, ValuesSay};
+
+// The values of all suffixes, d + 1 to e, into two lists; gives the least number of barriers among them.
+pub fn values(
+    points: &[u8],
+    own: &[usize],
+    need: &mut [usize],
+    left: &[usize],
+    kids: usize,
+    limit: &[usize],
+    base: usize,
+    d: usize,
+    e: usize,
+    cs: &mut [usize],
+    fs: &mut [usize],
+) -> usize
+    requires { ⌜ e < length (now points) ⌝ }
+    requires { ⌜ e < length (now own) ⌝ }
+    requires { ⌜ e < length (now need) ⌝ }
+    requires { ⌜ kids + e < length (now left) ⌝ }
+    requires { ⌜ base + e < length (now limit) ⌝ }
+    requires { ⌜ Low (now own) ⌝ }
+    requires { ⌜ d < e ⌝ }
+    requires { ⌜ e < length (now cs) ⌝ }
+    requires { ⌜ e < length (now fs) ⌝ }
+    ensures {
+        λ r. ⌜ ValuesSay (now (points .entry)) (now (own .entry)) (now (need .entry)) (now (left .entry)) kids (now (limit .entry)) base d e e (now (cs .exit)) (now (fs .exit)) r ⌝
+    }
+    ensures { λ r. ⌜ now (need .exit) ≡ now (need .entry) ⌝ }
+{
+    let mut m = 0;
+    let mut p = d;
+    while p < e {
+        let q = p + 1;
+        let v = value(points, own, need, left, kids, limit, base, d, e, q);
+        cs[q] = v.c;
+        fs[q] = v.f;
+        m = lesser(p, d, v.c, m);
+        p = q;
+    }
+    m
+}
 
 // The value for the suffix that starts at q. The suffix is one more line, from q to e; its place in `need` is put back.
 pub fn value(
@@ -48,4 +92,17 @@ fn smaller(a: usize, b: usize) -> usize
     ensures { λ r. ⌜ r ≡ min a b ⌝ }
 {
     if b < a { b } else { a }
+}
+
+// The least number of barriers with one more value, that of p + 1.
+fn lesser(p: usize, d: usize, here: usize, m: usize) -> usize
+    ensures { λ r. ⌜ r ≡ pick (leb p d || leb here m) here m ⌝ }
+{
+    if p <= d {
+        return here;
+    }
+    if here <= m {
+        return here;
+    }
+    m
 }
