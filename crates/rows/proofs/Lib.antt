@@ -1,3 +1,4 @@
 -- Laws of the row of one loop.
 pub mod Suffix
 pub mod Listings
+pub mod Choosing

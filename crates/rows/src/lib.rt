@@ -8,6 +8,61 @@ ghost use lib.ListN.{length};
 ghost use Rattle.laws.specs.Choice.{pick};
 ghost use Rattle.sweeps.specs.Listed.{Low};
 ghost use Rattle.rows.specs.Valued.{ValueSays, ValuesSay};
+ghost use Rattle.rows.specs.Made.{Kept, BetterSays, ChooseSays};
+
+// The leftmost front so far, 0 for none, and the suffix that gives it.
+pub struct Leftmost {
+    pub f: usize,
+    pub at: usize,
+}
+
+// The fronts of the suffixes from e down to d + 1 with m barriers, and where they come from, into the loop's row.
+fn choose(
+    cs: &[usize],
+    fs: &[usize],
+    m: usize,
+    left: &mut [usize],
+    choice: &mut [usize],
+    base: usize,
+    d: usize,
+    e: usize,
+)
+    requires { ⌜ e < length (now cs) ⌝ }
+    requires { ⌜ e < length (now fs) ⌝ }
+    requires { ⌜ base + e < length (now left) ⌝ }
+    requires { ⌜ base + e < length (now choice) ⌝ }
+    requires { ⌜ d < e ⌝ }
+    ensures { λ r. ⌜ ChooseSays (now (cs .entry)) (now (fs .entry)) m (now (left .exit)) (now (choice .exit)) base d e ⌝ }
+    ensures { λ r. ⌜ Kept (now (left .entry)) (now (left .exit)) (base + d) (base + e) ⌝ }
+    ensures { λ r. ⌜ Kept (now (choice .entry)) (now (choice .exit)) (base + d) (base + e) ⌝ }
+{
+    let mut f = 0;
+    let mut at = 0;
+    let mut q = e;
+    while d < q {
+        let best = better(f, at, m, q, cs[q], fs[q]);
+        f = best.f;
+        at = best.at;
+        left[base + q] = f;
+        choice[base + q] = at;
+        q -= 1;
+    }
+}
+
+// The front so far, or that of the suffix q where it has m barriers and its front is no further right.
+fn better(f: usize, at: usize, m: usize, q: usize, c: usize, here: usize) -> Leftmost
+    ensures { λ r. ⌜ BetterSays f at m q c here (r .f) (r .at) ⌝ }
+{
+    if c == m {
+        if f == 0 {
+            return Leftmost { f: here, at: q };
+        }
+        if here <= f {
+            return Leftmost { f: here, at: q };
+        }
+    }
+    Leftmost { f: f, at: at }
+}
 
 // The values of all suffixes, d + 1 to e, into two lists; gives the least number of barriers among them.
 pub fn values(
