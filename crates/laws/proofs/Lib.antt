@@ -4,3 +4,4 @@ pub mod Ranges
 pub mod Bits
 pub mod Choices
 pub mod Members
+pub mod Stores

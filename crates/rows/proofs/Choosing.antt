@@ -3,16 +3,16 @@
 use mathlib.Core.Path.{_≡_, refl, sym, _∙_, ap}
 use mathlib.Core.Bool.{Bool, true, false, _&&_, _||_}
 use mathlib.Core.List.{List}
-use mathlib.Core.Logic.{_⊎_, inl, inr, ⊎-elim}
 use Prim.Native.Nat.{ℕ, zero, suc, _+_, _-_, _≤_, _<_}
 use native.Mathlib.Numerals.{add-one}
 use native.Mathlib.Omega.{arith}
 use lib.Dec.{eqb, ltb, leb}
 use lib.ListN.{length, getD, set, length-set}
-use lib.Seq.{getD-set-same, getD-set-other}
+use lib.Seq.{getD-set-other}
 use borrow.Author.Tests.{lt-ltb, le-ltb, le-leb, lt-leb, eq-eqb, ne-eqb}
 use Rattle.laws.specs.Choice.{pick}
-use Rattle.laws.proofs.Tests.{le-or, eq-or}
+use Rattle.laws.proofs.Tests.{lt-by}
+use Rattle.laws.proofs.Stores.{stored}
 use Rattle.planner.specs.Sweep.{State, Front, front, better, best}
 use Rattle.sweeps.specs.Listed.{at, row}
 use Rattle.rows.specs.Made.{Kept, BetterSays, Chosen}
@@ -47,15 +47,6 @@ pub kept-more : (xs ys : List ℕ) (base q e x : ℕ) → 0 < q → q ≤ e → 
 kept-more xs ys base q e x a b k i h =
     getD-set-other ys (base + q) i x 0 (λ (z : i ≡ base + q). absurd (omega (arith, h (omega arith)))) ∙ k i (λ l. h (omega arith))
 
--- the entry just written, and the later ones
-row-more : (ys : List ℕ) (base q p x : ℕ) → base + q < length ys → q ≤ p → (q < p → row ys base p ≡ x) → (y : ℕ) → (q ≡ p → y ≡ x) → row (set ys (base + q) y) base p ≡ x
-row-more ys base q p x h l old y new = ⊎-elim
-    (λ (z : p ≤ q).
-    let e : p ≡ q = omega arith in
-    rw e (getD-set-same ys (base + q) y 0 h) ∙ new (sym e))
-    (λ (z : q < p). getD-set-other ys (base + q) (base + p) y 0 (λ (w : base + p ≡ base + q). absurd (omega arith)) ∙ old z)
-    (le-or p q)
-
 -- the best front of the suffixes after q
 abbrev pub Run : (ℕ → State) → ℕ → ℕ → ℕ → ℕ → ℕ → Type 0
 Run v c e q f at = (k : ℕ) → e ≤ k + q → best v c e k (suc q) ≡ front f at
@@ -81,14 +72,20 @@ pub chosen-more
     → Run v c e (q - 1) f at → Chosen v c left choice base q e → Chosen v c (set left (base + q) f) (set choice (base + q) at) base (q - 1) e
 chosen-more v c left choice base q e f at a b h k r s =
     record {
-      left-is = λ p i j. row-more left base q p (best v c e (suc e) p .f) h (omega arith) (λ z. s .left-is p z j) f (λ z. sym (rw z at (ap (λ (x : Front). x .f) now)));
-      choice-is = λ p i j. row-more choice base q p (best v c e (suc e) p .at) k (omega arith) (λ z. s .choice-is p z j) at (λ z. sym (rw z at (ap (λ (x : Front). x .at) now)));
+      left-is = λ p i j. stored left (base + q) f (base + p) (best v c e (suc e) p .f) h (λ z. sym (rw (same p z) (ap (λ (x : Front). x .f) now))) (λ z. s .left-is p (later p i z) j);
+      choice-is = λ p i j. stored choice (base + q) at (base + p) (best v c e (suc e) p .at) k (λ z. sym (rw (same p z) (ap (λ (x : Front). x .at) now))) (λ z. s .choice-is p (later p i z) j);
     }
   where
     now : best v c e (suc e) q ≡ front f at
     now =
         let z : suc (q - 1) ≡ q = omega arith in
         rw z at (r (suc e) (omega arith))
+
+    same : (p : ℕ) → base + p ≡ base + q → p ≡ q
+    same p z = omega arith
+
+    later : (p : ℕ) → q - 1 < p → (base + p ≡ base + q → ⊥) → q < p
+    later p i z = lt-by λ l. z (omega arith)
 
 -- the rows so far: the suffixes after q are done, f and a are the front and its place
 pub record Choosing (cs fs : List ℕ) (m : ℕ) (left₀ choice₀ : List ℕ) (base d e : ℕ) (left choice : List ℕ) (f a q : ℕ) : Type 0 where

@@ -2,3 +2,5 @@
 pub mod Suffix
 pub mod Listings
 pub mod Choosing
+pub mod Copying
+pub mod Making

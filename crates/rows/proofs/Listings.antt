@@ -8,11 +8,11 @@ use Prim.Native.Nat.{ℕ, zero, suc, _+_, _≤_, _<_}
 use native.Mathlib.Numerals.{add-one}
 use native.Mathlib.Omega.{arith}
 use lib.Dec.{leb}
-use lib.ListN.{length, getD, set}
-use lib.Seq.{getD-set-same, getD-set-other}
+use lib.ListN.{length, set}
 use borrow.Author.Tests.{le-leb}
 use Rattle.laws.specs.Choice.{pick}
 use Rattle.laws.proofs.Tests.{le-or}
+use Rattle.laws.proofs.Stores.{stored}
 use Rattle.planner.specs.Sweep.{State, least}
 use Rattle.sweeps.specs.Listed.{at}
 use Rattle.rows.specs.Valued.{Valued, Listing}
@@ -20,15 +20,6 @@ use Rattle.rows.specs.Valued.{Valued, Listing}
 pub listing-none : (v : ℕ → State) (cs fs : List ℕ) (d m : ℕ) → Listing v cs fs d d m
 listing-none v cs fs d m =
     record { c-at = λ q a b. absurd (omega arith); f-at = λ q a b. absurd (omega arith); least-is = λ h. absurd (omega arith) }
-
--- an entry of a list after one more value
-put-at : (xs : List ℕ) (p x q y : ℕ) → p + 1 < length xs → (q ≤ p → at xs q ≡ y) → (q ≡ p + 1 → x ≡ y) → q ≤ p + 1 → at (set xs (p + 1) x) q ≡ y
-put-at xs p x q y h old new l = ⊎-elim
-    (λ (a : q ≤ p). getD-set-other xs (p + 1) q x 0 (λ (e : q ≡ p + 1). absurd (omega arith)) ∙ old a)
-    (λ (a : p < q).
-    let e : q ≡ p + 1 = omega arith in
-    rw e (getD-set-same xs (p + 1) x 0 h) ∙ new e)
-    (le-or q p)
 
 least-more
     : (v : ℕ → State) (d p m c m′ : ℕ) → (d < p → m ≡ least (λ q. v q .c) d p) → c ≡ v (p + 1) .c → m′ ≡ pick (leb p d || leb c m) c m
@@ -47,7 +38,7 @@ pub listing-more
     → m′ ≡ pick (leb p d || leb c m) c m → Listing v cs fs d p m → Listing v (set cs (p + 1) c) (set fs (p + 1) f) d (p + 1) m′
 listing-more v cs fs d p m c f m′ h k u n s =
     record {
-      c-at = λ q a b. put-at cs p c q (v q .c) h (λ z. s .c-at q a z) (λ z. rw z (u .c-is)) b;
-      f-at = λ q a b. put-at fs p f q (v q .f) k (λ z. s .f-at q a z) (λ z. rw z (u .f-is)) b;
+      c-at = λ q a b. stored cs (p + 1) c q (v q .c) h (λ z. rw z (u .c-is)) (λ z. s .c-at q a (omega (arith, z)));
+      f-at = λ q a b. stored fs (p + 1) f q (v q .f) k (λ z. rw z (u .f-is)) (λ z. s .f-at q a (omega (arith, z)));
       least-is = λ _. least-more v d p m c m′ (s .least-is) (u .c-is) n;
     }

@@ -8,7 +8,80 @@ ghost use lib.ListN.{length};
 ghost use Rattle.laws.specs.Choice.{pick};
 ghost use Rattle.sweeps.specs.Listed.{Low};
 ghost use Rattle.rows.specs.Valued.{ValueSays, ValuesSay};
-ghost use Rattle.rows.specs.Made.{Kept, BetterSays, ChooseSays};
+ghost use Rattle.rows.specs.Made.{Kept, Copied, Cleared, BetterSays, ChooseSays, RowMade};
+
+// The places of a row, one for each point.
+pub const ROW: usize = 256;
+
+// The row of the loop d with its ENDDO e, from the row of the loops directly inside it, which is the one before.
+pub fn make_row(
+    points: &[u8],
+    own: &[usize],
+    reach: &[usize],
+    limit: &[usize],
+    left: &mut [usize],
+    choice: &mut [usize],
+    base: usize,
+    d: usize,
+    e: usize,
+    some: usize,
+)
+    requires { ⌜ e < length (now points) ⌝ }
+    requires { ⌜ e < length (now own) ⌝ }
+    requires { ⌜ base + e < length (now reach) ⌝ }
+    requires { ⌜ base + e < length (now limit) ⌝ }
+    requires { ⌜ base + e < length (now left) ⌝ }
+    requires { ⌜ base + e < length (now choice) ⌝ }
+    requires { ⌜ Low (now own) ⌝ }
+    requires { ⌜ d < e ⌝ }
+    requires { ⌜ e < 256 ⌝ }
+    requires { ⌜ 256 ≤ base ⌝ }
+    ensures {
+        λ r. ⌜ RowMade (now (points .entry)) (now (own .entry)) (now (reach .entry)) (now (limit .entry)) (now (left .entry)) (now (choice .entry)) (now (left .exit)) (now (choice .exit)) base d e some ⌝
+    }
+{
+    if some == 0 {
+        clear(left, base, d, e);
+        clear(choice, base, d, e);
+        return;
+    }
+    let kids = base - ROW;
+    let mut need = [0; ROW];
+    let mut cs = [0; ROW];
+    let mut fs = [0; ROW];
+    copy_row(reach, base, d, e, &mut need);
+    let m = values(points, own, &mut need, left, kids, limit, base, d, e, &mut cs, &mut fs);
+    choose(&cs, &fs, m, left, choice, base, d, e);
+}
+
+// The entries from d + 1 to e of the row that starts at base.
+fn copy_row(from: &[usize], base: usize, d: usize, e: usize, xs: &mut [usize])
+    requires { ⌜ base + e < length (now from) ⌝ }
+    requires { ⌜ e < length (now xs) ⌝ }
+    requires { ⌜ d < e ⌝ }
+    ensures { λ r. ⌜ Copied (now (from .entry)) base d e (now (xs .exit)) ⌝ }
+{
+    let mut p = d;
+    while p < e {
+        let q = p + 1;
+        xs[q] = from[base + q];
+        p = q;
+    }
+}
+
+// The same entries set to 0.
+fn clear(xs: &mut [usize], base: usize, d: usize, e: usize)
+    requires { ⌜ base + e < length (now xs) ⌝ }
+    requires { ⌜ d < e ⌝ }
+    ensures { λ r. ⌜ Cleared (now (xs .entry)) (now (xs .exit)) base d e ⌝ }
+{
+    let mut p = d;
+    while p < e {
+        let q = p + 1;
+        xs[base + q] = 0;
+        p = q;
+    }
+}
 
 // The leftmost front so far, 0 for none, and the suffix that gives it.
 pub struct Leftmost {
