@@ -9,7 +9,7 @@ use native.Mathlib.Numerals.{add-one}
 use native.Mathlib.Omega.{arith}
 use lib.Dec.{eqb}
 use lib.Arith.{lt-one}
-use lib.Pow.{shr-shr, shl-shr, pow-pos, pow-lt, pow-add, shr-lt}
+use lib.Pow.{shr-shr, shl-shr, shr-le, pow-pos, pow-lt, pow-mono, pow-add}
 use lib.Bits.{bitAnd, bitOr, and-step, or-step, and-shr, or-shr, shifted-even}
 use lib.Count.{ones, ones-step, trailingZeros, under}
 use borrow.Author.Tests.{eqb-true, eqb-false, eq-eqb, ne-eqb}
@@ -66,7 +66,7 @@ unfolding bit
 bit-zero i = rw (zero-shr i)
   where
     zero-shr : (k : ℕ) → 0 / 2 ^ k ≡ 0
-    zero-shr k = omega (arith, lib.Pow.shr-le 0 k)
+    zero-shr k = omega (arith, shr-le 0 k)
 
 -- the lowest bit, and the rest
 pub bit-first : (v : ℕ) → bit v 0 ≡ eqb (v % 2) 1
@@ -79,6 +79,14 @@ bit-shifted v k i = rw (shr-shr v k i)
 
 pub bit-rest : (v i : ℕ) → bit (v / 2) i ≡ bit v (suc i)
 bit-rest v i = let z : 1 + i ≡ suc i = omega arith in bit-shifted v 1 i ∙ rw z
+
+-- a word of k bits has none above them
+pub bit-high : (v k i : ℕ) → v < 2 ^ k → k ≤ i → bit v i ≡ false
+unfolding bit
+bit-high v k i h l =
+    let a : 2 ^ k ≤ 2 ^ i = pow-mono l in
+    let z : v / 2 ^ i ≡ 0 = lt-one (div-lt-iff-lt-mul (pow-pos i) .1 (omega arith)) in
+    rw z
 
 -- a word with one bit
 pub bit-one : (k i : ℕ) → bit (2 ^ k) i ≡ eqb i k

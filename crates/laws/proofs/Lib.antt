@@ -5,3 +5,4 @@ pub mod Bits
 pub mod Choices
 pub mod Members
 pub mod Stores
+pub mod Implies

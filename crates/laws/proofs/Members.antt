@@ -1,5 +1,6 @@
 -- Members of lists, and lists gathered over a run of numbers.
--- Main statements: `in-here`, `in-later`, `in-cons`, `in-gathered`, `gathered-in`, `gathered-before`, `every-below`.
+-- Main statements: `in-here`, `in-later`, `in-cons`, `each-of`, `every-by`, `in-gathered`, `gathered-in`,
+-- `gathered-before`, `every-below`.
 use mathlib.Core.Path.{_≡_, refl}
 use mathlib.Core.Bool.{Bool, true, false, _&&_}
 use mathlib.Core.List.{List, [], _∷_, _++_}
@@ -9,7 +10,7 @@ use native.Mathlib.Omega.{arith}
 use lib.Dec.{eqb}
 use borrow.Author.Tests.{eqb-true, eq-eqb}
 use Rattle.laws.specs.Choice.{pick, isIn}
-use Rattle.laws.proofs.Tests.{never, never-both, and-true, or-left, or-right, or-true, eq-or}
+use Rattle.laws.proofs.Tests.{never, never-both, and-intro, and-true, or-left, or-right, or-true, eq-or}
 
 pub in-here : (x : ℕ) (xs : List ℕ) → isIn x (x ∷ xs) ≡ true
 in-here x xs = or-left (isIn x xs) (eq-eqb x x refl)
@@ -18,7 +19,27 @@ pub in-later : (x y : ℕ) (xs : List ℕ) → isIn x xs ≡ true → isIn x (y 
 in-later x y xs h = or-right (eqb x y) h
 
 pub in-cons : (x y : ℕ) (xs : List ℕ) → isIn x (y ∷ xs) ≡ true → (x ≡ y) ⊎ (isIn x xs ≡ true)
-in-cons x y xs h = ⊎-elim (λ (z : eqb x y ≡ true). inl (eqb-true x y z)) (λ (z : isIn x xs ≡ true). inr z) (or-true (eqb x y) (isIn x xs) h)
+in-cons x y xs h =
+    ⊎-elim
+    (λ (z : eqb x y ≡ true). inl (eqb-true x y z))
+    (λ (z : isIn x xs ≡ true). inr z)
+    (or-true (eqb x y) (isIn x xs) h)
+
+-- a test that holds of every member, computed
+abbrev pub everyIn : (ℕ → Bool) → List ℕ → Bool
+everyIn passes [] = true
+everyIn passes (x ∷ xs) = passes x && everyIn passes xs
+
+module _ (passes : ℕ → Bool) where
+  pub each-of : (xs : List ℕ) → everyIn passes xs ≡ true → (x : ℕ) → isIn x xs ≡ true → passes x ≡ true
+  each-of [] e x h = never h
+  each-of (y ∷ ys) e x h =
+      let z = and-true (passes y) (everyIn passes ys) e in
+      ⊎-elim (λ (q : x ≡ y). rw q (z .0)) (λ (q : isIn x ys ≡ true). each-of ys (z .1) x q) (in-cons x y ys h)
+
+  pub every-by : (xs : List ℕ) → ((x : ℕ) → isIn x xs ≡ true → passes x ≡ true) → everyIn passes xs ≡ true
+  every-by [] h = refl
+  every-by (y ∷ ys) h = and-intro (h y (in-here y ys)) (every-by ys (λ x k. h x (in-later x y ys k)))
 
 -- the values of the f numbers from i on that pass the test, in rising order of the numbers
 abbrev pub gather : (ℕ → Bool) → (ℕ → ℕ) → ℕ → ℕ → List ℕ
@@ -84,13 +105,13 @@ module _ (passes : ℕ → Bool) (value : ℕ → ℕ) (v : ℕ) (ys : List ℕ)
   split-now : (f i : ℕ) → passes i ≡ true → value i ≡ v → SplitAt passes value (suc f) i v []
   split-now f i p e =
       record {
-      at = i;
-      low = omega arith;
-      high = omega arith;
-      passed = p;
-      is = e;
-      earlier = λ j l h q. absurd (omega arith)
-  }
+        at = i;
+        low = omega arith;
+        high = omega arith;
+        passed = p;
+        is = e;
+        earlier = λ j l h q. absurd (omega arith);
+      }
 
   split-later :
       (f i : ℕ) (xs zs : List ℕ) → (passes i ≡ true → isIn (value i) zs ≡ true) →
@@ -98,13 +119,13 @@ module _ (passes : ℕ → Bool) (value : ℕ → ℕ) (v : ℕ) (ys : List ℕ)
       SplitAt passes value (suc f) i v zs
   split-later f i xs zs first more s =
       record {
-      at = s .at;
-      low = omega arith;
-      high = omega arith;
-      passed = s .passed;
-      is = s .is;
-      earlier = earlier
-  }
+        at = s .at;
+        low = omega arith;
+        high = omega arith;
+        passed = s .passed;
+        is = s .is;
+        earlier = earlier;
+      }
     where
       earlier : (j : ℕ) → i ≤ j → j < s .at → passes j ≡ true → isIn (value j) zs ≡ true
       earlier j l h q = ⊎-elim

@@ -127,12 +127,12 @@ frame-digits (b ∷ f) h =
     cc (byte-of-text b (ltb-true b 256 (z .0)), frame-digits f (z .1))
 
 -- a good line spells its frame
-pub record Spells (l : List ℕ) : Type 0 where
+pub record SpellsBytes (l : List ℕ) : Type 0 where
   pub digits : l ≡ digitsOf (frameOf l)
   pub bytes : areBytes (frameOf l) ≡ true
   pub twice : length l ≡ 2 * length (frameOf l)
 
-pub even-spells : (l : List ℕ) → length l % 2 ≡ 0 → allHex l ≡ true → Spells l
+pub even-spells : (l : List ℕ) → length l % 2 ≡ 0 → allHex l ≡ true → SpellsBytes l
 unfolding frameOf
 even-spells [] e h = record { digits = refl; bytes = refl; twice = refl }
 even-spells (a ∷ []) e h = absurd (omega arith)

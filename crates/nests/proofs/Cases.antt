@@ -43,6 +43,15 @@ paper-turn = nest (1 ∷ 3 ∷ 2 ∷ []) (carried 0 1 1 ∷ [])
 abbrev pub paper-bare : Nest
 paper-bare = nest (1 ∷ 2 ∷ []) []
 
+-- 01 03 02 with 110102, 12000101: the smallest ring on which cutting at the first interval end and going on greedily
+-- takes one barrier too many
+abbrev pub paper-ring : Nest
+paper-ring = nest (1 ∷ 3 ∷ 2 ∷ []) (forward 1 2 ∷ carried 0 1 1 ∷ [])
+
+-- 01 01 03 02 02 with 12010202: one barrier inside is enough
+abbrev pub paper-inner : Nest
+paper-inner = nest (1 ∷ 1 ∷ 3 ∷ 2 ∷ 2 ∷ []) (carried 1 2 2 ∷ [])
+
 -- numbers listed for each number below a bound, and compared
 abbrev pub sameList : List ℕ → List ℕ → Bool
 sameList [] [] = true
@@ -70,7 +79,8 @@ share n es gs = sameList (sharedFrom (length (n .points)) 0 (n .points) es) gs
 abbrev deep : ℕ → List ℕ
 deep k = replicate k DO ++ replicate k ENDDO
 
--- the papers break no rule; loops 8 deep are accepted, 9 are not; a point after the outermost loop is not, nor an open loop
+-- the papers break no rule; loops 8 deep are accepted, 9 are not, nor a point after the outermost loop, nor a loop left
+-- open
 abbrev valid-papers : Bool
 valid-papers = isValid paper-P && (isValid paper-Q && (isValid paper-R && (isValid paper-turn && isValid paper-bare)))
 
@@ -78,7 +88,8 @@ abbrev shapes : Bool
 shapes =
     isShape (deep 8) &&
     (not (isShape (deep 9)) &&
-    (not (isShape (DO ∷ ENDDO ∷ STATEMENT ∷ [])) && (not (isShape (DO ∷ DO ∷ ENDDO ∷ [])) && not (isShape (STATEMENT ∷ [])))))
+    (not (isShape (DO ∷ ENDDO ∷ STATEMENT ∷ [])) &&
+    (not (isShape (DO ∷ DO ∷ ENDDO ∷ [])) && not (isShape (STATEMENT ∷ [])))))
 
 -- the ENDDOs of Q's loops 0, 2 and 3, and the loops of its gaps 1 to 9: the gap before a DO is of the loop outside
 abbrev loops : Bool
@@ -102,8 +113,8 @@ abbrev eachFault : List Dep → List ℕ
 eachFault [] = []
 eachFault (e ∷ es) = depFault (paper-Q .points) e ∷ eachFault es
 
--- numbers 6 and 7 of dependences on Q's points: a good one; no point 10; s an ENDDO; t a DO; d no DO; independent with s at
--- t; carried with s before t; t not inside; s at t is no fault of a carried one
+-- numbers 6 and 7 of dependences on Q's points: a good one; no point 10; s an ENDDO; t a DO; d no DO; independent with
+-- s at t; carried with s before t; s not inside; s at t is no fault of a carried one
 abbrev faults : Bool
 faults =
     sameList

@@ -7,5 +7,7 @@ pub mod Deps
 pub mod Ring
 pub mod Stored
 pub mod Scan
+pub mod Backward
+pub mod Ends
 pub mod Faults
 pub mod Cases

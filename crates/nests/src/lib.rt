@@ -1,10 +1,11 @@
 // Nests: their points and dependences by value, and the tests of a dependence.
 ghost use mathlib.Core.Path.{_≡_};
-ghost use Prim.Native.Nat.{_+_, _^_, _<_};
-ghost use lib.ListN.{length};
+ghost use mathlib.Core.Bool.{true};
+ghost use Prim.Native.Nat.{ℕ, _+_, _^_, _<_, _≤_};
+ghost use lib.ListN.{length, getD};
 ghost use Rattle.nests.specs.Kinds.{POINTS, DEPENDENCES};
-ghost use Rattle.nests.specs.Loops.{deeper, endOf, isDo};
-ghost use Rattle.nests.specs.Valid.{isSource, isTarget, depFault};
+ghost use Rattle.nests.specs.Loops.{deeper, endOf, ownerOf, isDo};
+ghost use Rattle.nests.specs.Valid.{isShape, isSource, isTarget, depFault};
 ghost use Rattle.nests.specs.Stored.{depIn, IsCounted, IsEmpty, PointAdded, DependenceAdded};
 
 // The kinds of points.
@@ -120,6 +121,50 @@ pub fn end_of(points: &[u8], d: usize) -> usize
         i += 1;
     }
     i
+}
+
+// The ENDDO of every DO, by the DO's point.
+pub fn ends_of(points: &[u8]) -> [usize; Nest::POINTS]
+    requires { ⌜ length (now points) ≤ POINTS ⌝ }
+    ensures { λ r. ⌜ ((d : ℕ) → isDo (now (points .entry)) d ≡ true → getD r d 0 ≡ endOf (now (points .entry)) d) ⌝ }
+{
+    let mut ends = [0; Nest::POINTS];
+    let mut d = 0;
+    while d < points.len() {
+        if points[d] == DO {
+            ends[d] = end_of(points, d);
+            d += 1;
+        } else {
+            d += 1;
+        }
+    }
+    ends
+}
+
+// The loop that gap g belongs to.
+pub fn loop_of(points: &[u8], g: usize) -> usize
+    requires { ⌜ isShape (now points) ≡ true ⌝ }
+    requires { ⌜ (0 < g) × (g < length (now points)) ⌝ }
+    ensures { λ r. ⌜ r ≡ ownerOf (now (points .entry)) g ⌝ }
+{
+    let mut depth: usize = 0;
+    let mut i = g;
+    while 0 < i {
+        let p = points[i - 1];
+        if p == DO {
+            if depth == 0 {
+                return i - 1;
+            }
+            depth -= 1;
+            i -= 1;
+        } else if p == ENDDO {
+            depth += 1;
+            i -= 1;
+        } else {
+            i -= 1;
+        }
+    }
+    0
 }
 
 // The point is a DO.

@@ -1,6 +1,6 @@
--- The starred cases of document 01, "Papers with known results", as one table of the definitions and one theorem over it.
--- That the placements named as keys are keys is the planner's theorem; here they are correct, have the counts that the paper
--- gives, and serve the marker.
+-- The starred cases of document 01, "Papers with known results": one table of the definitions and one theorem over it.
+-- That the placements named as keys are keys is the planner's theorem; here they are correct, have the counts that the
+-- paper gives, and serve the marker.
 -- Main statements: `worked-cases`, `tree-of-P`, `tree-of-Q`.
 use mathlib.Core.Path.{_≡_, refl}
 use mathlib.Core.Bool.{Bool, true, false, _&&_}
@@ -9,20 +9,14 @@ use Prim.Native.Nat.{ℕ, zero, suc}
 use lib.Dec.{eqb}
 use lib.ListN.{length}
 use Rattle.laws.specs.Choice.{pick}
-use Rattle.nests.specs.Nests.{Dep, Nest}
+use Rattle.nests.specs.Nests.{Nest}
 use Rattle.nests.specs.Loops.{isDo}
-use Rattle.nests.specs.Gaps.{hasGap}
 use Rattle.nests.specs.Valid.{isValid}
-use Rattle.placements.specs.Placements.{isCorrect, loopCount}
-use Rattle.placements.specs.Trees.{node, bare, beside, treeOf}
+use Rattle.nests.proofs.Cases.{forward, carried, paper-P, paper-Q, paper-R, paper-turn, paper-bare, paper-ring}
+use Rattle.nests.proofs.Cases.{sameList, share}
+use Rattle.placements.specs.Placements.{isCorrect, loopCount, asGood}
+use Rattle.placements.specs.Trees.{node, bare, beside, treeOf, asGoodTree}
 use Rattle.placements.specs.Verdicts.{Verdict, Uncut, Dearer, Best, markOf}
-use Rattle.placements.proofs.Papers.{paper-P, paper-Q, paper-R, paper-turn, paper-bare, paper-ring, forward, carried}
-
-abbrev sameList : List ℕ → List ℕ → Bool
-sameList [] [] = true
-sameList [] (y ∷ ys) = false
-sameList (x ∷ xs) [] = false
-sameList (x ∷ xs) (y ∷ ys) = eqb x y && sameList xs ys
 
 abbrev sameVerdict : Verdict → Verdict → Bool
 sameVerdict (Uncut i) (Uncut j) = eqb i j
@@ -36,24 +30,12 @@ sameVerdict Best (Dearer loop theirs ours) = false
 sameVerdict Best Best = true
 
 -- a placement's counts, in order of the loops' DO
-abbrev countsFrom : ℕ → ℕ → Nest → List ℕ → List ℕ
+abbrev pub countsFrom : ℕ → ℕ → Nest → List ℕ → List ℕ
 countsFrom zero d n gs = []
 countsFrom (suc f) d n gs = pick (isDo (n .points) d) (loopCount n gs d ∷ []) [] ++ countsFrom f (suc d) n gs
 
-abbrev countsOf : Nest → List ℕ → List ℕ
+abbrev pub countsOf : Nest → List ℕ → List ℕ
 countsOf n gs = countsFrom (length (n .points)) 0 n gs
-
--- the gaps, rising, that all of some dependences have
-abbrev areIts : List ℕ → List Dep → ℕ → Bool
-areIts ps [] g = true
-areIts ps (e ∷ es) g = hasGap ps e g && areIts ps es g
-
-abbrev sharedFrom : ℕ → ℕ → List ℕ → List Dep → List ℕ
-sharedFrom zero g ps es = []
-sharedFrom (suc f) g ps es = pick (areIts ps es g) (g ∷ []) [] ++ sharedFrom f (suc g) ps es
-
-abbrev share : Nest → List Dep → List ℕ → Bool
-share n es gs = sameList (sharedFrom (length (n .points)) 0 (n .points) es) gs
 
 -- a row: the case's number, the paper, its key and the key's counts, a placement marked, the verdict, what else is said
 pub record Case : Type 0 where
@@ -68,21 +50,24 @@ pub record Case : Type 0 where
 abbrev row : ℕ → Nest → List ℕ → List ℕ → List ℕ → Verdict → Bool → Case
 row i n k c gs v b =
     record {
-    number = i;
-    paper = n;
-    key = k;
-    counts = c;
-    marked = gs;
-    verdict = v;
-    also = b
-}
+      number = i;
+      paper = n;
+      key = k;
+      counts = c;
+      marked = gs;
+      verdict = v;
+      also = b;
+    }
 
+-- the key is correct, has its counts, and is as good as what is marked, loop by loop and as a tree; the verdict is given
 abbrev pub holds : Case → Bool
 holds c =
     isValid (c .paper) &&
     (isCorrect (c .paper) (c .key) &&
     (sameList (countsOf (c .paper) (c .key)) (c .counts) &&
-    (sameVerdict (markOf (c .paper) (c .key) (c .marked)) (c .verdict) && c .also)))
+    (asGood (c .paper) (c .key) (c .marked) &&
+    (asGoodTree (treeOf (c .paper) (c .key)) (treeOf (c .paper) (c .marked)) &&
+    (sameVerdict (markOf (c .paper) (c .key) (c .marked)) (c .verdict) && c .also)))))
 
 abbrev pub allHold : List Case → Bool
 allHold [] = true
@@ -109,7 +94,7 @@ table =
     row 5 paper-P (5 ∷ 11 ∷ []) (0 ∷ 1 ∷ 1 ∷ []) (5 ∷ 10 ∷ 11 ∷ []) (Dearer 7 2 1) true ∷
     row 6 paper-Q (2 ∷ 6 ∷ []) (1 ∷ 0 ∷ 1 ∷ []) (2 ∷ 6 ∷ []) Best true ∷
     row 7 paper-Q (2 ∷ 6 ∷ []) (1 ∷ 0 ∷ 1 ∷ []) (4 ∷ 7 ∷ []) (Dearer 2 1 0) true ∷
-    row 8 paper-R (2 ∷ 4 ∷ []) (2 ∷ []) (2 ∷ 4 ∷ []) Best pairs-only ∷
+    row 8 paper-R (1 ∷ 4 ∷ []) (2 ∷ []) (2 ∷ 4 ∷ []) Best pairs-only ∷
     row 9 paper-turn (1 ∷ []) (1 ∷ []) (1 ∷ []) Best both-gaps ∷
     row 10 paper-bare [] (0 ∷ []) [] Best true ∷
     -- beside them: the ring on which greedy cutting from the first interval end takes 1 and 2

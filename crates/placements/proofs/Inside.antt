@@ -1,7 +1,7 @@
 -- Loops inside loops: how they are nested, induction from the inner loops outwards, and the loops directly inside one.
 -- Main statements: `inside-lies`, `inside-by`, `inside-inside`, `inside-outermost`, `from-inside`, `right-in-around`.
-use mathlib.Core.Path.{_≡_, refl, sym}
-use mathlib.Core.Bool.{Bool, true, false, _&&_}
+use mathlib.Core.Path.{_≡_}
+use mathlib.Core.Bool.{true, _&&_}
 use mathlib.Core.List.{List}
 use mathlib.Core.Logic.{_⊎_, inl, inr, ⊎-elim}
 use Prim.Native.Nat.{ℕ, zero, suc, _+_, _≤_, _<_}
@@ -12,8 +12,8 @@ use borrow.Author.Tests.{eqb-true, eq-eqb, ltb-true, lt-ltb}
 use Rattle.laws.proofs.Tests.{and-intro, and-true, eq-or}
 use Rattle.nests.specs.Loops.{isDo, endOf, ownerOf, inLoop}
 use Rattle.nests.specs.Valid.{isShape}
-use Rattle.nests.proofs.Levels.{starts-with-do}
-use Rattle.nests.proofs.Loops.{end-after, end-there, end-in-outermost, nested, owner-is-do, owner-below, owner-holds, owner-inside}
+use Rattle.nests.proofs.Loops.{end-after, end-there, end-in-outermost, nested}
+use Rattle.nests.proofs.Gaps.{LoopInChild, loop-in-child, child-ends-inside}
 use Rattle.placements.specs.Trees.{isRightIn}
 
 -- a point inside a loop
@@ -50,7 +50,8 @@ module _ (ps : List ℕ) (shape : isShape ps ≡ true) where
       nested ps shape d x h k (z .0) (omega (arith, z .1))
 
   pub inside-inside :
-      (d x y : ℕ) → isDo ps d ≡ true → isDo ps x ≡ true → inLoop ps d x ≡ true → inLoop ps x y ≡ true → inLoop ps d y ≡ true
+      (d x y : ℕ) → isDo ps d ≡ true → isDo ps x ≡ true → inLoop ps d x ≡ true → inLoop ps x y ≡ true →
+      inLoop ps d y ≡ true
   inside-inside d x y h k i j =
       let z = inside-lies ps d x i in
       let w = inside-lies ps x y j in
@@ -60,7 +61,9 @@ module _ (ps : List ℕ) (shape : isShape ps ≡ true) where
   pub inside-outermost : (x : ℕ) → isDo ps x ≡ true → (x ≡ 0) ⊎ (inLoop ps 0 x ≡ true)
   inside-outermost x h = ⊎-elim
       (λ (z : x ≡ 0). inl z)
-      (λ (z : x ≡ 0 → ⊥). inr (inside-by ps 0 x (omega arith) (omega (arith, end-after ps shape x h, end-in-outermost ps shape x h))))
+      (λ (z : x ≡ 0 → ⊥).
+      let l : x < endOf ps 0 = omega (arith, end-after ps shape x h, end-in-outermost ps shape x h) in
+      inr (inside-by ps 0 x (omega arith) l))
       (eq-or x 0)
 
   -- what holds of a loop wherever it holds of all loops inside it holds of every loop
@@ -74,45 +77,29 @@ module _ (ps : List ℕ) (shape : isShape ps ≡ true) where
     pub from-inside : (d : ℕ) → isDo ps d ≡ true → C d
     from-inside d h = within (length ps) d h (omega (arith, end-there ps shape d h))
 
-  -- a loop inside d is directly inside it, or inside a loop that is: up from y, loop by loop
-  around-upto :
-      (k d y : ℕ) → y ≤ k → isDo ps d ≡ true → isDo ps y ≡ true → inLoop ps d y ≡ true → Around ps d y
-  around-upto zero d y l h m i = absurd (omega (arith, inside-lies ps d y i))
-  around-upto (suc k) d y l h m i = ⊎-elim
-      (λ (z : ownerOf ps y ≡ d). direct z)
-      (λ (z : ownerOf ps y ≡ d → ⊥). up (around-upto k d (ownerOf ps y) (omega (arith, below)) h loop (outer z)))
-      (eq-or (ownerOf ps y) d)
-    where
-      lies : (d < y) × (y < endOf ps d)
-      lies = inside-lies ps d y i
-
-      there : y < length ps
-      there = omega (arith, lies, end-there ps shape d h)
-
-      below : ownerOf ps y < y
-      below = owner-below ps shape y (omega (arith, lies)) there
-
-      loop : isDo ps (ownerOf ps y) ≡ true
-      loop = owner-is-do ps shape y (omega (arith, lies)) there
-
-      holds : inLoop ps (ownerOf ps y) y ≡ true
-      holds =
-          inside-by ps (ownerOf ps y) y below
-          (omega (arith, end-after ps shape y m, nested ps shape (ownerOf ps y) y loop m below (owner-holds ps shape y (omega (arith, lies)) there)))
-
-      direct : ownerOf ps y ≡ d → Around ps d y
-      direct z = record { loop = y; right-in = and-intro m (and-intro i (eq-eqb (ownerOf ps y) d z)); holds = inl refl }
-
-      outer : (ownerOf ps y ≡ d → ⊥) → inLoop ps d (ownerOf ps y) ≡ true
-      outer z =
-          inside-by ps d (ownerOf ps y) (omega (arith, lies, z, owner-inside ps shape d y h (lies .0) (omega (arith, lies))))
-          (omega (arith, below, lies))
-
-      up : Around ps d (ownerOf ps y) → Around ps d y
-      up r = record { loop = r .loop; right-in = r .right-in; holds = inr (⊎-elim
-          (λ (z : ownerOf ps y ≡ r .loop). rw z at holds)
-          (λ (z : inLoop ps (r .loop) (ownerOf ps y) ≡ true). inside-inside (r .loop) (ownerOf ps y) y (right-in-lies ps d (r .loop) (r .right-in) .loop) loop z holds)
-          (r .holds)) }
-
+  -- a loop inside d is directly inside it, or inside a loop that is
   pub right-in-around : (d y : ℕ) → isDo ps d ≡ true → isDo ps y ≡ true → inLoop ps d y ≡ true → Around ps d y
-  right-in-around d y = around-upto y d y (omega arith)
+  right-in-around d y h m i =
+      let z = inside-lies ps d y i in
+      go (loop-in-child ps shape d y h m (z .0) (omega (arith, z .1)))
+    where
+      go : LoopInChild ps d y → Around ps d y
+      go r = record { loop = x; right-in = right-in; holds = holds }
+        where
+          x : ℕ
+          x = r .at
+
+          right-in : isRightIn ps d x ≡ true
+          right-in =
+              and-intro (r .child .loop)
+              (and-intro
+              (inside-by ps d x (r .child .inside)
+              (omega (arith, end-after ps shape x (r .child .loop), child-ends-inside ps shape d x (r .child))))
+              (eq-eqb (ownerOf ps x) d (r .child .owned)))
+
+          holds : (y ≡ x) ⊎ (inLoop ps x y ≡ true)
+          holds = ⊎-elim
+              (λ (z : y ≡ x). inl z)
+              (λ (z : y ≡ x → ⊥).
+              inr (inside-by ps x y (omega (arith, r .after)) (omega (arith, r .within, end-after ps shape y m))))
+              (eq-or y x)

@@ -1,10 +1,10 @@
 -- Keys: all keys of a nest have the same counts, and a key is least loop by loop (demand 3).
 -- Main statements: `keys-agree`, `keys-same-tree`, `key-least-tree`, `same-counts-key`, `by-loops`.
 use mathlib.Core.Path.{_≡_, refl, sym, _∙_}
-use mathlib.Core.Bool.{Bool, true, false, _&&_}
+use mathlib.Core.Bool.{true, _&&_}
 use mathlib.Core.List.{List, [], _∷_}
-use mathlib.Core.Logic.{_⊎_, inl, inr, ⊎-elim}
-use Prim.Native.Nat.{ℕ, zero, suc, _+_, _≤_, _<_}
+use mathlib.Core.Logic.{⊎-elim}
+use Prim.Native.Nat.{ℕ, _≤_, _<_}
 use native.Mathlib.Omega.{arith}
 use lib.Dec.{eqb, ltb}
 use lib.ListN.{length}
@@ -13,11 +13,11 @@ use Rattle.laws.specs.Choice.{isIn, when}
 use Rattle.laws.proofs.Tests.{never, and-true}
 use Rattle.laws.proofs.Members.{in-cons}
 use Rattle.nests.specs.Nests.{Nest}
-use Rattle.nests.specs.Loops.{isDo, ownerOf, inLoop}
+use Rattle.nests.specs.Loops.{isDo, ownerOf}
 use Rattle.nests.specs.Valid.{isShape}
 use Rattle.nests.proofs.Levels.{starts-with-do}
 use Rattle.nests.proofs.Loops.{owner-is-do}
-use Rattle.placements.specs.Placements.{areGapsFrom, areGaps, isCorrect, loopCount, loopsOf, asGood}
+use Rattle.placements.specs.Placements.{areGapsFrom, areGaps, isCorrect, loopCount, loopsOf}
 use Rattle.placements.specs.Trees.{treeOf, asGoodTree}
 use Rattle.placements.specs.Keys.{IsKey, By-loops}
 use Rattle.placements.proofs.Cuts.{correct-gaps}
@@ -42,7 +42,8 @@ key-least-tree n shape k gs p c = tree-order n shape k gs .0 (p .least gs c)
 
 -- a correct placement with a key's counts is a key
 pub same-counts-key :
-    (n : Nest) → isShape (n .points) ≡ true → (k gs : List ℕ) → IsKey n k → isCorrect n gs ≡ true → SameCounts n k gs → IsKey n gs
+    (n : Nest) → isShape (n .points) ≡ true → (k gs : List ℕ) → IsKey n k → isCorrect n gs ≡ true → SameCounts n k gs →
+    IsKey n gs
 same-counts-key n shape k gs p c s =
     record { correct = c; least = λ xs h. asGood-moved n shape k gs xs s (p .least xs h) }
 
@@ -63,7 +64,8 @@ count-all n own [] last h = refl
 count-all n own (g ∷ gs) last h =
     let z = and-true (ltb last g) (ltb g (length (n .points)) && areGapsFrom g (length (n .points)) gs) h in
     let y = and-true (ltb g (length (n .points))) (areGapsFrom g (length (n .points)) gs) (z .1) in
-    let o : ownerOf (n .points) g ≡ 0 = own g (omega (arith, ltb-true last g (z .0))) (ltb-true g (length (n .points)) (y .0)) in
+    let low = ltb-true last g (z .0) in
+    let o : ownerOf (n .points) g ≡ 0 = own g (omega arith) (ltb-true g (length (n .points)) (y .0)) in
     let w : when (eqb (ownerOf (n .points) g) 0) 1 ≡ 1 = rw (eq-eqb (ownerOf (n .points) g) 0 o) in
     omega (arith, w, count-all n own gs g (y .1))
 
@@ -71,17 +73,22 @@ count-all n own (g ∷ gs) last h =
 module _ (n : Nest) (shape : isShape (n .points) ≡ true) (one : length (loopsOf n) ≡ 1) where
   only-loop : (x : ℕ) → isDo (n .points) x ≡ true → x ≡ 0
   only-loop x h =
-      one-member (loopsOf n) x 0 one (loop-listed n shape x h) (loop-listed n shape 0 (starts-with-do (n .points) shape))
+      let first = loop-listed n shape 0 (starts-with-do (n .points) shape) in
+      one-member (loopsOf n) x 0 one (loop-listed n shape x h) first
 
   pub one-loop-count : (gs : List ℕ) → areGaps n gs ≡ true → loopCount n gs 0 ≡ length gs
-  one-loop-count gs h = count-all n (λ g a b. only-loop (ownerOf (n .points) g) (owner-is-do (n .points) shape g a b)) gs 0 h
+  one-loop-count gs h =
+      let ps = n .points in
+      count-all n (λ g a b. only-loop (ownerOf ps g) (owner-is-do ps shape g a b)) gs 0 h
 
   one-loop-least : (key gs : List ℕ) → IsKey n key → isCorrect n gs ≡ true → length key ≤ length gs
   one-loop-least key gs k c =
-      omega (arith,
-      one-loop-count key (correct-gaps n key (k .correct)),
-      one-loop-count gs (correct-gaps n gs c),
-      asGood-elim n shape key gs (k .least gs c) 0 (starts-with-do (n .points) shape) none)
+      omega (
+        arith,
+        one-loop-count key (correct-gaps n key (k .correct)),
+        one-loop-count gs (correct-gaps n gs c),
+        asGood-elim n shape key gs (k .least gs c) 0 (starts-with-do (n .points) shape) none,
+      )
     where
       none : SameInside n key gs 0
       none x h i = absurd (omega (arith, only-loop x h, inside-lies (n .points) 0 x i))
@@ -90,6 +97,6 @@ module _ (n : Nest) (shape : isShape (n .points) ≡ true) (one : length (loopsO
 pub by-loops : (n : Nest) → isShape (n .points) ≡ true → (key : List ℕ) → IsKey n key → By-loops n key
 by-loops n shape key k =
     record {
-    each = λ gs d c h s. asGood-elim n shape key gs (k .least gs c) d h (λ x m i. sym (s x m i));
-    one-loop = λ gs one c. one-loop-least n shape one key gs k c
-}
+      each = λ gs d c h s. asGood-elim n shape key gs (k .least gs c) d h (λ x m i. sym (s x m i));
+      one-loop = λ gs one c. one-loop-least n shape one key gs k c;
+    }

@@ -1,4 +1,7 @@
 -- Laws of placements.
+pub mod Words
+pub mod Rising
+pub mod Lowest
 pub mod Cuts
 pub mod Inside
 pub mod LoopLists
@@ -6,6 +9,6 @@ pub mod LoopOrder
 pub mod TreeOrder
 pub mod Keys
 pub mod Verdicts
-pub mod Papers
 pub mod Cases
 pub mod Planners
+pub mod CutTest

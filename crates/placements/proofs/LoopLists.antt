@@ -5,14 +5,15 @@ use mathlib.Core.Path.{_≡_, refl, sym, ap, _∙_}
 use mathlib.Core.Bool.{Bool, true, false}
 use mathlib.Core.List.{List, [], _∷_, _++_}
 use mathlib.Core.Logic.{⊎-elim}
-use Prim.Native.Nat.{ℕ, zero, suc, _+_, _≤_, _<_}
+use Prim.Native.Nat.{ℕ, zero, suc, _<_}
 use native.Mathlib.Omega.{arith}
 use lib.Dec.{eqb}
-use lib.ListN.{length, getD}
+use lib.ListN.{length}
 use borrow.Author.Tests.{eqb-true, eqb-false, eq-eqb}
 use Rattle.laws.specs.Choice.{pick, isIn}
 use Rattle.laws.proofs.Tests.{never}
-use Rattle.laws.proofs.Members.{in-here, in-later, in-cons, gather, From, in-gathered, gathered-in, SplitAt, gathered-before}
+use Rattle.laws.proofs.Members.{in-here, in-later, in-cons}
+use Rattle.laws.proofs.Members.{gather, From, in-gathered, gathered-in, SplitAt, gathered-before}
 use Rattle.nests.specs.Nests.{Nest}
 use Rattle.nests.specs.Loops.{isDo, isEnd, endOf, ownerOf, inLoop}
 use Rattle.nests.specs.Valid.{isShape}
@@ -23,21 +24,38 @@ use Rattle.placements.proofs.Inside.{inside-ends}
 
 loops-gathered : (f e : ℕ) (ps : List ℕ) → loopsFrom f e ps ≡ gather (isEnd ps) (ownerOf ps) f e
 loops-gathered zero e ps = refl
-loops-gathered (suc f) e ps = ap (λ (l : List ℕ). pick (isEnd ps e) (ownerOf ps e ∷ []) [] ++ l) (loops-gathered f (suc e) ps)
+loops-gathered (suc f) e ps =
+    ap (λ (l : List ℕ). pick (isEnd ps e) (ownerOf ps e ∷ []) [] ++ l) (loops-gathered f (suc e) ps)
+
+-- an ENDDO's loop is in the list, and a member is an ENDDO's loop
+end-listed :
+    (n : Nest) (e : ℕ) → e < length (n .points) → isEnd (n .points) e ≡ true →
+    isIn (ownerOf (n .points) e) (loopsOf n) ≡ true
+end-listed n e l h =
+    let ps = n .points in
+    rw (loops-gathered (length ps) 0 ps)
+    (gathered-in (isEnd ps) (ownerOf ps) (length ps) 0 e (omega arith) (omega arith) h)
+
+listed-end :
+    (n : Nest) (d : ℕ) → isIn d (loopsOf n) ≡ true →
+    From (isEnd (n .points)) (ownerOf (n .points)) (length (n .points)) 0 d
+listed-end n d h =
+    let ps = n .points in
+    in-gathered (isEnd ps) (ownerOf ps) (length ps) 0 d (rw (loops-gathered (length ps) 0 ps) at h)
 
 module _ (n : Nest) (shape : isShape (n .points) ≡ true) where
   -- the list has every loop and nothing else
   pub loop-listed : (d : ℕ) → isDo (n .points) d ≡ true → isIn d (loopsOf n) ≡ true
   loop-listed d h =
       let ps = n .points in
-      let z = gathered-in (isEnd ps) (ownerOf ps) (length ps) 0 (endOf ps d) (omega arith) (omega (arith, end-there ps shape d h)) (end-is-end ps shape d h) in
-      rw (loops-gathered (length ps) 0 ps) (rw (owner-of-end ps shape d h) at z)
+      rw (owner-of-end ps shape d h) at (end-listed n (endOf ps d) (end-there ps shape d h) (end-is-end ps shape d h))
 
   pub listed-loop : (d : ℕ) → isIn d (loopsOf n) ≡ true → isDo (n .points) d ≡ true
   listed-loop d h =
       let ps = n .points in
-      let r : From (isEnd ps) (ownerOf ps) (length ps) 0 d = in-gathered (isEnd ps) (ownerOf ps) (length ps) 0 d (rw (loops-gathered (length ps) 0 ps) at h) in
-      rw (← r .is) (owner-is-do ps shape (r .at) (end-not-first ps shape (r .at) (r .passed)) (point-in ps (r .at) 1 (r .passed)))
+      let r = listed-end n d h in
+      let e = r .at in
+      rw (← r .is) (owner-is-do ps shape e (end-not-first ps shape e (r .passed)) (point-in ps e 1 (r .passed)))
 
   -- loops stand in order of their ENDDO
   pub earlier-end-first :
@@ -46,7 +64,7 @@ module _ (n : Nest) (shape : isShape (n .points) ≡ true) where
   earlier-end-first xs ys d x e h l =
       let ps = n .points in
       let s : SplitAt (isEnd ps) (ownerOf ps) (length ps) 0 d xs =
-          gathered-before (isEnd ps) (ownerOf ps) d ys (length ps) 0 xs (sym (loops-gathered (length ps) 0 ps) ∙ e) in
+      gathered-before (isEnd ps) (ownerOf ps) d ys (length ps) 0 xs (sym (loops-gathered (length ps) 0 ps) ∙ e) in
       let at-is : endOf ps d ≡ s .at = sym (ap (endOf ps) (s .is)) ∙ end-has-do ps shape (s .at) (s .passed) in
       let z = s .earlier (endOf ps x) (omega arith) (omega arith) (end-is-end ps shape x h) in
       rw (owner-of-end ps shape x h) at z
@@ -66,7 +84,8 @@ record FirstOf (n : Nest) (a b xs : List ℕ) (d : ℕ) : Type 0 where
   same : (x : ℕ) → isIn x before ≡ true → loopCount n a x ≡ loopCount n b x
 
 module _ (n : Nest) (a b : List ℕ) where
-  same-of-zero : (xs : List ℕ) → differFrom n a b xs ≡ 0 → (x : ℕ) → isIn x xs ≡ true → loopCount n a x ≡ loopCount n b x
+  same-of-zero :
+      (xs : List ℕ) → differFrom n a b xs ≡ 0 → (x : ℕ) → isIn x xs ≡ true → loopCount n a x ≡ loopCount n b x
   same-of-zero [] e x h = never h
   same-of-zero (d ∷ ds) e x h = go (eqb (loopCount n a d) (loopCount n b d)) refl e (same-of-zero ds)
     where
@@ -80,7 +99,8 @@ module _ (n : Nest) (a b : List ℕ) where
           (in-cons x d ds h)
       go false p q r = absurd (omega arith)
 
-  zero-of-same : (xs : List ℕ) → ((x : ℕ) → isIn x xs ≡ true → loopCount n a x ≡ loopCount n b x) → differFrom n a b xs ≡ 0
+  zero-of-same :
+      (xs : List ℕ) → ((x : ℕ) → isIn x xs ≡ true → loopCount n a x ≡ loopCount n b x) → differFrom n a b xs ≡ 0
   zero-of-same [] h = refl
   zero-of-same (d ∷ ds) h =
       rw (eq-eqb (loopCount n a d) (loopCount n b d) (h d (in-here d ds)))
@@ -98,12 +118,12 @@ module _ (n : Nest) (a b : List ℕ) where
           more : FirstOf n a b xs d → FirstOf n a b (x ∷ xs) d
           more f =
               record {
-              before = x ∷ f .before;
-              after = f .after;
-              split = ap (λ (l : List ℕ). x ∷ l) (f .split);
-              differs = f .differs;
-              same = same
-          }
+                before = x ∷ f .before;
+                after = f .after;
+                split = ap (λ (l : List ℕ). x ∷ l) (f .split);
+                differs = f .differs;
+                same = same;
+              }
             where
               same : (y : ℕ) → isIn y (x ∷ f .before) ≡ true → loopCount n a y ≡ loopCount n b y
               same y h = ⊎-elim
@@ -113,18 +133,20 @@ module _ (n : Nest) (a b : List ℕ) where
       go false p q r =
           let z : x ≡ d = omega arith in
           record {
-          before = [];
-          after = xs;
-          split = rw z;
-          differs = rw (← z) (eqb-false (loopCount n a x) (loopCount n b x) p);
-          same = λ y h. never h
-      }
+            before = [];
+            after = xs;
+            split = rw z;
+            differs = rw (← z) (eqb-false (loopCount n a x) (loopCount n b x) p);
+            same = λ y h. never h;
+          }
 
 -- what `differ` tells: a loop where the counts differ, with the first ENDDO of all such
 pub record Differ (n : Nest) (a b : List ℕ) (d : ℕ) : Type 0 where
   pub loop : isDo (n .points) d ≡ true
   pub differs : loopCount n a d ≡ loopCount n b d → ⊥
-  pub earlier : (x : ℕ) → isDo (n .points) x ≡ true → endOf (n .points) x < endOf (n .points) d → loopCount n a x ≡ loopCount n b x
+  pub earlier :
+      (x : ℕ) → isDo (n .points) x ≡ true → endOf (n .points) x < endOf (n .points) d →
+      loopCount n a x ≡ loopCount n b x
   pub inside : (x : ℕ) → isDo (n .points) x ≡ true → inLoop (n .points) d x ≡ true → loopCount n a x ≡ loopCount n b x
 
 module _ (n : Nest) (shape : isShape (n .points) ≡ true) (a b : List ℕ) where
@@ -144,11 +166,11 @@ module _ (n : Nest) (shape : isShape (n .points) ≡ true) (a b : List ℕ) wher
       go : FirstOf n a b (loopsOf n) d → Differ n a b d
       go f =
           record {
-          loop = loop;
-          differs = f .differs;
-          earlier = λ x h l. f .same x (earlier-end-first n shape (f .before) (f .after) d x (f .split) h l);
-          inside = λ x h i. f .same x (inside-first n shape (f .before) (f .after) d x (f .split) loop h i)
-      }
+            loop = loop;
+            differs = f .differs;
+            earlier = λ x h l. f .same x (earlier-end-first n shape (f .before) (f .after) d x (f .split) h l);
+            inside = λ x h i. f .same x (inside-first n shape (f .before) (f .after) d x (f .split) loop h i);
+          }
         where
           loop : isDo (n .points) d ≡ true
           loop = listed-loop n shape d (rw (f .split) (in-split (f .before) (f .after)))

@@ -1,16 +1,14 @@
--- The order of placements, loop by loop: as good or better is a statement of every loop, and both ways it is equal counts.
+-- The order of placements, loop by loop: as good or better speaks of every loop, and both ways it is equal counts.
 -- Main statements: `asGood-elim`, `asGood-intro`, `asGood-moved`, `asGood-refl`, `asGood-trans`, `asGood-both`.
-use mathlib.Core.Path.{_≡_, refl, sym, _∙_}
-use mathlib.Core.Bool.{Bool, true, false, _&&_, _||_, not}
+use mathlib.Core.Path.{_≡_, refl, sym, ap, _∙_}
+use mathlib.Core.Bool.{Bool, true, _&&_, _||_, not}
 use mathlib.Core.List.{List, [], _∷_}
-use mathlib.Core.Logic.{⊎-elim}
 use Prim.Native.Nat.{ℕ, _≤_}
 use native.Mathlib.Omega.{arith}
 use lib.Dec.{eqb, leb}
-use borrow.Author.Tests.{eqb-true, eq-eqb, leb-true, le-leb, not-true}
-use Rattle.laws.specs.Choice.{isIn}
-use Rattle.laws.proofs.Tests.{test, never, never-both, and-intro, and-true, or-left, or-right, or-true, not-by}
-use Rattle.laws.proofs.Members.{in-here, in-later, in-cons}
+use borrow.Author.Tests.{eqb-true, eq-eqb, leb-true, le-leb}
+use Rattle.laws.proofs.Implies.{implied, implies-by}
+use Rattle.laws.proofs.Members.{everyIn, each-of, every-by}
 use Rattle.nests.specs.Nests.{Nest}
 use Rattle.nests.specs.Loops.{isDo, inLoop}
 use Rattle.nests.specs.Valid.{isShape}
@@ -27,125 +25,106 @@ SameInside n a b d =
     (x : ℕ) → isDo (n .points) x ≡ true → inLoop (n .points) d x ≡ true → loopCount n a x ≡ loopCount n b x
 
 module _ (n : Nest) (a b : List ℕ) where
-  inside-same :
-      (d : ℕ) (xs : List ℕ) → insideSame n a b d xs ≡ true → (x : ℕ) → isIn x xs ≡ true → inLoop (n .points) d x ≡ true →
-      loopCount n a x ≡ loopCount n b x
-  inside-same d [] e x h i = never h
-  inside-same d (y ∷ ys) e x h i = ⊎-elim
-      (λ (z : x ≡ y). here z)
-      (λ (z : isIn x ys ≡ true). inside-same d ys (both .1) x z i)
-      (in-cons x y ys h)
-    where
-      test-of : Bool
-      test-of = not (inLoop (n .points) d y) || eqb (loopCount n a y) (loopCount n b y)
+  -- the tests of one loop, and what they say
+  abbrev same-at : ℕ → Bool
+  same-at x = eqb (loopCount n a x) (loopCount n b x)
 
-      both : (test-of ≡ true) × (insideSame n a b d ys ≡ true)
-      both = and-true test-of (insideSame n a b d ys) e
+  abbrev least-at : ℕ → Bool
+  least-at x = leb (loopCount n a x) (loopCount n b x)
 
-      here : x ≡ y → loopCount n a x ≡ loopCount n b x
-      here z = rw z (⊎-elim
-          (λ (w : not (inLoop (n .points) d y) ≡ true). never-both (rw z at i) (not-true (inLoop (n .points) d y) w))
-          (λ (w : eqb (loopCount n a y) (loopCount n b y) ≡ true). eqb-true (loopCount n a y) (loopCount n b y) w)
-          (or-true (not (inLoop (n .points) d y)) (eqb (loopCount n a y) (loopCount n b y)) (both .0)))
+  abbrev same-in : ℕ → Bool
+  same-in d = insideSame n a b d (loopsOf n)
 
-  same-inside :
+  inside-every :
       (d : ℕ) (xs : List ℕ) →
-      ((x : ℕ) → isIn x xs ≡ true → inLoop (n .points) d x ≡ true → loopCount n a x ≡ loopCount n b x) →
-      insideSame n a b d xs ≡ true
-  same-inside d [] h = refl
-  same-inside d (y ∷ ys) h = and-intro first (same-inside d ys (λ x k i. h x (in-later x y ys k) i))
-    where
-      first : (not (inLoop (n .points) d y) || eqb (loopCount n a y) (loopCount n b y)) ≡ true
-      first = ⊎-elim
-          (λ (z : inLoop (n .points) d y ≡ true). or-right (not (inLoop (n .points) d y)) (eq-eqb (loopCount n a y) (loopCount n b y) (h y (in-here y ys) z)))
-          (λ (z : inLoop (n .points) d y ≡ false). or-left (eqb (loopCount n a y) (loopCount n b y)) (not-by z))
-          (test (inLoop (n .points) d y))
+      insideSame n a b d xs ≡ everyIn (λ (x : ℕ). not (inLoop (n .points) d x) || same-at x) xs
+  inside-every d [] = refl
+  inside-every d (x ∷ xs) = ap (λ (t : Bool). (not (inLoop (n .points) d x) || same-at x) && t) (inside-every d xs)
 
-  better-each :
-      (ds : List ℕ) → betterFrom n a b ds ≡ true → (d : ℕ) → isIn d ds ≡ true → insideSame n a b d (loopsOf n) ≡ true →
-      loopCount n a d ≤ loopCount n b d
-  better-each [] e d h s = never h
-  better-each (y ∷ ys) e d h s = ⊎-elim
-      (λ (z : d ≡ y). here z)
-      (λ (z : isIn d ys ≡ true). better-each ys (both .1) d z s)
-      (in-cons d y ys h)
-    where
-      both : ((not (insideSame n a b y (loopsOf n)) || leb (loopCount n a y) (loopCount n b y)) ≡ true) × (betterFrom n a b ys ≡ true)
-      both = and-true (not (insideSame n a b y (loopsOf n)) || leb (loopCount n a y) (loopCount n b y)) (betterFrom n a b ys) e
+  better-every : (ds : List ℕ) → betterFrom n a b ds ≡ everyIn (λ (d : ℕ). not (same-in d) || least-at d) ds
+  better-every [] = refl
+  better-every (d ∷ ds) = ap (λ (t : Bool). (not (same-in d) || least-at d) && t) (better-every ds)
 
-      here : d ≡ y → loopCount n a d ≤ loopCount n b d
-      here z = rw z (⊎-elim
-          (λ (w : not (insideSame n a b y (loopsOf n)) ≡ true). never-both (rw z at s) (not-true (insideSame n a b y (loopsOf n)) w))
-          (λ (w : leb (loopCount n a y) (loopCount n b y) ≡ true). leb-true (loopCount n a y) (loopCount n b y) w)
-          (or-true (not (insideSame n a b y (loopsOf n))) (leb (loopCount n a y) (loopCount n b y)) (both .0)))
+module _ (n : Nest) (shape : isShape (n .points) ≡ true) (a b : List ℕ) (d : ℕ) where
+  same-in-is : same-in n a b d ≡ true → SameInside n a b d
+  same-in-is e x h i =
+      let test-of : ℕ → Bool = λ y. not (inLoop (n .points) d y) || same-at n a b y in
+      let z : test-of x ≡ true =
+      each-of test-of (loopsOf n) (rw (inside-every n a b d (loopsOf n)) at e) x (loop-listed n shape x h) in
+      eqb-true (loopCount n a x) (loopCount n b x) (implied (inLoop (n .points) d x) (same-at n a b x) z i)
 
-  each-better :
-      (ds : List ℕ) →
-      ((d : ℕ) → isIn d ds ≡ true → insideSame n a b d (loopsOf n) ≡ true → loopCount n a d ≤ loopCount n b d) →
-      betterFrom n a b ds ≡ true
-  each-better [] h = refl
-  each-better (y ∷ ys) h = and-intro first (each-better ys (λ d k s. h d (in-later d y ys k) s))
-    where
-      first : (not (insideSame n a b y (loopsOf n)) || leb (loopCount n a y) (loopCount n b y)) ≡ true
-      first = ⊎-elim
-          (λ (z : insideSame n a b y (loopsOf n) ≡ true). or-right (not (insideSame n a b y (loopsOf n))) (le-leb (loopCount n a y) (loopCount n b y) (h y (in-here y ys) z)))
-          (λ (z : insideSame n a b y (loopsOf n) ≡ false). or-left (leb (loopCount n a y) (loopCount n b y)) (not-by z))
-          (test (insideSame n a b y (loopsOf n)))
+  same-in-by : SameInside n a b d → same-in n a b d ≡ true
+  same-in-by s =
+      rw (inside-every n a b d (loopsOf n))
+      (every-by (λ (y : ℕ). not (inLoop (n .points) d y) || same-at n a b y) (loopsOf n)
+      (λ x k. implies-by (inLoop (n .points) d x) (same-at n a b x)
+      (λ i. eq-eqb (loopCount n a x) (loopCount n b x) (s x (listed-loop n shape x k) i))))
 
 module _ (n : Nest) (shape : isShape (n .points) ≡ true) (a b : List ℕ) where
   -- 01, "Which placement is better", loop by loop, as a statement of every loop
   pub asGood-elim :
-      asGood n a b ≡ true → (d : ℕ) → isDo (n .points) d ≡ true → SameInside n a b d → loopCount n a d ≤ loopCount n b d
+      asGood n a b ≡ true →
+      (d : ℕ) → isDo (n .points) d ≡ true → SameInside n a b d → loopCount n a d ≤ loopCount n b d
   asGood-elim e d h s =
-      better-each n a b (loopsOf n) e d (loop-listed n shape d h)
-      (same-inside n a b d (loopsOf n) (λ x k i. s x (listed-loop n shape x k) i))
+      let better : (not (same-in n a b d) || least-at n a b d) ≡ true =
+      each-of (λ (x : ℕ). not (same-in n a b x) || least-at n a b x) (loopsOf n)
+      (rw (better-every n a b (loopsOf n)) at e) d (loop-listed n shape d h) in
+      leb-true (loopCount n a d) (loopCount n b d)
+      (implied (same-in n a b d) (least-at n a b d) better (same-in-by n shape a b d s))
 
   pub asGood-intro :
-      ((d : ℕ) → isDo (n .points) d ≡ true → SameInside n a b d → loopCount n a d ≤ loopCount n b d) → asGood n a b ≡ true
+      ((d : ℕ) → isDo (n .points) d ≡ true → SameInside n a b d → loopCount n a d ≤ loopCount n b d) →
+      asGood n a b ≡ true
   asGood-intro h =
-      each-better n a b (loopsOf n)
-      (λ d k s. h d (listed-loop n shape d k) (λ x q i. inside-same n a b d (loopsOf n) s x (loop-listed n shape x q) i))
+      rw (better-every n a b (loopsOf n))
+      (every-by (λ (x : ℕ). not (same-in n a b x) || least-at n a b x) (loopsOf n)
+      (λ d k. implies-by (same-in n a b d) (least-at n a b d)
+      (λ s. le-leb (loopCount n a d) (loopCount n b d) (h d (listed-loop n shape d k) (same-in-is n shape a b d s)))))
 
--- the same counts are as good
-pub asGood-of-same : (n : Nest) → isShape (n .points) ≡ true → (a b : List ℕ) → SameCounts n a b → asGood n a b ≡ true
-asGood-of-same n shape a b s = asGood-intro n shape a b (λ d h k. omega (arith, s d h))
+module _ (n : Nest) (shape : isShape (n .points) ≡ true) where
+  -- the order sees only the counts
+  pub asGood-of-same : (a b : List ℕ) → SameCounts n a b → asGood n a b ≡ true
+  asGood-of-same a b s = asGood-intro n shape a b (λ d h k. omega (arith, s d h))
 
--- the order sees only the counts
-pub asGood-moved :
-    (n : Nest) → isShape (n .points) ≡ true → (a b c : List ℕ) → SameCounts n a b → asGood n a c ≡ true → asGood n b c ≡ true
-asGood-moved n shape a b c s e =
-    asGood-intro n shape b c
-    (λ d h k. omega (arith, s d h, asGood-elim n shape a c e d h (λ x q i. s x q ∙ k x q i)))
+  pub asGood-moved : (a b c : List ℕ) → SameCounts n a b → asGood n a c ≡ true → asGood n b c ≡ true
+  asGood-moved a b c s e =
+      asGood-intro n shape b c
+      (λ d h k. omega (arith, s d h, asGood-elim n shape a c e d h (λ x q i. s x q ∙ k x q i)))
 
--- an order: each is as good as itself, and as good as what a placement that it is as good as is as good as
-pub asGood-refl : (n : Nest) → isShape (n .points) ≡ true → (a : List ℕ) → asGood n a a ≡ true
-asGood-refl n shape a = asGood-of-same n shape a a (λ x h. refl)
+  -- it is an order: each is as good as itself; in a chain the first is as good as the last
+  pub asGood-refl : (a : List ℕ) → asGood n a a ≡ true
+  asGood-refl a = asGood-of-same a a (λ x h. refl)
 
-pub asGood-trans :
-    (n : Nest) → isShape (n .points) ≡ true → (a b c : List ℕ) → asGood n a b ≡ true → asGood n b c ≡ true → asGood n a c ≡ true
-asGood-trans n shape a b c p q = asGood-intro n shape a c between
-  where
-    between : (d : ℕ) → isDo (n .points) d ≡ true → SameInside n a c d → loopCount n a d ≤ loopCount n c d
-    between d h s =
-        omega (arith,
-        asGood-elim n shape a b p d h first,
-        asGood-elim n shape b c q d h (λ x k i. sym (first x k i) ∙ s x k i))
-      where
-        -- b stands between a and c, so inside d it has their counts
-        first : SameInside n a b d
-        first x k = from-inside (n .points) shape (λ (y : ℕ). inLoop (n .points) d y ≡ true → loopCount n a y ≡ loopCount n b y)
-            (λ y m r i.
-                let in-y : SameInside n a b y = λ z w j. r z w j (inside-inside (n .points) shape d y z h m i j) in
-                omega (arith,
-                s y m i,
-                asGood-elim n shape a b p y m in-y,
-                asGood-elim n shape b c q y m (λ z w j. sym (in-y z w j) ∙ s z w (inside-inside (n .points) shape d y z h m i j))))
-            x k
+  pub asGood-trans : (a b c : List ℕ) → asGood n a b ≡ true → asGood n b c ≡ true → asGood n a c ≡ true
+  asGood-trans a b c p q = asGood-intro n shape a c chain
+    where
+      -- where a and c have the same counts inside d, so has b, which stands between them
+      middle : (d : ℕ) → isDo (n .points) d ≡ true → SameInside n a c d → SameInside n a b d
+      middle d h s =
+          from-inside (n .points) shape
+          (λ (y : ℕ). inLoop (n .points) d y ≡ true → loopCount n a y ≡ loopCount n b y)
+          (λ y m r i.
+          let deeper : (z : ℕ) → inLoop (n .points) y z ≡ true → inLoop (n .points) d z ≡ true =
+          λ z j. inside-inside (n .points) shape d y z h m i j in
+          omega (
+            arith,
+            s y m i,
+            asGood-elim n shape a b p y m (λ z w j. r z w j (deeper z j)),
+            asGood-elim n shape b c q y m (λ z w j. sym (r z w j (deeper z j)) ∙ s z w (deeper z j)),
+          ))
 
--- each as good as the other: the same counts, from the inner loops outwards
-pub asGood-both :
-    (n : Nest) → isShape (n .points) ≡ true → (a b : List ℕ) → asGood n a b ≡ true → asGood n b a ≡ true → SameCounts n a b
-asGood-both n shape a b p q x h =
-    from-inside (n .points) shape (λ (d : ℕ). loopCount n a d ≡ loopCount n b d)
-    (λ d k r. omega (arith, asGood-elim n shape a b p d k r, asGood-elim n shape b a q d k (λ y m i. sym (r y m i))))
-    x h
+      chain : (d : ℕ) → isDo (n .points) d ≡ true → SameInside n a c d → loopCount n a d ≤ loopCount n c d
+      chain d h s =
+          let m = middle d h s in
+          omega (
+            arith,
+            asGood-elim n shape a b p d h m,
+            asGood-elim n shape b c q d h (λ x k i. sym (m x k i) ∙ s x k i),
+          )
+
+  -- each as good as the other: the same counts, from the inner loops outwards
+  pub asGood-both : (a b : List ℕ) → asGood n a b ≡ true → asGood n b a ≡ true → SameCounts n a b
+  asGood-both a b p q =
+      from-inside (n .points) shape
+      (λ (d : ℕ). loopCount n a d ≡ loopCount n b d)
+      (λ d k r. omega (arith, asGood-elim n shape a b p d k r, asGood-elim n shape b a q d k (λ y m i. sym (r y m i))))

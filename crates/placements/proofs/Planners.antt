@@ -1,5 +1,5 @@
--- Plausible planners that fail (01, "Plausible planners that fail", and "What the contracts must say", c): what each would name
--- as the key of some paper is not correct there, or dearer than another correct placement. By computation.
+-- Plausible planners that fail (01, "Plausible planners that fail", and "What the contracts must say", c): what each
+-- would name as the key of some paper is not correct there, or dearer than another correct placement. By computation.
 -- Main statements: `every-gap-fails`, `fixed-key-fails`, `empty-key-fails`, `outer-filled-fails`, `inner-first-fails`,
 -- `greedy-ring-fails`, `totals-fail`, `one-barrier-fails`.
 use mathlib.Core.Path.{_≡_, refl}
@@ -14,11 +14,11 @@ use Rattle.laws.proofs.Tests.{never, never-both, and-true}
 use Rattle.laws.proofs.Members.{every-below}
 use Rattle.nests.specs.Nests.{Nest}
 use Rattle.nests.specs.Valid.{isValid}
+use Rattle.nests.proofs.Cases.{paper-P, paper-Q, paper-R, paper-turn, paper-bare, paper-ring, paper-inner}
 use Rattle.placements.specs.Placements.{areGapsFrom, isCorrect, asGood}
 use Rattle.placements.specs.Keys.{IsKey}
 use Rattle.placements.proofs.Cuts.{correct-gaps}
 use Rattle.placements.proofs.Keys.{by-loops}
-use Rattle.placements.proofs.Papers.{paper-P, paper-Q, paper-R, paper-turn, paper-bare, paper-ring, paper-inner}
 
 -- a planner keeps demand 3 where it names a key of every paper
 abbrev pub Plans : (Nest → List ℕ) → Type 0
@@ -54,8 +54,10 @@ fixed-key-fails gs h = never (rw (bare-key gs (h paper-bare refl)) at (h paper-t
 -- best inside, and the whole outer loop filled: gaps 1 and 4 of the outer loop are not wanted
 pub outer-filled-fails :
     (IsKey paper-inner (1 ∷ 2 ∷ 4 ∷ []) → ⊥) × (IsKey paper-inner (1 ∷ 3 ∷ 4 ∷ []) → ⊥)
-outer-filled-fails =
-    (not-least paper-inner (1 ∷ 2 ∷ 4 ∷ []) (2 ∷ []) refl refl, not-least paper-inner (1 ∷ 3 ∷ 4 ∷ []) (2 ∷ []) refl refl)
+outer-filled-fails = (
+  not-least paper-inner (1 ∷ 2 ∷ 4 ∷ []) (2 ∷ []) refl refl,
+  not-least paper-inner (1 ∷ 3 ∷ 4 ∷ []) (2 ∷ []) refl refl,
+)
 
 -- each inner loop solved by itself, its first solution kept: P gets gaps 3 and 9 and a third barrier
 pub inner-first-fails : IsKey paper-P (3 ∷ 9 ∷ 13 ∷ []) → ⊥
@@ -65,7 +67,7 @@ inner-first-fails = not-least paper-P (3 ∷ 9 ∷ 13 ∷ []) (5 ∷ 11 ∷ []) 
 pub greedy-ring-fails : IsKey paper-ring (1 ∷ 2 ∷ []) → ⊥
 greedy-ring-fails = not-least paper-ring (1 ∷ 2 ∷ []) (2 ∷ []) refl refl
 
--- total counts: Q's placements 4, 7 and 2, 6 are both correct and both have two, and only one can be a key. A planner that puts
+-- total counts: Q's placements 4, 7 and 2, 6 are both correct and both have two, and 4, 7 is no key. A planner that puts
 -- the gap before a DO inside that loop cannot tell them apart either
 pub totals-fail :
     (isCorrect paper-Q (4 ∷ 7 ∷ []) ≡ true) × (isCorrect paper-Q (2 ∷ 6 ∷ []) ≡ true) × (IsKey paper-Q (4 ∷ 7 ∷ []) → ⊥)
@@ -76,5 +78,5 @@ pub one-barrier-fails : (g : ℕ) → isCorrect paper-R (g ∷ []) ≡ true → 
 one-barrier-fails g h =
     let z = and-true (ltb 0 g) (ltb g 8 && areGapsFrom g 8 []) (correct-gaps paper-R (g ∷ []) h) in
     let y = and-true (ltb g 8) (areGapsFrom g 8 []) (z .1) in
-    never-both h
-    (not-true (isCorrect paper-R (g ∷ [])) (every-below (λ (i : ℕ). not (isCorrect paper-R (i ∷ []))) 8 refl g (ltb-true g 8 (y .0))))
+    let alone : ℕ → Bool = λ i. isCorrect paper-R (i ∷ []) in
+    never-both h (not-true (alone g) (every-below (λ (i : ℕ). not (alone i)) 8 refl g (ltb-true g 8 (y .0))))

@@ -1,13 +1,12 @@
--- Verdicts mean what they say: Best is said of the keys alone, Dearer of a loop that costs more than the key's, Uncut of the
--- lowest uncut dependence.
+-- Verdicts mean what they say: Best is said of the keys alone, Dearer of a loop that costs more than in the key, Uncut
+-- of the lowest uncut dependence.
 -- Main statements: `best-iff-key`, `dearer-greater`, `uncut-iff-lowest`.
-use mathlib.Core.Path.{_≡_, refl, sym, _∙_}
-use mathlib.Core.Bool.{Bool, true, false}
-use mathlib.Core.List.{List, [], _∷_}
+use mathlib.Core.Path.{_≡_, refl}
+use mathlib.Core.Bool.{true}
+use mathlib.Core.List.{List}
 use mathlib.Core.Logic.{_↔_}
-use Prim.Native.Nat.{ℕ, zero, suc, _+_, _≤_, _<_}
+use Prim.Native.Nat.{ℕ, zero, suc, _<_}
 use native.Mathlib.Omega.{arith}
-use lib.Dec.{eqb}
 use borrow.Author.Tests.{eq-eqb}
 use Rattle.laws.proofs.Tests.{and-intro}
 use Rattle.nests.specs.Nests.{Dep, Nest}
@@ -15,10 +14,10 @@ use Rattle.nests.specs.Loops.{isDo, endOf}
 use Rattle.nests.specs.Valid.{isShape}
 use Rattle.placements.specs.Placements.{uncut, differ, areGaps, isCorrect, loopCount}
 use Rattle.placements.specs.Keys.{IsKey}
-use Rattle.placements.specs.Verdicts.{Verdict, Uncut, Dearer, Best, verdictBy, markOf}
+use Rattle.placements.specs.Verdicts.{Uncut, Dearer, Best, verdictBy, markOf}
 use Rattle.placements.proofs.Cuts.{correct-uncut, LowestUncut, uncut-first, first-uncut}
 use Rattle.placements.proofs.LoopLists.{Differ, differ-none, none-differ, differ-at}
-use Rattle.placements.proofs.LoopOrder.{SameCounts, asGood-elim}
+use Rattle.placements.proofs.LoopOrder.{asGood-elim}
 use Rattle.placements.proofs.Keys.{keys-agree, same-counts-key}
 
 -- how each verdict comes about
@@ -40,7 +39,8 @@ module _ (n : Nest) (key gs : List ℕ) where
     theirs-is : theirs ≡ loopCount n gs loop
     ours-is : ours ≡ loopCount n key loop
 
-  dearer-by : (u d loop theirs ours : ℕ) → verdictBy n key gs u d ≡ Dearer loop theirs ours → DearerBy u d loop theirs ours
+  dearer-by :
+      (u d loop theirs ours : ℕ) → verdictBy n key gs u d ≡ Dearer loop theirs ours → DearerBy u d loop theirs ours
   dearer-by (suc u) d loop theirs ours h = let z : _≡_ {A = ℕ} 0 1 = cc in absurd (omega arith)
   dearer-by zero zero loop theirs ours h = let z : _≡_ {A = ℕ} 0 1 = cc in absurd (omega arith)
   dearer-by zero (suc d) loop theirs ours h =
@@ -72,37 +72,41 @@ pub record IsDearer (n : Nest) (key gs : List ℕ) (loop theirs ours : ℕ) : Ty
       (x : ℕ) → isDo (n .points) x ≡ true → endOf (n .points) x < endOf (n .points) loop →
       loopCount n key x ≡ loopCount n gs x
 
-module _ (n : Nest) (shape : isShape (n .points) ≡ true) (key gs : List ℕ) (k : IsKey n key) (gaps : areGaps n gs ≡ true) where
-  correct-if : uncut n gs ≡ 0 → isCorrect n gs ≡ true
-  correct-if u = and-intro gaps (eq-eqb (uncut n gs) 0 u)
+module _
+    (n : Nest) (shape : isShape (n .points) ≡ true) (key gs : List ℕ) (k : IsKey n key) (gaps : areGaps n gs ≡ true)
+  where
+    correct-if : uncut n gs ≡ 0 → isCorrect n gs ≡ true
+    correct-if u = and-intro gaps (eq-eqb (uncut n gs) 0 u)
 
-  pub best-key : markOf n key gs ≡ Best → IsKey n gs
-  best-key h =
-      let z = best-by n key gs (uncut n gs) (differ n key gs) h in
-      same-counts-key n shape key gs k (correct-if (z .0)) (differ-none n shape key gs (z .1))
+    pub best-key : markOf n key gs ≡ Best → IsKey n gs
+    best-key h =
+        let z = best-by n key gs (uncut n gs) (differ n key gs) h in
+        same-counts-key n shape key gs k (correct-if (z .0)) (differ-none n shape key gs (z .1))
 
-  pub key-best : IsKey n gs → markOf n key gs ≡ Best
-  key-best g = rw (correct-uncut n gs (g .correct), none-differ n shape key gs (keys-agree n shape key gs k g))
+    pub key-best : IsKey n gs → markOf n key gs ≡ Best
+    key-best g = rw (correct-uncut n gs (g .correct), none-differ n shape key gs (keys-agree n shape key gs k g))
 
-  -- Best is said of the keys, and of nothing else
-  pub best-iff-key : (markOf n key gs ≡ Best) ↔ IsKey n gs
-  best-iff-key = (best-key, key-best)
+    -- Best is said of the keys, and of nothing else
+    pub best-iff-key : (markOf n key gs ≡ Best) ↔ IsKey n gs
+    best-iff-key = (best-key, key-best)
 
-  -- the loop of Dearer costs more than in the key
-  pub dearer-greater : (loop theirs ours : ℕ) → markOf n key gs ≡ Dearer loop theirs ours → IsDearer n key gs loop theirs ours
-  dearer-greater loop theirs ours h =
-      let b = dearer-by n key gs (uncut n gs) (differ n key gs) loop theirs ours h in
-      go b (correct-if (b .all-cut)) (differ-at n shape key gs loop (b .at))
-    where
-      go :
-          DearerBy n key gs (uncut n gs) (differ n key gs) loop theirs ours → isCorrect n gs ≡ true → Differ n key gs loop →
-          IsDearer n key gs loop theirs ours
-      go b c d =
-          record {
-          correct = c;
-          is-loop = d .loop;
-          theirs-is = b .theirs-is;
-          ours-is = b .ours-is;
-          dearer = omega (arith, b .theirs-is, b .ours-is, asGood-elim n shape key gs (k .least gs c) loop (d .loop) (d .inside), d .differs);
-          earlier = d .earlier
-      }
+    -- the loop of Dearer costs more than in the key
+    pub dearer-greater :
+        (loop theirs ours : ℕ) → markOf n key gs ≡ Dearer loop theirs ours → IsDearer n key gs loop theirs ours
+    dearer-greater loop theirs ours h =
+        let b = dearer-by n key gs (uncut n gs) (differ n key gs) loop theirs ours h in
+        go b (correct-if (b .all-cut)) (differ-at n shape key gs loop (b .at))
+      where
+        go :
+            DearerBy n key gs (uncut n gs) (differ n key gs) loop theirs ours → isCorrect n gs ≡ true →
+            Differ n key gs loop → IsDearer n key gs loop theirs ours
+        go b c d =
+            let least = asGood-elim n shape key gs (k .least gs c) loop (d .loop) (d .inside) in
+            record {
+              correct = c;
+              is-loop = d .loop;
+              theirs-is = b .theirs-is;
+              ours-is = b .ours-is;
+              dearer = omega (arith, b .theirs-is, b .ours-is, d .differs);
+              earlier = d .earlier;
+            }

@@ -30,8 +30,8 @@ abbrev mutual
   sameForest (beside t ts) bare = false
   sameForest (beside t ts) (beside u us) = sameTree t u && sameForest ts us
 
--- 001, definition 1: each subtree right under T's root is as good or better than the matching one of U and, where all of
--- these are equal, T's root count is at most U's
+-- 01, "Which placement is better" (001, definition 1): each subtree right under T's root is as good or better than the
+-- matching one of U and, where all of these are equal, T's root count is at most U's
 abbrev mutual
   pub asGoodTree : Tree → Tree → Bool
   asGoodTree (node c ts) (node k us) = asGoodForest ts us && (not (sameForest ts us) || leb c k)

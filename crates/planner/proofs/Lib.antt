@@ -23,3 +23,10 @@ pub mod Papers
 pub mod Instance
 pub mod Cuts
 pub mod NestKey
+-- the key is first in list order among all keys: by exchange once more, step by step
+pub mod FirstExchange
+pub mod FirstPlaces
+pub mod FirstSweep
+pub mod FirstChoice
+pub mod FirstLoop
+pub mod KeyFirst

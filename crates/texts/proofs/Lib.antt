@@ -8,3 +8,8 @@ pub mod ReadsBack
 pub mod PlacedTexts
 pub mod ProgramTexts
 pub mod TextCases
+pub mod Faults
+pub mod Frames
+pub mod Loading
+pub mod Barriers
+pub mod Placing

@@ -98,8 +98,8 @@ case-10-read = refl
 pub case-11-read : readNest [] ≡ got 4 1 empty
 case-11-read = no-text
 
--- case 12: 256 points and 512 dependences are accepted; a 257th point with a loop still open, or a 513th dependence, has
--- number 5, and a point right after a closed nest number 4
+-- case 12: 256 points and 512 dependences are accepted; a 257th point with a loop still open, or a 513th dependence,
+-- has number 5, and a point right after a closed nest number 4
 abbrev pub full : Nest
 full = nest (1 ∷ replicate 254 3 ++ (2 ∷ [])) (replicate 512 (dep INDEPENDENT 0 1 2))
 

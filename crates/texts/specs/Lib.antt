@@ -2,3 +2,4 @@
 pub mod NestTexts
 pub mod PlacementTexts
 pub mod Program
+pub mod Reads

@@ -1,1 +1,287 @@
-// texts
+// Nest texts and placement texts, read line by line.
+ghost use mathlib.Core.Path.{_≡_};
+ghost use Prim.Native.Nat.{_≤_};
+ghost use lib.ListN.{length, take};
+ghost use Rattle.nests.specs.Stored.{nestIn, IsCounted};
+ghost use Rattle.texts.specs.Reads.{IsRead, RefusedAs, EndedAs, closedBy, misplacedBy, tooManyBy, PointFault};
+ghost use Rattle.texts.specs.Reads.{DependenceFault, FrameFault, IsDependence, HasRoom, FrameAdded};
+ghost use Rattle.texts.specs.Reads.{IsPlaced, UnplacedAs, BarrierFault};
+use lines::Frame;
+use lines::Read;
+use lines::read_line;
+use nests::CARRIED;
+use nests::DO;
+use nests::Dependence;
+use nests::ENDDO;
+use nests::INDEPENDENT;
+use nests::Nest;
+use nests::STATEMENT;
+use nests::deeper;
+use nests::dep_fault;
+use placements::Placement;
+
+// A nest text's reading: the number and the line of its refusal, 0 and 0 for none, and the nest.
+pub struct Reading {
+    pub number: u8,
+    pub line: usize,
+    pub nest: Nest,
+}
+
+// A placement text's reading: the number and the line of its refusal, 0 and 0 for none, and the placement.
+pub struct PlacementReading {
+    pub number: u8,
+    pub line: usize,
+    pub placement: Placement,
+}
+
+// The kind of barriers.
+pub const BARRIER: u8 = 33;
+
+// Reads a nest text up to its first faulty line.
+pub fn read_nest(text: &[u8]) -> Reading
+    ensures { λ r. ⌜ IsRead (now (text .entry)) r ⌝ }
+{
+    let mut nest = Nest::empty();
+    let mut depth: usize = 0;
+    let mut at: usize = 0;
+    let mut line: usize = 1;
+    loop {
+        let next = read_line(text, at);
+        match next {
+            Read::End => return ended(nest, depth, line),
+            Read::Refused(number) => return refused(number, line),
+            Read::Frame(f) => {
+                let count = nest.count;
+                let many = nest.many;
+                let number = frame_fault(&nest.points, count, many, depth, f);
+                if number != 0 {
+                    return refused(number, line);
+                }
+                nest = with_frame(nest, f);
+                depth = deeper(depth, f.kind);
+                at = f.next;
+                line += 1;
+            }
+        }
+    }
+}
+
+// Reads a placement text, for a nest with so many points, up to its first faulty line.
+pub fn read_placement(points: usize, text: &[u8]) -> PlacementReading
+    ensures { λ r. ⌜ IsPlaced points (now (text .entry)) r ⌝ }
+{
+    let mut placement = Placement::empty();
+    let mut last: usize = 0;
+    let mut at: usize = 0;
+    let mut line: usize = 1;
+    loop {
+        let next = read_line(text, at);
+        match next {
+            Read::End => return PlacementReading {
+                number: 0,
+                line: 0,
+                placement: placement,
+            },
+            Read::Refused(number) => return unplaced(number, line),
+            Read::Frame(f) => {
+                let number = barrier_fault(last, points, f);
+                if number != 0 {
+                    return unplaced(number, line);
+                }
+                last = f.a as usize;
+                placement = placement.put(last);
+                at = f.next;
+                line += 1;
+            }
+        }
+    }
+}
+
+// The reading of a refused nest text.
+fn refused(number: u8, line: usize) -> Reading
+    ensures { λ r. ⌜ RefusedAs number line r ⌝ }
+{
+    Reading {
+        number: number,
+        line: line,
+        nest: Nest::empty(),
+    }
+}
+
+// The reading at the end of a text.
+fn ended(nest: Nest, depth: usize, line: usize) -> Reading
+    requires { ⌜ IsCounted nest ⌝ }
+    ensures { λ r. ⌜ EndedAs nest depth line r ⌝ }
+{
+    if is_closed(nest.count, depth) {
+        Reading {
+            number: 0,
+            line: 0,
+            nest: nest,
+        }
+    } else {
+        refused(4, line)
+    }
+}
+
+// The reading of a refused placement text.
+fn unplaced(number: u8, line: usize) -> PlacementReading
+    ensures { λ r. ⌜ UnplacedAs number line r ⌝ }
+{
+    PlacementReading {
+        number: number,
+        line: line,
+        placement: Placement::empty(),
+    }
+}
+
+// The refusal of a barrier after the gap `last`, 2 or 8, or 0 for none.
+fn barrier_fault(last: usize, points: usize, f: Frame) -> u8
+    ensures { λ r. ⌜ BarrierFault last points f r ⌝ }
+{
+    let kind = f.kind;
+    match kind {
+        BARRIER => {
+            if f.len == 2 {
+                let g = f.a as usize;
+                if g <= last {
+                    return 8;
+                }
+                if points <= g {
+                    return 8;
+                }
+                return 0;
+            }
+            2
+        }
+        _ => 2,
+    }
+}
+
+// The refusal of a frame after the first points, 2 to 7, or 0 for none.
+fn frame_fault(all: &[u8], count: usize, many: usize, depth: usize, f: Frame) -> u8
+    requires { ⌜ count ≤ length (now all) ⌝ }
+    ensures { λ r. ⌜ FrameFault (take count (now (all .entry))) many depth f r ⌝ }
+{
+    let points = &all[..count];
+    let kind = f.kind;
+    match kind {
+        DO | ENDDO | STATEMENT => {
+            if f.len == 1 {
+                point_fault(count, many, depth, kind)
+            } else {
+                2
+            }
+        }
+        INDEPENDENT => {
+            if f.len == 3 {
+                dependence_fault(points, many, depth, dependence_of(f))
+            } else {
+                2
+            }
+        }
+        CARRIED => {
+            if f.len == 4 {
+                dependence_fault(points, many, depth, dependence_of(f))
+            } else {
+                2
+            }
+        }
+        _ => 2,
+    }
+}
+
+// The refusal of a point, 3, 4 or 5, or 0 for none.
+fn point_fault(count: usize, many: usize, depth: usize, kind: u8) -> u8
+    ensures { λ r. ⌜ PointFault count many depth kind r ⌝ }
+{
+    if 1 <= many {
+        return 3;
+    }
+    if is_misplaced(count, depth, kind) {
+        return 4;
+    }
+    if is_too_many(count, depth, kind) {
+        return 5;
+    }
+    0
+}
+
+// The refusal of a dependence, 4 to 7, or 0 for none.
+fn dependence_fault(points: &[u8], many: usize, depth: usize, e: Dependence) -> u8
+    ensures { λ r. ⌜ DependenceFault (now (points .entry)) many depth e r ⌝ }
+{
+    if is_closed(points.len(), depth) {
+        if Nest::DEPENDENCES <= many {
+            return 5;
+        }
+        return dep_fault(points, e);
+    }
+    4
+}
+
+// All points are there.
+fn is_closed(count: usize, depth: usize) -> bool
+    ensures { λ r. ⌜ r ≡ closedBy count depth ⌝ }
+{
+    if count == 0 {
+        return false;
+    }
+    depth == 0
+}
+
+// All points are there, or the first is no DO.
+fn is_misplaced(count: usize, depth: usize, kind: u8) -> bool
+    ensures { λ r. ⌜ r ≡ misplacedBy count depth kind ⌝ }
+{
+    if count == 0 {
+        return kind != DO;
+    }
+    depth == 0
+}
+
+// There is no room for the point, or no loop may open here.
+fn is_too_many(count: usize, depth: usize, kind: u8) -> bool
+    ensures { λ r. ⌜ r ≡ tooManyBy count depth kind ⌝ }
+{
+    if Nest::POINTS <= count {
+        return true;
+    }
+    if kind == DO {
+        return Nest::DEPTH <= depth;
+    }
+    false
+}
+
+// The nest with one frame more.
+fn with_frame(nest: Nest, f: Frame) -> Nest
+    requires { ⌜ HasRoom nest f ⌝ }
+    ensures { λ r. ⌜ FrameAdded nest f r ⌝ }
+{
+    let kind = f.kind;
+    match kind {
+        DO | ENDDO | STATEMENT => nest.with_point(kind),
+        _ => nest.with_dependence(dependence_of(f)),
+    }
+}
+
+// The dependence that a frame spells.
+fn dependence_of(f: Frame) -> Dependence
+    ensures { λ r. ⌜ IsDependence f r ⌝ }
+{
+    if f.kind == INDEPENDENT {
+        Dependence {
+            kind: INDEPENDENT,
+            d: 0,
+            s: f.a,
+            t: f.b,
+        }
+    } else {
+        Dependence {
+            kind: CARRIED,
+            d: f.a,
+            s: f.b,
+            t: f.c,
+        }
+    }
+}

@@ -1,0 +1,3 @@
+-- Laws of desks.
+pub mod Held
+pub mod Loads

@@ -1,0 +1,28 @@
+use mathlib.Core.Path.{refl}
+use borrow.Author.Needs.{needs}
+use Rattle.desk.proofs.Loads.{load-refused, load-accepted}
+use Rattle.desk.proofs.load_nest.Statement.{statement}
+use Rattle.desk.proofs.load_nest.Tie as tie
+use Rattle.desk.proofs.load_nest.Reads as reads
+use Rattle.desk.proofs.load_nest.Lts as lts
+use Rattle.placements.proofs.Placement.empty.Reads as empty-reads
+use Rattle.texts.proofs.read_nest.Reads as read-nest-reads
+
+read-nest-requires : tie.Need-read-nest-requires
+read-nest-requires c κs = search needs
+
+returns : tie.Need-returns
+returns c =
+    let r = c .before .read-nest in
+    load-refused (c .before .before .before .args .text .now) (r .result) (r .ensures) (c .before .before .before .args .desk) _ (c .if1 .taken) refl refl refl
+
+empty-requires : tie.Need-empty-requires
+empty-requires c κs = search needs
+
+returns-2 : tie.Need-returns-2
+returns-2 c =
+    let r = c .before .before .before .read-nest in
+    load-accepted (c .before .before .before .before .before .args .text .now) (r .result) (r .ensures) (c .before .before .before .before .before .args .desk) _ (c .before .before .if1 .left) refl refl refl refl refl (c .empty .ensures)
+
+pub load-nest-spec : {M : Type 1} → statement M
+load-nest-spec = tie.close (tie.spec read-nest-requires returns empty-requires returns-2)

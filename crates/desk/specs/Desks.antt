@@ -1,0 +1,68 @@
+-- Desks: a nest at most, a key at most; numbers 10 and 11; what the calls answer.
+-- Main definitions: `Desk`, `deskIn`, `IsMade`, `stateFault`, `listFault`, `listUncut`.
+use mathlib.Core.Path.{_≡_}
+use mathlib.Core.Bool.{Bool, true, false, _&&_, _||_, not}
+use mathlib.Core.List.{List, [], _∷_}
+use Prim.Native.Nat.{ℕ, zero, suc}
+use lib.Dec.{eqb}
+use Rattle.laws.specs.Choice.{pick, when, firstOf}
+use Rattle.nests.specs.Kinds.{INDEPENDENT, CARRIED}
+use Rattle.nests.specs.Nests.{Dep, Nest, empty}
+use Rattle.nests.specs.Valid.{isValid, depFault}
+use Rattle.nests.specs.Stored.{nestIn, IsCounted}
+use Rattle.placements.specs.Placements.{cuts}
+use Rattle.placements.specs.Words.{gapsIn}
+use Rattle.placements.specs.Keys.{IsKey}
+use Rattle.desk.specs.declared.Desk as DD
+
+-- 01, "The desk": a desk holds one nest, and at most one key
+pub record Desk : Type 0 where
+  pub hasNest : Bool
+  pub nest-is : Nest
+  pub hasKey : Bool
+  pub key : List ℕ
+
+abbrev pub desk : Bool → Nest → Bool → List ℕ → Desk
+desk a n b k = record { hasNest = a; nest-is = n; hasKey = b; key = k }
+
+-- 01, "The desk": it starts empty
+abbrev pub emptyDesk : Desk
+emptyDesk = desk false empty false []
+
+-- what the code's desk holds
+abbrev pub deskIn : DD.Desk → Desk
+deskIn d = desk (d .loaded) (nestIn (d .nest)) (d .planned) (gapsIn (d .key .words))
+
+-- 01, "The desk": desks come only from these calls; this is what such a desk is
+pub record IsMade (d : DD.Desk) : Type 0 where
+  pub counted : IsCounted (d .nest)
+  pub valid : d .loaded ≡ true → isValid (nestIn (d .nest)) ≡ true
+  pub no-nest : d .loaded ≡ false → deskIn d ≡ emptyDesk
+  pub is-key : d .planned ≡ true → IsKey (deskIn d .nest-is) (deskIn d .key)
+  pub no-key : d .planned ≡ false → deskIn d .key ≡ []
+
+-- 01, "Numbers from the state": 10, no nest; 11, a nest but no key
+abbrev pub stateFault : Bool → Desk → ℕ
+stateFault wantsKey d = firstOf (when (not (d .hasNest)) 10) (when (wantsKey && not (d .hasKey)) 11)
+
+-- a refusal: its number and its line, or the record's place in a list; 0 and 0 for none
+pub record Fault : Type 0 where
+  pub number : ℕ
+  pub place : ℕ
+
+abbrev pub fault : ℕ → ℕ → Fault
+fault n p = record { number = n; place = p }
+
+-- 01, "Numbers from the input": of a listed record only 2 (unknown kind), 6 and 7 apply
+abbrev pub recordFault : List ℕ → Dep → ℕ
+recordFault ps e = firstOf (when (not (eqb (e .kind) INDEPENDENT || eqb (e .kind) CARRIED)) 2) (depFault ps e)
+
+-- the first faulty record of a list, with its place counted from k
+abbrev pub listFault : ℕ → List ℕ → List Dep → Fault
+listFault k ps [] = fault 0 0
+listFault k ps (e ∷ es) = pick (eqb (recordFault ps e) 0) (listFault (suc k) ps es) (fault (recordFault ps e) k)
+
+-- the place of the first record that the gaps don't cut, counted from k; 0 for none
+abbrev pub listUncut : ℕ → List ℕ → List Dep → List ℕ → ℕ
+listUncut k ps [] gs = 0
+listUncut k ps (e ∷ es) gs = pick (cuts ps e gs) (listUncut (suc k) ps es gs) k

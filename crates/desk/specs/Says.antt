@@ -1,0 +1,121 @@
+-- What the public calls promise: reply, desk after, every lent byte.
+-- Main definitions: `EmptySays`, `LoadSays`, `PlanSays`, `CountSays`, `MarkSays`, `WriteSays`.
+use mathlib.Core.Path.{_≡_}
+use mathlib.Core.Bool.{Bool, true, false, not}
+use mathlib.Core.List.{List, [], _∷_}
+use Prim.Native.Nat.{ℕ, zero, suc}
+use lib.Dec.{eqb, ltb, leb}
+use lib.ListN.{length}
+use Rattle.laws.specs.Choice.{pick, pickT, when, firstOf}
+use Rattle.nests.specs.Nests.{Dep, Nest}
+use Rattle.nests.specs.Loops.{isDo}
+use Rattle.nests.specs.Stored.{IsCounted}
+use Rattle.lines.specs.Writing.{over}
+use Rattle.placements.specs.Placements.{loopCount}
+use Rattle.placements.specs.Keys.{IsKey}
+use Rattle.placements.specs.Verdicts.{Verdict, Uncut, Dearer, Best, markOf}
+use Rattle.texts.specs.NestTexts.{Got, readNest}
+use Rattle.texts.specs.PlacementTexts.{Placed, readPlacement, keyText}
+use Rattle.desk.specs.declared.Desk as DD
+use Rattle.desk.specs.declared.Reply as DR
+use Rattle.desk.specs.declared.Answer as DA
+use Rattle.desk.specs.declared.Marked as DM
+use Rattle.desk.specs.declared.Verdict as DV
+use Rattle.desk.specs.declared.Verdict.the-variants as VV
+use Rattle.desk.specs.declared.Marked.the-variants as MV
+use Rattle.desk.specs.Desks.{Desk, desk, emptyDesk, deskIn, stateFault, Fault, fault, listFault, listUncut}
+
+-- the desk holds this, and its nest's counts are those of the nest
+pub record Holds (d : DD.Desk) (x : Desk) : Type 0 where
+  pub holds : deskIn d ≡ x
+  pub counted : IsCounted (d .nest)
+
+-- a new desk, and Reset
+abbrev pub EmptySays : DD.Desk → Type 0
+EmptySays d = Holds d emptyDesk
+
+-- Load: 1 to 7 with their line; accepted, it replaces the nest and drops the key; refused, it leaves the desk
+pub record LoadSays (d : DD.Desk) (s : List ℕ) (r : DR.Reply) : Type 0 where
+  pub number-is : r .number ≡ readNest s .number
+  pub line-is : r .line ≡ readNest s .place
+  pub desk-is : pickT (eqb (readNest s .number) 0) (Holds (r .desk) (desk true (readNest s .nest-is) false [])) (r .desk ≡ d)
+
+-- the desk has the same nest, and a key of it
+pub record PlannedAs (n : Nest) (d : DD.Desk) : Type 0 where
+  pub counted : IsCounted (d .nest)
+  pub has-nest : d .loaded ≡ true
+  pub same-nest : deskIn d .nest-is ≡ n
+  pub has-key : d .planned ≡ true
+  pub is-key : IsKey n (deskIn d .key)
+
+-- Plan: 10; the key is any correct placement with the least tree
+pub record PlanSays (d : DD.Desk) (r : DR.Reply) : Type 0 where
+  pub number-is : r .number ≡ stateFault false (deskIn d)
+  pub line-is : r .line ≡ 0
+  pub desk-is : pickT (eqb (stateFault false (deskIn d)) 0) (PlannedAs (deskIn d .nest-is) (r .desk)) (r .desk ≡ d)
+
+-- Count: 10, 11, 6; the loop's count in the key
+abbrev pub countFault : Desk → ℕ → ℕ
+countFault x p = firstOf (stateFault true x) (when (not (isDo (x .nest-is .points) p)) 6)
+
+pub record CountSays (d : DD.Desk) (p : ℕ) (r : DA.Answer) : Type 0 where
+  pub number-is : r .number ≡ countFault (deskIn d) p
+  pub line-is : r .line ≡ 0
+  pub value-is : r .value ≡ pick (eqb (countFault (deskIn d) p) 0) (loopCount (deskIn d .nest-is) (deskIn d .key) p) 0
+
+-- Mark: 10, 11, then 1, 2, 8 with their line; the paper's numbers and values of each answer
+pub data Mark : Type 0 where
+  refused : Fault → Mark
+  given : Verdict → Mark
+
+abbrev pub verdictIn : DV.Verdict → Verdict
+verdictIn (VV.Uncut i) = Uncut i
+verdictIn (VV.Dearer x) = Dearer (x .d) (x .theirs) (x .ours)
+verdictIn VV.Best = Best
+
+abbrev pub markIn : DM.Marked → Mark
+markIn (MV.Refused f) = refused (fault (f .number) (f .line))
+markIn (MV.Given v) = given (verdictIn v)
+
+abbrev pub readIn : Desk → List ℕ → Placed
+readIn x s = readPlacement (length (x .nest-is .points)) s
+
+abbrev pub placeFault : Desk → List ℕ → Fault
+placeFault x s =
+    pick (eqb (stateFault true x) 0) (fault (readIn x s .number) (readIn x s .place)) (fault (stateFault true x) 0)
+
+abbrev pub marked : Desk → List ℕ → Mark
+marked x s =
+    pick
+    (eqb (placeFault x s .number) 0)
+    (given (markOf (x .nest-is) (x .key) (readIn x s .gaps)))
+    (refused (placeFault x s))
+
+-- Mark changes nothing
+abbrev pub MarkSays : DD.Desk → List ℕ → DM.Marked → Type 0
+MarkSays d s r = markIn r ≡ marked (deskIn d) s
+
+-- Write: 10, 11, 9; the key's text from the start of the buffer, every later byte as it was, and the length
+abbrev pub writeFault : Desk → List ℕ → ℕ
+writeFault x out = firstOf (stateFault true x) (when (ltb (length out) (length (keyText (x .key)))) 9)
+
+pub record WriteSays (d : DD.Desk) (out out′ : List ℕ) (r : DA.Answer) : Type 0 where
+  pub number-is : r .number ≡ writeFault (deskIn d) out
+  pub line-is : r .line ≡ 0
+  pub value-is : r .value ≡ pick (eqb (writeFault (deskIn d) out) 0) (length (keyText (deskIn d .key))) 0
+  pub out-is : out′ ≡ pick (eqb (writeFault (deskIn d) out) 0) (over (keyText (deskIn d .key)) out) out
+
+-- the list: 10, 11, then 2, 6, 7 with the record's place; the place of the first that the key doesn't cut, 0 for none
+abbrev pub checkFault : Desk → List Dep → Fault
+checkFault x es =
+    pick (eqb (stateFault true x) 0) (listFault 1 (x .nest-is .points) es) (fault (stateFault true x) 0)
+
+pub record ListSays (d : DD.Desk) (es : List Dep) (r : DA.Answer) : Type 0 where
+  pub number-is : r .number ≡ checkFault (deskIn d) es .number
+  pub place-is : r .line ≡ checkFault (deskIn d) es .place
+  pub value-is
+      : r .value ≡
+      pick
+      (eqb (checkFault (deskIn d) es .number) 0)
+      (listUncut 1 (deskIn d .nest-is .points) es (deskIn d .key))
+      0

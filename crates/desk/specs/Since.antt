@@ -1,0 +1,27 @@
+-- Desks since a Load: what demand 3 says of the calls.
+-- Main definitions: `Since`, `LoadThenPlan`.
+use mathlib.Core.Path.{_≡_}
+use mathlib.Core.List.{List}
+use Prim.Native.Nat.{ℕ}
+use Rattle.placements.specs.Keys.{IsKey, By-loops}
+use Rattle.texts.specs.NestTexts.{readNest}
+use Rattle.desk.specs.declared.Desk as DD
+use Rattle.desk.specs.declared.Reply as DR
+use Rattle.desk.specs.Desks.{deskIn, IsMade}
+use Rattle.desk.specs.Says.{LoadSays, PlanSays}
+
+-- 01, "Which placement is better": a desk whose last accepted Load read the text s, with no Reset since, whatever it was
+-- used for before. Plans and refused Loads may lie between; the other calls change nothing.
+pub data Since (s : List ℕ) : DD.Desk → Type 0 where
+  loaded : (d : DD.Desk) (r : DR.Reply) → IsMade d → LoadSays d s r → r .number ≡ 0 → Since s (r .desk)
+  refused : (d : DD.Desk) (t : List ℕ) (r : DR.Reply) → Since s d → LoadSays d t r → (r .number ≡ 0 → ⊥) → Since s (r .desk)
+  planned : (d : DD.Desk) (r : DR.Reply) → Since s d → PlanSays d r → Since s (r .desk)
+
+-- demand 3 of the calls: Plan of such a desk is never refused, and its key is a key of the nest that s spells
+pub record PlansKey (s : List ℕ) (r : DR.Reply) : Type 0 where
+  pub no-refusal : r .number ≡ 0
+  pub is-key : IsKey (readNest s .nest-is) (deskIn (r .desk) .key)
+  pub by-loops : By-loops (readNest s .nest-is) (deskIn (r .desk) .key)
+
+abbrev pub LoadThenPlan : Type 0
+LoadThenPlan = (s : List ℕ) (d : DD.Desk) (r : DR.Reply) → Since s d → PlanSays d r → PlansKey s r

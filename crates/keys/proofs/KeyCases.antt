@@ -1,0 +1,116 @@
+-- 01, "Papers with known results": the keys of the starred cases. Each is computed from `keyOf`, is a key by the
+-- planner's theorem, and every other key of its paper has the same counts.
+-- Main statements: `computed-keys`, `starred-keys` (over the table of cases), `case-1-program`.
+use mathlib.Core.Path.{_≡_, refl, _∙_}
+use mathlib.Core.Bool.{true}
+use mathlib.Core.List.{List, [], _∷_}
+use Prim.{Unit, tt}
+use Prim.Native.Nat.{ℕ}
+use lib.ListN.{length}
+use Rattle.nests.specs.Nests.{Nest}
+use Rattle.nests.specs.Valid.{isValid}
+use Rattle.nests.proofs.Cases.{paper-P, paper-Q, paper-R, paper-turn, paper-bare, paper-ring, paper-inner}
+use Rattle.nests.proofs.Deps.{valid-is}
+use Rattle.placements.specs.Keys.{IsKey}
+use Rattle.placements.specs.Words.{gapsOf}
+use Rattle.placements.proofs.Cases.{countsOf, Case, table}
+use Rattle.lines.proofs.Spelling.{framesText}
+use Rattle.texts.specs.NestTexts.{readNest}
+use Rattle.texts.specs.Program.{programText}
+use Rattle.texts.proofs.TextCases.{P-lines, P-read, case-1-written}
+use Rattle.planner.specs.Home.{leastEnd, reachOf, limitOf, hasAt, keyIn}
+use Rattle.planner.specs.Sweep.{needOf, put, stepPlain, seek, free, inner, outer, childAt}
+use Rattle.planner.specs.Sweep.{stepChild, next, step, walk, sweep, close, value, least, better, best}
+use Rattle.planner.specs.Sweep.{childSome, someOf, costOf, frontOf, leftOf, choiceOf, layOf}
+use Rattle.planner.specs.Plan.{tableOf, tableFrom, withRow, noTables}
+use Rattle.planner.specs.Plan as Plan
+use Rattle.keys.specs.KeyOf.{keyOf}
+use Rattle.keys.proofs.KeyIsKey.{key-is-key}
+use Rattle.keys.proofs.Sizes.{keys-same-counts, keys-same-size}
+
+-- the keys as they are computed
+pub record Computed : Type 0 where
+  pub of-P : keyOf paper-P ≡ 5 ∷ 11 ∷ []
+  pub of-Q : keyOf paper-Q ≡ 2 ∷ 6 ∷ []
+  pub of-R : keyOf paper-R ≡ 1 ∷ 4 ∷ []
+  pub of-turn : keyOf paper-turn ≡ 1 ∷ []
+  pub of-bare : keyOf paper-bare ≡ []
+  pub of-ring : keyOf paper-ring ≡ 2 ∷ []
+  pub of-inner : keyOf paper-inner ≡ 2 ∷ []
+
+pub computed-keys : Computed
+unfolding keyOf gapsOf keyIn leastEnd reachOf limitOf hasAt Plan.keyOf tableOf tableFrom withRow noTables needOf put
+    stepPlain seek free inner outer childAt stepChild next step walk sweep close value least better best childSome
+    someOf costOf frontOf leftOf choiceOf layOf
+computed-keys =
+    record { of-P = refl; of-Q = refl; of-R = refl; of-turn = refl; of-bare = refl; of-ring = refl; of-inner = refl }
+
+-- a placement is a key of the paper, and all keys have its counts, in order of the loops' DO, and its number of gaps
+pub record HasKey (n : Nest) (key counts : List ℕ) : Type 0 where
+  pub is-key : IsKey n key
+  pub all-counts : (gs : List ℕ) → IsKey n gs → countsOf n gs ≡ counts
+  pub all-sizes : (gs : List ℕ) → IsKey n gs → length gs ≡ length key
+
+by-theorem
+    : (n : Nest) (key counts : List ℕ)
+    → isValid n ≡ true
+    → keyOf n ≡ key
+    → countsOf n key ≡ counts
+    → HasKey n key counts
+by-theorem n key counts valid e c =
+    let k : IsKey n key = rw e at (key-is-key n valid) in
+    let shape = valid-is n valid .shape in
+    record {
+      is-key = k;
+      all-counts = λ gs h. keys-same-counts n shape gs key h k ∙ c;
+      all-sizes = λ gs h. keys-same-size n shape gs key h k;
+    }
+
+-- cases 1 to 5: P has key 5 and 11, counts 0, 1, 1 for loops 0, 1, 7
+pub P-key : HasKey paper-P (5 ∷ 11 ∷ []) (0 ∷ 1 ∷ 1 ∷ [])
+P-key = by-theorem paper-P (5 ∷ 11 ∷ []) (0 ∷ 1 ∷ 1 ∷ []) refl (computed-keys .of-P) refl
+
+-- cases 6 and 7: Q has key 2 and 6, counts 1, 0, 1 for loops 0, 2, 3
+pub Q-key : HasKey paper-Q (2 ∷ 6 ∷ []) (1 ∷ 0 ∷ 1 ∷ [])
+Q-key = by-theorem paper-Q (2 ∷ 6 ∷ []) (1 ∷ 0 ∷ 1 ∷ []) refl (computed-keys .of-Q) refl
+
+-- case 8: R has count 2
+pub R-key : HasKey paper-R (1 ∷ 4 ∷ []) (2 ∷ [])
+R-key = by-theorem paper-R (1 ∷ 4 ∷ []) (2 ∷ []) refl (computed-keys .of-R) refl
+
+-- case 9: count 1
+pub turn-key : HasKey paper-turn (1 ∷ []) (1 ∷ [])
+turn-key = by-theorem paper-turn (1 ∷ []) (1 ∷ []) refl (computed-keys .of-turn) refl
+
+-- case 10: the empty key
+pub bare-key : HasKey paper-bare [] (0 ∷ [])
+bare-key = by-theorem paper-bare [] (0 ∷ []) refl (computed-keys .of-bare) refl
+
+-- the smallest ring on which greedy cutting from the first interval end fails: the key is 2
+pub ring-key : HasKey paper-ring (2 ∷ []) (1 ∷ [])
+ring-key = by-theorem paper-ring (2 ∷ []) (1 ∷ []) refl (computed-keys .of-ring) refl
+
+-- one barrier inside is enough: none in loop 0
+pub inner-key : HasKey paper-inner (2 ∷ []) (0 ∷ 1 ∷ [])
+inner-key = by-theorem paper-inner (2 ∷ []) (0 ∷ 1 ∷ []) refl (computed-keys .of-inner) refl
+
+-- what the table of cases names as keys and counts
+abbrev pub HaveKeys : List Case → Type 0
+HaveKeys [] = Unit {0}
+HaveKeys (c ∷ cs) = HasKey (c .paper) (c .key) (c .counts) × HaveKeys cs
+
+pub starred-keys : HaveKeys table
+starred-keys =
+    (P-key, (P-key, (P-key, (P-key, (P-key, (Q-key, (Q-key, (R-key, (turn-key, (bare-key, (ring-key, tt)))))))))))
+
+-- case 1: the program writes 2105, 210b, 220000, 220101, 220701 for P
+pub case-1-program
+    : programText P-lines (keyOf (readNest P-lines .nest-is))
+    ≡ framesText
+    ((0x21 ∷ 0x05 ∷ []) ∷
+    (0x21 ∷ 0x0b ∷ []) ∷
+    (0x22 ∷ 0x00 ∷ 0x00 ∷ []) ∷
+    (0x22 ∷ 0x01 ∷ 0x01 ∷ []) ∷
+    (0x22 ∷ 0x07 ∷ 0x01 ∷ []) ∷
+    [])
+case-1-program = rw (P-read, computed-keys .of-P) case-1-written

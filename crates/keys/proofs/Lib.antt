@@ -1,0 +1,14 @@
+-- The planner's theorem in the paper's words: KeyIsKey, then demand 3, and what leads to them.
+pub mod KeyIsKey
+pub mod Demand3
+pub mod KeyGaps
+pub mod Predicates
+-- the key is first in list order among all keys
+pub mod ListOrder
+pub mod KeyLengths
+pub mod KeyFirst
+pub mod Sizes
+pub mod Marking
+pub mod RingKey
+pub mod KeyCases
+pub mod Excluded

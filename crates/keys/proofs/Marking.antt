@@ -1,0 +1,93 @@
+-- What the desk's verdicts mean, with the planner's key: Best is said of the keys alone, Dearer of a loop that costs
+-- more, and no verdict depends on which of the keys the desk holds.
+-- Main statements: `best-iff-key`, `dearer-greater`, `mark-determined`; of texts, `marked-best` and `marked-dearer`.
+use mathlib.Core.Path.{_≡_, refl, ap, _∙_}
+use mathlib.Core.Bool.{true}
+use mathlib.Core.List.{List, [], _∷_}
+use mathlib.Core.Logic.{_↔_}
+use Prim.Native.Nat.{ℕ, zero, suc}
+use lib.ListN.{length}
+use Rattle.laws.specs.Choice.{isIn}
+use Rattle.laws.proofs.Members.{in-here, in-later}
+use Rattle.nests.specs.Nests.{Nest}
+use Rattle.nests.specs.Loops.{isDo}
+use Rattle.nests.specs.Valid.{isShape, isValid}
+use Rattle.nests.proofs.Deps.{valid-is}
+use Rattle.placements.specs.Placements.{areGaps, loopsOf, uncut, differFrom, differ}
+use Rattle.placements.specs.Keys.{IsKey}
+use Rattle.placements.specs.Verdicts.{Dearer, Best, verdictBy, markOf}
+use Rattle.placements.proofs.LoopLists.{listed-loop, differ-at}
+use Rattle.placements.proofs.LoopOrder.{SameCounts}
+use Rattle.placements.proofs.Keys.{keys-agree}
+use Rattle.placements.proofs.Verdicts.{IsDearer}
+use Rattle.placements.proofs.Verdicts as Verdicts
+use Rattle.texts.specs.NestTexts.{readNest}
+use Rattle.texts.specs.PlacementTexts.{readPlacement}
+use Rattle.texts.proofs.Accepted.{accepted-valid}
+use Rattle.texts.proofs.PlacedTexts.{read-gaps}
+use Rattle.keys.specs.KeyOf.{keyOf}
+use Rattle.keys.proofs.KeyIsKey.{key-is-key}
+
+module _ (n : Nest) (valid : isValid n ≡ true) (gs : List ℕ) (gaps : areGaps n gs ≡ true) where
+  -- 01, "The desk": "It gives Uncut …; else Dearer …; else Best": Best is said of the keys, and of nothing else
+  pub best-iff-key : (markOf n (keyOf n) gs ≡ Best) ↔ IsKey n gs
+  best-iff-key = Verdicts.best-iff-key n (valid-is n valid .shape) (keyOf n) gs (key-is-key n valid) gaps
+
+  -- 01, "The desk": "else Dearer with a record of loop, their count, our count": theirs is the greater
+  pub dearer-greater
+      : (loop theirs ours : ℕ)
+      → markOf n (keyOf n) gs ≡ Dearer loop theirs ours
+      → IsDearer n (keyOf n) gs loop theirs ours
+  dearer-greater = Verdicts.dearer-greater n (valid-is n valid .shape) (keyOf n) gs (key-is-key n valid) gaps
+
+-- keys have equal counts, so the first loop that differs and its counts are the same beside each
+module _ (n : Nest) (shape : isShape (n .points) ≡ true) (j k gs : List ℕ) (same : SameCounts n j k) where
+  differ-same
+      : (ds : List ℕ)
+      → ((d : ℕ) → isIn d ds ≡ true → isDo (n .points) d ≡ true)
+      → differFrom n j gs ds ≡ differFrom n k gs ds
+  differ-same [] h = refl
+  differ-same (d ∷ ds) h = rw (same d (h d (in-here d ds)), differ-same ds (λ x m. h x (in-later x d ds m)))
+
+  verdict-same : (u d : ℕ) → differ n j gs ≡ d → verdictBy n j gs u d ≡ verdictBy n k gs u d
+  verdict-same (suc u) d e = refl
+  verdict-same zero zero e = refl
+  verdict-same zero (suc d) e = rw (same d (differ-at n shape j gs d e .loop))
+
+  mark-same : markOf n j gs ≡ markOf n k gs
+  mark-same =
+      verdict-same (uncut n gs) (differ n j gs) refl ∙
+      ap (verdictBy n k gs (uncut n gs)) (differ-same (loopsOf n) (listed-loop n shape))
+
+-- 01, "What the contracts must say", a: which key it is decides no verdict
+pub mark-determined
+    : (n : Nest) (key gs : List ℕ)
+    → isValid n ≡ true
+    → IsKey n key
+    → markOf n key gs ≡ markOf n (keyOf n) gs
+mark-determined n key gs valid k =
+    let shape = valid-is n valid .shape in
+    mark-same n shape key (keyOf n) gs (keys-agree n shape key (keyOf n) k (key-is-key n valid))
+
+-- of an accepted nest text, and of what is read from a placement text
+pub marked-best
+    : (s t : List ℕ)
+    → readNest s .number ≡ 0
+    → let n = readNest s .nest-is in
+    let gs = readPlacement (length (n .points)) t .gaps in
+    (markOf n (keyOf n) gs ≡ Best) ↔ IsKey n gs
+marked-best s t accepted =
+    let n = readNest s .nest-is in
+    let gs = readPlacement (length (n .points)) t .gaps in
+    best-iff-key n (accepted-valid s accepted) gs (read-gaps (length (n .points)) t)
+
+pub marked-dearer
+    : (s t : List ℕ) (loop theirs ours : ℕ)
+    → readNest s .number ≡ 0
+    → let n = readNest s .nest-is in
+    let gs = readPlacement (length (n .points)) t .gaps in
+    markOf n (keyOf n) gs ≡ Dearer loop theirs ours → IsDearer n (keyOf n) gs loop theirs ours
+marked-dearer s t loop theirs ours accepted h =
+    let n = readNest s .nest-is in
+    let gs = readPlacement (length (n .points)) t .gaps in
+    dearer-greater n (accepted-valid s accepted) gs (read-gaps (length (n .points)) t) loop theirs ours h

@@ -1,0 +1,1 @@
+// The key of a nest is a matter of definitions and proofs: no code.

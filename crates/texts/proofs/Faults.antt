@@ -1,0 +1,96 @@
+-- Refusals of points, dependences and frames, from the numbers that the reader keeps.
+-- Main statements: `point-is`, `dependence-is`, `frame-is`, `first-zero`.
+use mathlib.Core.Path.{_≡_, refl, sym, _∙_, ap}
+use mathlib.Core.Bool.{Bool, true, false, _&&_, _||_, not}
+use mathlib.Core.List.{List}
+use Prim.Native.Nat.{ℕ, zero, suc, _≤_, _<_}
+use native.Mathlib.Omega.{arith}
+use lib.Dec.{eqb, leb}
+use lib.ListN.{length, getD}
+use borrow.Author.Tests.{le-leb, lt-leb, eq-eqb, ne-eqb}
+use Rattle.laws.specs.Choice.{pick, when, firstOf}
+use Rattle.nests.specs.Kinds.{DO, POINTS, DEPTH, DEPENDENCES}
+use Rattle.nests.specs.Nests.{Dep, Nest}
+use Rattle.nests.specs.Valid.{depFault}
+use Rattle.texts.specs.NestTexts.{pointFault, dependenceFault}
+use Rattle.texts.specs.Reads.{HasNumbers, closedBy, misplacedBy, tooManyBy}
+
+-- a first refusal that is none
+pub first-zero : (a b : ℕ) → firstOf a b ≡ 0 → (a ≡ 0) × (b ≡ 0)
+first-zero zero b h = (refl, h)
+first-zero (suc a) b h = absurd (omega arith)
+
+pub when-zero : (t : Bool) (n : ℕ) → when t (suc n) ≡ 0 → t ≡ false
+when-zero true n h = absurd (omega arith)
+when-zero false n h = refl
+
+or-off : (b : Bool) → b ≡ (b || false)
+or-off true = refl
+or-off false = refl
+
+-- all points are there
+pub closed-none : (count deep : ℕ) → count ≡ 0 → false ≡ closedBy count deep
+closed-none count deep h = rw h
+
+pub closed-some : (count deep : ℕ) → (count ≡ 0 → ⊥) → eqb deep 0 ≡ closedBy count deep
+closed-some count deep h =
+    let z : 1 ≤ count = omega arith in
+    rw (le-leb 1 count z)
+
+-- a point has no place
+pub misplaced-first : (count deep kind : ℕ) → count ≡ 0 → not (eqb kind DO) ≡ misplacedBy count deep kind
+misplaced-first count deep kind h = rw h
+
+pub misplaced-later : (count deep kind : ℕ) → (count ≡ 0 → ⊥) → eqb deep 0 ≡ misplacedBy count deep kind
+misplaced-later count deep kind h = rw (← closed-some count deep h, ne-eqb count 0 h) (or-off (eqb deep 0))
+
+-- a point is one too many
+pub too-many : (count deep kind : ℕ) → POINTS ≤ count → true ≡ tooManyBy count deep kind
+too-many count deep kind h = rw (le-leb POINTS count h)
+
+pub too-deep : (count deep kind : ℕ) → count < POINTS → kind ≡ DO → leb DEPTH deep ≡ tooManyBy count deep kind
+too-deep count deep kind h e = rw (lt-leb POINTS count h, eq-eqb kind DO e)
+
+pub not-too-many : (count deep kind : ℕ) → count < POINTS → (kind ≡ DO → ⊥) → false ≡ tooManyBy count deep kind
+not-too-many count deep kind h e = rw (lt-leb POINTS count h, ne-eqb kind DO e)
+
+-- the order of a dependence's refusals
+when-open : (g m : Bool) (x : ℕ) → g ≡ false → 4 ≡ firstOf (when (not g) 4) (firstOf (when m 5) x)
+when-open g m x h = rw h
+
+when-full : (g m : Bool) (x : ℕ) → g ≡ true → m ≡ true → 5 ≡ firstOf (when (not g) 4) (firstOf (when m 5) x)
+when-full g m x h e = rw (h, e)
+
+when-room : (g m : Bool) (x : ℕ) → g ≡ true → m ≡ false → x ≡ firstOf (when (not g) 4) (firstOf (when m 5) x)
+when-room g m x h e = rw (h, e)
+
+-- refusals by the numbers
+module _ (n : Nest) (count many deep : ℕ) (h : HasNumbers n count many deep) where
+  pub point-is
+      : (kind : ℕ)
+      → pointFault n kind
+      ≡ firstOf (when (leb 1 many) 3) (firstOf (when (misplacedBy count deep kind) 4) (when (tooManyBy count deep kind) 5))
+  point-is kind = rw (h .count-is, h .many-is, h .depth-is)
+
+  pub dependence-is
+      : (e : Dep)
+      → dependenceFault n e
+      ≡ firstOf (when (not (closedBy count deep)) 4) (firstOf (when (leb DEPENDENCES many) 5) (depFault (n .points) e))
+  dependence-is e = rw (h .count-is, h .many-is, h .depth-is)
+
+  pub dependence-open : (e : Dep) → closedBy count deep ≡ false → 4 ≡ dependenceFault n e
+  dependence-open e z = when-open (closedBy count deep) (leb DEPENDENCES many) (depFault (n .points) e) z ∙ sym (dependence-is e)
+
+  pub dependence-full : (e : Dep) → closedBy count deep ≡ true → DEPENDENCES ≤ many → 5 ≡ dependenceFault n e
+  dependence-full e z m =
+      when-full (closedBy count deep) (leb DEPENDENCES many) (depFault (n .points) e) z (le-leb DEPENDENCES many m)
+      ∙ sym (dependence-is e)
+
+  pub dependence-own
+      : (e : Dep)
+      → closedBy count deep ≡ true
+      → many < DEPENDENCES
+      → depFault (n .points) e ≡ dependenceFault n e
+  dependence-own e z m =
+      when-room (closedBy count deep) (leb DEPENDENCES many) (depFault (n .points) e) z (lt-leb DEPENDENCES many m)
+      ∙ sym (dependence-is e)

@@ -1,0 +1,246 @@
+-- Nest texts read line by line: what a turn of the reader keeps, and one law for each way through a turn.
+-- Main statements: `begun`, `at-end`, `at-refusal`, `at-fault`, `has-room`, `on`.
+use mathlib.Core.Path.{_≡_, refl, sym, _∙_, ap}
+use mathlib.Core.Bool.{Bool, true, false, _&&_, _||_, not}
+use mathlib.Core.List.{List, [], _∷_, _++_}
+use mathlib.Core.Logic.{_⊎_, inl, inr}
+use Prim.Native.Nat.{ℕ, zero, suc, _+_, _-_, _^_, _≤_, _<_}
+use native.Mathlib.Numerals.{add-one}
+use native.Mathlib.Omega.{arith}
+use lib.Dec.{eqb, leb}
+use lib.ListN.{length, getD, take, drop, length-take, length-append}
+use borrow.Author.Tests.{leb-false, eq-eqb, ne-eqb}
+use Rattle.laws.specs.Choice.{pick, when, firstOf}
+use Rattle.laws.proofs.Tests.{or-false, never}
+use Rattle.nests.specs.Kinds.{DO, ENDDO, POINTS, DEPTH, DEPENDENCES}
+use Rattle.nests.specs.Nests.{Dep, Nest, nest, empty}
+use Rattle.nests.specs.Loops.{deeper, depthFrom, depth, isClosed}
+use Rattle.nests.specs.Valid.{depFault}
+use Rattle.nests.specs.Stored.{nestIn, IsCounted, IsEmpty}
+use Rattle.nests.specs.declared.Nest as DN
+use Rattle.lines.specs.declared.Frame.{Frame}
+use Rattle.lines.specs.declared.Read.the-variants as RV
+use Rattle.lines.specs.Lines.{Line, linesOf, isGood, frameOf}
+use Rattle.lines.specs.Reading.{IsFrame, lineAt}
+use Rattle.lines.proofs.Reading.{no-line, bad-line, good-line, Bad-line, Good-line}
+use Rattle.texts.specs.declared.Reading.{Reading}
+use Rattle.texts.specs.NestTexts.{isPoint, kindOf, kindGood, depOf, pointFault, dependenceFault, frameFault, withFrame, lineFault, Got, got, readLines, readNest}
+use Rattle.texts.specs.Reads.{IsRead, RefusedAs, EndedAs, HasNumbers, closedBy, misplacedBy, tooManyBy, FrameFault, HasRoom, FrameAdded}
+use Rattle.texts.proofs.Faults.{first-zero, when-zero}
+use Rattle.texts.proofs.Frames.{is-point}
+
+-- the depth after one point more
+depth-append : (d : ℕ) (ps : List ℕ) (k : ℕ) → depthFrom d (ps ++ (k ∷ [])) ≡ deeper (depthFrom d ps) k
+depth-append d [] k = refl
+depth-append d (p ∷ ps) k = depth-append (deeper d p) ps k
+
+-- the depth is at most the number of points
+deeper-grows : (d p : ℕ) → deeper d p ≤ suc d
+deeper-grows d p = go (eqb p DO) (eqb p ENDDO)
+  where
+    go : (s t : Bool) → pick s (suc d) (pick t (d - 1) d) ≤ suc d
+    go true t = omega arith
+    go false true = omega arith
+    go false false = omega arith
+
+depth-bound : (d : ℕ) (ps : List ℕ) → depthFrom d ps ≤ d + length ps
+depth-bound d [] = omega arith
+depth-bound d (p ∷ ps) = omega (arith, depth-bound (deeper d p) ps, deeper-grows d p)
+
+-- a frame that is no point leaves the depth
+stays-deep : (d k : ℕ) → isPoint k ≡ false → deeper d k ≡ d
+stays-deep d k h =
+    let one : k ≡ DO → ⊥ = λ e. never (sym h ∙ is-point k (omega arith) (omega arith)) in
+    let two : k ≡ ENDDO → ⊥ = λ e. never (sym h ∙ is-point k (omega arith) (omega arith)) in
+    rw (ne-eqb k 1 one, ne-eqb k 2 two)
+
+depth-with : (n : Nest) (l : List ℕ) → depth (withFrame n l .points) ≡ deeper (depth (n .points)) (kindOf l)
+depth-with n l = go (isPoint (kindOf l)) refl
+  where
+    go
+        : (t : Bool)
+        → isPoint (kindOf l) ≡ t
+        → depth (pick t (nest (n .points ++ (kindOf l ∷ [])) (n .deps)) (nest (n .points) (n .deps ++ (depOf l ∷ []))) .points)
+        ≡ deeper (depth (n .points)) (kindOf l)
+    go true e = depth-append 0 (n .points) (kindOf l)
+    go false e = sym (stays-deep (depth (n .points)) (kindOf l) e)
+
+-- a line's refusal
+fault-bad : (n : Nest) (l : Line) → isGood l ≡ false → lineFault n l ≡ 1
+fault-bad n l h = ap (λ (b : Bool). firstOf (when (not b) 1) (frameFault n (frameOf (l .bytes)))) h
+
+fault-good : (n : Nest) (l : Line) → isGood l ≡ true → lineFault n l ≡ frameFault n (frameOf (l .bytes))
+fault-good n l h = ap (λ (b : Bool). firstOf (when (not b) 1) (frameFault n (frameOf (l .bytes)))) h
+
+-- a frame that is not refused has room
+point-room : (n : Nest) (k : ℕ) → pointFault n k ≡ 0 → length (n .points) < POINTS
+point-room n k h =
+    let count = length (n .points) in
+    let early = when (leb 1 (length (n .deps))) 3 in
+    let place = when (misplacedBy count (depth (n .points)) k) 4 in
+    let many = when (tooManyBy count (depth (n .points)) k) 5 in
+    let none : many ≡ 0 = first-zero place many (first-zero early (firstOf place many) h .1) .1 in
+    leb-false
+    POINTS
+    count
+    (or-false (leb POINTS count) (eqb k DO && leb DEPTH (depth (n .points))) (when-zero (tooManyBy count (depth (n .points)) k) 4 none) .0)
+
+dependence-room : (n : Nest) (e : Dep) → dependenceFault n e ≡ 0 → length (n .deps) < DEPENDENCES
+dependence-room n e h =
+    let open-is = when (not (isClosed (n .points))) 4 in
+    let many = when (leb DEPENDENCES (length (n .deps))) 5 in
+    let none : many ≡ 0 =
+    first-zero many (depFault (n .points) e) (first-zero open-is (firstOf many (depFault (n .points) e)) h .1) .0 in
+    leb-false DEPENDENCES (length (n .deps)) (when-zero (leb DEPENDENCES (length (n .deps))) 4 none)
+
+module _ (n : Nest) (l : List ℕ) (none : frameFault n l ≡ 0) where
+  abbrev rest-fault : Bool → ℕ
+  rest-fault b = pick b (pointFault n (kindOf l)) (dependenceFault n (depOf l))
+
+  no-rest : rest-fault (isPoint (kindOf l)) ≡ 0
+  no-rest = first-zero (when (not (kindGood l)) 2) (rest-fault (isPoint (kindOf l))) none .1
+
+  room-point : isPoint (kindOf l) ≡ true → length (n .points) < POINTS
+  room-point t = point-room n (kindOf l) (ap rest-fault (sym t) ∙ no-rest)
+
+  room-dependence : isPoint (kindOf l) ≡ false → length (n .deps) < DEPENDENCES
+  room-dependence t = dependence-room n (depOf l) (ap rest-fault (sym t) ∙ no-rest)
+
+-- the rest of the reading, by the first line
+read-none : (k : ℕ) (n : Nest) → readLines k n [] ≡ pick (isClosed (n .points)) (got 0 0 n) (got 4 k empty)
+unfolding readLines
+read-none k n = refl
+
+module _ (k : ℕ) (n : Nest) (l : Line) (ls : List Line) where
+  read-by : (e : ℕ) → lineFault n l ≡ e → readLines k n (l ∷ ls) ≡ pick (eqb e 0) (readLines (suc k) (withFrame n (frameOf (l .bytes))) ls) (got e k empty)
+  unfolding readLines
+  read-by e h = ap (λ (x : ℕ). pick (eqb x 0) (readLines (suc k) (withFrame n (frameOf (l .bytes))) ls) (got x k empty)) h
+
+  read-stop : (e : ℕ) → lineFault n l ≡ e → (e ≡ 0 → ⊥) → readLines k n (l ∷ ls) ≡ got e k empty
+  read-stop e h z = read-by e h ∙ rw (ne-eqb e 0 z)
+
+  read-on : lineFault n l ≡ 0 → readLines k n (l ∷ ls) ≡ readLines (suc k) (withFrame n (frameOf (l .bytes))) ls
+  read-on h = read-by 0 h
+
+-- what a turn keeps: the nest so far, its depth, and that the rest of the lines decides as the whole text does
+pub record Loading (s : List ℕ) (n : DN.Nest) (deep at line : ℕ) : Type 0 where
+  pub counted : IsCounted n
+  pub deep-is : deep ≡ depth (nestIn n .points)
+  pub inside : at ≤ length s
+  pub lines : line ≤ at + 1
+  pub rest : readLines line (nestIn n) (linesOf (drop at s)) ≡ readNest s
+
+pub begun : (s : List ℕ) (n : DN.Nest) → IsEmpty n → Loading s n 0 0 1
+unfolding readNest
+begun s n e =
+    record {
+      counted = e .counted;
+      deep-is = ap (λ (x : Nest). depth (x .points)) (sym (e .nest-is));
+      inside = omega arith;
+      lines = omega arith;
+      rest = ap (λ (x : Nest). readLines 1 x (linesOf s)) (e .nest-is);
+    }
+
+module _ (s : List ℕ) (n : DN.Nest) (deep at line : ℕ) (p : Loading s n deep at line) where
+  abbrev ps : List ℕ
+  ps = take (n .count) (n .points)
+
+  numbers : HasNumbers (nestIn n) (length ps) (n .many) deep
+  numbers = record { count-is = refl; many-is = sym (p .counted .many-is); depth-is = sym (p .deep-is) }
+
+  -- the points that are counted are there
+  pub count-inside : n .count ≤ length (n .points)
+  count-inside = omega (arith, p .counted .count-is, length-take (n .count) (n .points))
+
+  pub deep-fits : deep + 1 < 2 ^ 64
+  deep-fits = omega (arith, p .deep-is, depth-bound 0 ps, p .counted .count-is, p .counted .count-fits)
+
+  pub at-end : (r : Reading) → lineAt s at ≡ RV.End → EndedAs n deep line r → IsRead s r
+  at-end r h e =
+      let closed : closedBy (n .count) deep ≡ isClosed ps =
+      ap (λ (x : ℕ). closedBy x deep) (p .counted .count-is) ∙ ap (closedBy (length ps)) (p .deep-is) in
+      record {
+        got-is =
+            e .got-is
+            ∙ ap (λ (b : Bool). pick b (got 0 0 (nestIn n)) (got 4 line empty)) closed
+            ∙ sym (read-none line (nestIn n))
+            ∙ ap (readLines line (nestIn n)) (sym (no-line s at h))
+            ∙ p .rest;
+        counted = e .counted;
+      }
+
+  pub at-refusal : (k : ℕ) (r : Reading) → lineAt s at ≡ RV.Refused k → RefusedAs k line r → IsRead s r
+  at-refusal k r h e =
+      let b = bad-line s at k h in
+      record {
+        got-is =
+            e .got-is
+            ∙ ap (λ (x : ℕ). got x line empty) (b .number)
+            ∙ sym (read-stop line (nestIn n) (b .first) (b .rest) 1 (fault-bad (nestIn n) (b .first) (b .bad)) (omega arith))
+            ∙ ap (readLines line (nestIn n)) (sym (b .lines))
+            ∙ p .rest;
+        counted = e .counted;
+      }
+
+  -- the frame of a good line
+  module _ (f : Frame) (h : lineAt s at ≡ RV.Frame f) (e : ℕ) (fault : FrameFault ps (n .many) deep f e) where
+    good : Good-line s at f
+    good = good-line s at f h
+
+    spelled : List ℕ
+    spelled = frameOf (good .first .bytes)
+
+    fault-is : e ≡ frameFault (nestIn n) spelled
+    unfolding spelled
+    fault-is = fault (nestIn n) spelled refl numbers (good .frame-is)
+
+    line-fault : lineFault (nestIn n) (good .first) ≡ e
+    unfolding spelled
+    line-fault = fault-good (nestIn n) (good .first) (good .good) ∙ sym fault-is
+
+    pub at-fault : (r : Reading) → (e ≡ 0 → ⊥) → RefusedAs e line r → IsRead s r
+    at-fault r z q =
+        record {
+          got-is =
+              q .got-is
+              ∙ sym (read-stop line (nestIn n) (good .first) (linesOf (drop (f .next) s)) e line-fault z)
+              ∙ ap (readLines line (nestIn n)) (sym (good .lines))
+              ∙ p .rest;
+          counted = q .counted;
+        }
+
+    pub has-room : e ≡ 0 → HasRoom n f
+    unfolding spelled
+    has-room z =
+        let none : frameFault (nestIn n) spelled ≡ 0 = sym fault-is ∙ z in
+        let kind : isPoint (f .kind) ≡ isPoint (kindOf spelled) = ap isPoint (good .frame-is .kind-is) in
+        record {
+          counted = p .counted;
+          for-point = λ t. omega (arith, p .counted .count-is, room-point (nestIn n) spelled none (sym kind ∙ t));
+          for-dependence = λ t. omega (arith, p .counted .many-is, room-dependence (nestIn n) spelled none (sym kind ∙ t));
+        }
+
+    pub next-inside : (at < f .next) × (f .next ≤ length s)
+    next-inside = omega (arith, good .on, good .inside)
+
+    pub on : (m : DN.Nest) (d : ℕ) → e ≡ 0 → FrameAdded n f m → d ≡ deeper deep (f .kind) → Loading s m d (f .next) (line + 1)
+    unfolding spelled
+    on m d z q w =
+        let added : nestIn m ≡ withFrame (nestIn n) spelled = q .nest-is spelled (good .frame-is) in
+        record {
+          counted = q .counted;
+          deep-is =
+              w
+              ∙ ap (λ (x : ℕ). deeper x (f .kind)) (p .deep-is)
+              ∙ ap (deeper (depth (nestIn n .points))) (good .frame-is .kind-is)
+              ∙ sym (depth-with (nestIn n) spelled)
+              ∙ ap (λ (x : Nest). depth (x .points)) (sym added);
+          inside = good .inside;
+          lines = omega (arith, p .lines, good .on);
+          rest =
+              ap (λ (x : ℕ). readLines x (nestIn m) (linesOf (drop (f .next) s))) (add-one line)
+              ∙ ap (λ (x : Nest). readLines (suc line) x (linesOf (drop (f .next) s))) added
+              ∙ sym (read-on line (nestIn n) (good .first) (linesOf (drop (f .next) s)) (line-fault ∙ z))
+              ∙ ap (readLines line (nestIn n)) (sym (good .lines))
+              ∙ p .rest;
+        }

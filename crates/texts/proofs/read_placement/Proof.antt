@@ -1,0 +1,182 @@
+use borrow.Author.Needs.{needs}
+-- Each turn reads one line: it keeps the gaps so far, or is the text's refusal, or its end.
+use mathlib.Core.Path.{sym, _∙_}
+use Prim.Native.Nat.{_-_}
+use native.Mathlib.Omega.{arith}
+use lib.ListN.{length}
+use Rattle.texts.proofs.Placing.{Placing, placing, placed-all, placed-bad, placed-fault, next-inside, place-on}
+use Rattle.texts.proofs.read_placement.Statement.{statement}
+use Rattle.texts.proofs.read_placement.Tie as tie
+use Rattle.texts.proofs.read_placement.Reads as reads
+use Rattle.texts.proofs.read_placement.Lts as lts
+use Rattle.lines.proofs.read_line.Reads as read-line-reads
+use Rattle.placements.proofs.Placement.empty.Reads as empty-reads
+use Rattle.placements.proofs.Placement.put.Reads as put-reads
+use Rattle.texts.proofs.barrier_fault.Reads as barrier-fault-reads
+use Rattle.texts.proofs.unplaced.Reads as unplaced-reads
+
+abbrev Inv-loop : tie.InvT-loop
+Inv-loop points text placement₀ last₀ at₀ line₀ placement last at line =
+    Placing points text (placement .words) last at line
+
+abbrev μ-loop : tie.MeasureT-loop
+μ-loop points text placement₀ last₀ at₀ line₀ placement last at line = length text - at
+
+empty-requires : tie.Need-empty-requires Inv-loop μ-loop
+empty-requires c κs = tt
+
+loop-holds : tie.Need-loop-holds Inv-loop μ-loop
+loop-holds c = placing (c .before .before .args .points) (c .before .before .args .text .now) (c .empty .result .words) (c .empty .ensures)
+
+read-line-requires : tie.Need-read-line-requires Inv-loop μ-loop
+read-line-requires c κs = tt
+
+enum-told : tie.Need-enum-told Inv-loop μ-loop
+enum-told c = c .match .keys1
+
+returns : tie.Need-returns Inv-loop μ-loop
+returns c =
+    let s = c .before .before .before .before .before .before in
+    let l = c .before .before .before .loop in
+    record {
+      placed-is =
+          placed-all
+          (s .args .points)
+          (s .args .text .now)
+          (l .placement .words)
+          (l .last)
+          (l .at)
+          (l .line)
+          (l .inv)
+          (sym (c .before .before .read-line .ensures) ∙ c .enum-told .given .1);
+    }
+
+enum-known-next : tie.Need-enum-known-next Inv-loop μ-loop
+enum-known-next c = c .match .keys2
+
+unplaced-requires : tie.Need-unplaced-requires Inv-loop μ-loop
+unplaced-requires c κs = tt
+
+returns-2 : tie.Need-returns-2 Inv-loop μ-loop
+returns-2 c =
+    let s = c .before .before .before .before .before .before .before .before in
+    let l = c .before .before .before .before .before .loop in
+    let k = c .before .before .next in
+    placed-bad
+    (s .args .points)
+    (s .args .text .now)
+    (l .placement .words)
+    (l .last)
+    (l .at)
+    (l .line)
+    (l .inv)
+    (k .given .0 .0)
+    (c .unplaced .result)
+    (sym (c .before .before .before .before .read-line .ensures) ∙ k .given .1)
+    (c .unplaced .ensures)
+
+enum-known-next-2 : tie.Need-enum-known-next-2 Inv-loop μ-loop
+enum-known-next-2 c = c .match .keys3
+
+barrier-fault-requires : tie.Need-barrier-fault-requires Inv-loop μ-loop
+barrier-fault-requires c κs = tt
+
+unplaced-requires-2 : tie.Need-unplaced-requires-2 Inv-loop μ-loop
+unplaced-requires-2 c κs = tt
+
+returns-3 : tie.Need-returns-3 Inv-loop μ-loop
+returns-3 c =
+    let s = c .before .before .before .before .before .before .before .before .before .before in
+    let l = c .before .before .before .before .before .before .before .loop in
+    let f = c .before .before .before .before .next2 in
+    placed-fault
+    (s .args .points)
+    (s .args .text .now)
+    (l .placement .words)
+    (l .last)
+    (l .at)
+    (l .line)
+    (l .inv)
+    (f .given .0 .0)
+    (sym (c .before .before .before .before .before .before .read-line .ensures) ∙ f .given .1)
+    (c .before .before .barrier-fault .result)
+    (c .before .before .barrier-fault .ensures)
+    (c .unplaced2 .result)
+    (c .before .if1 .taken)
+    (c .unplaced2 .ensures)
+
+cast-last : tie.Need-cast-last Inv-loop μ-loop
+cast-last c = search needs
+
+put-requires : tie.Need-put-requires Inv-loop μ-loop
+put-requires c κs = omega arith
+
+add-line : tie.Need-add-line Inv-loop μ-loop
+add-line c =
+    let l = c .before .before .before .before .before .before .before .before .loop in
+    omega (arith, l .inv .inside, l .inv .lines, c .before .before .before .before .before .before .before .before .before .before .before .good)
+
+loop-less : tie.Need-loop-less Inv-loop μ-loop
+loop-less c =
+    let s = c .before .before .before .before .before .before .before .before .before .before .before in
+    let l = c .before .before .before .before .before .before .before .before .loop in
+    let f = c .before .before .before .before .before .next2 in
+    let n = next-inside
+    (s .args .points)
+    (s .args .text .now)
+    (l .placement .words)
+    (l .last)
+    (l .at)
+    (l .line)
+    (l .inv)
+    (f .given .0 .0)
+    (sym (c .before .before .before .before .before .before .before .read-line .ensures) ∙ f .given .1)
+    (c .before .before .before .barrier-fault .result)
+    (c .before .before .before .barrier-fault .ensures) in
+    omega (arith, n .0, n .1)
+
+loop-again : tie.Need-loop-again Inv-loop μ-loop
+loop-again c =
+    let s = c .before .before .before .before .before .before .before .before .before .before .before in
+    let l = c .before .before .before .before .before .before .before .before .loop in
+    let f = c .before .before .before .before .before .next2 in
+    place-on
+    (s .args .points)
+    (s .args .text .now)
+    (l .placement .words)
+    (l .last)
+    (l .at)
+    (l .line)
+    (l .inv)
+    (f .given .0 .0)
+    (sym (c .before .before .before .before .before .before .before .read-line .ensures) ∙ f .given .1)
+    (c .before .before .before .barrier-fault .result)
+    (c .before .before .before .barrier-fault .ensures)
+    (c .put .result .words)
+    (c .before .before .if1 .left)
+    (omega arith)
+    (c .put .ensures)
+
+pub read-placement-spec : {M : Type 1} → statement M
+read-placement-spec =
+    tie.close
+    (tie.spec
+    Inv-loop
+    μ-loop
+    empty-requires
+    loop-holds
+    read-line-requires
+    enum-told
+    returns
+    enum-known-next
+    unplaced-requires
+    returns-2
+    enum-known-next-2
+    barrier-fault-requires
+    unplaced-requires-2
+    returns-3
+    cast-last
+    put-requires
+    add-line
+    loop-less
+    loop-again)

@@ -1,0 +1,22 @@
+-- A refused text gives the empty nest.
+use mathlib.Core.Path.{ap}
+use Rattle.texts.specs.NestTexts.{got}
+use borrow.Author.Needs.{needs}
+use Rattle.texts.proofs.refused.Statement.{statement}
+use Rattle.texts.proofs.refused.Tie as tie
+use Rattle.texts.proofs.refused.Reads as reads
+use Rattle.texts.proofs.refused.Lts as lts
+use Rattle.nests.proofs.Nest.empty.Reads as empty-reads
+
+empty-requires : tie.Need-empty-requires
+empty-requires c κs = search needs
+
+returns : tie.Need-returns
+returns c =
+    record {
+      got-is = ap (got (c .before .args .number) (c .before .args .line)) (c .empty .ensures .nest-is);
+      counted = c .empty .ensures .counted;
+    }
+
+pub refused-spec : {M : Type 1} → statement M
+refused-spec = tie.close (tie.spec empty-requires returns)

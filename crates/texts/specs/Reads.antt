@@ -1,0 +1,92 @@
+-- What the readers of whole texts promise, and what their steps promise of the nest so far.
+-- Main definitions: `IsRead`, `IsPlaced`, `HasNumbers`, `PointFault`, `DependenceFault`, `FrameFault`, `FrameAdded`.
+use mathlib.Core.Path.{_≡_}
+use mathlib.Core.Bool.{Bool, true, false, _&&_, _||_, not}
+use mathlib.Core.List.{List, []}
+use Prim.Native.Nat.{ℕ, _≤_, _<_}
+use lib.Dec.{eqb, leb}
+use lib.ListN.{length, take}
+use Rattle.nests.specs.Kinds.{DO, POINTS, DEPTH, DEPENDENCES}
+use Rattle.laws.specs.Choice.{pick}
+use Rattle.nests.specs.Nests.{Nest, empty}
+use Rattle.nests.specs.Loops.{depth}
+use Rattle.nests.specs.Stored.{depIn, nestIn, IsCounted}
+use Rattle.nests.specs.declared.Dependence.{Dependence}
+use Rattle.nests.specs.declared.Nest as DN
+use Rattle.lines.specs.declared.Frame.{Frame}
+use Rattle.lines.specs.Reading.{IsFrame}
+use Rattle.placements.specs.Words.{gapsIn}
+use Rattle.texts.specs.declared.Reading.{Reading}
+use Rattle.texts.specs.declared.PlacementReading.{PlacementReading}
+use Rattle.texts.specs.NestTexts.{isPoint, depOf, pointFault, dependenceFault, frameFault, withFrame, got, readNest}
+use Rattle.texts.specs.PlacementTexts.{barrierFault, placed, readPlacement}
+
+-- the reading of a nest text: its number and line, and the nest, which is empty where the text is refused
+pub record IsRead (s : List ℕ) (r : Reading) : Type 0 where
+  pub got-is : got (r .number) (r .line) (nestIn (r .nest)) ≡ readNest s
+  pub counted : IsCounted (r .nest)
+
+-- 4: all points are there; a point has no place; 5: a point is one too many
+abbrev pub closedBy : ℕ → ℕ → Bool
+closedBy count deep = leb 1 count && eqb deep 0
+
+abbrev pub misplacedBy : ℕ → ℕ → ℕ → Bool
+misplacedBy count deep kind = closedBy count deep || (eqb count 0 && not (eqb kind DO))
+
+abbrev pub tooManyBy : ℕ → ℕ → ℕ → Bool
+tooManyBy count deep kind = leb POINTS count || (eqb kind DO && leb DEPTH deep)
+
+-- the reading of a refused text, and the reading at the end of a text
+pub record RefusedAs (number line : ℕ) (r : Reading) : Type 0 where
+  pub got-is : got (r .number) (r .line) (nestIn (r .nest)) ≡ got number line empty
+  pub counted : IsCounted (r .nest)
+
+pub record EndedAs (n : DN.Nest) (deep line : ℕ) (r : Reading) : Type 0 where
+  pub got-is
+      : got (r .number) (r .line) (nestIn (r .nest)) ≡ pick (closedBy (n .count) deep) (got 0 0 (nestIn n)) (got 4 line empty)
+  pub counted : IsCounted (r .nest)
+
+-- the numbers that the reader keeps of the nest so far: points, dependences, depth
+pub record HasNumbers (n : Nest) (count many deep : ℕ) : Type 0 where
+  pub count-is : length (n .points) ≡ count
+  pub many-is : length (n .deps) ≡ many
+  pub depth-is : depth (n .points) ≡ deep
+
+-- r is the refusal of a point, a dependence, a frame, in each nest with these numbers
+abbrev pub PointFault : ℕ → ℕ → ℕ → ℕ → ℕ → Type 0
+PointFault count many deep kind r = (n : Nest) → HasNumbers n count many deep → r ≡ pointFault n kind
+
+abbrev pub DependenceFault : List ℕ → ℕ → ℕ → Dependence → ℕ → Type 0
+DependenceFault ps many deep e r =
+    (n : Nest) → n .points ≡ ps → HasNumbers n (length ps) many deep → r ≡ dependenceFault n (depIn e)
+
+abbrev pub FrameFault : List ℕ → ℕ → ℕ → Frame → ℕ → Type 0
+FrameFault ps many deep f r =
+    (n : Nest) (l : List ℕ) → n .points ≡ ps → HasNumbers n (length ps) many deep → IsFrame f l → r ≡ frameFault n l
+
+-- the dependence that a frame spells
+abbrev pub IsDependence : Frame → Dependence → Type 0
+IsDependence f e = (l : List ℕ) → IsFrame f l → depIn e ≡ depOf l
+
+-- there is room for the point or the dependence of a frame
+pub record HasRoom (n : DN.Nest) (f : Frame) : Type 0 where
+  pub counted : IsCounted n
+  pub for-point : isPoint (f .kind) ≡ true → n .count < POINTS
+  pub for-dependence : isPoint (f .kind) ≡ false → n .many < DEPENDENCES
+
+-- r is n with one frame more
+pub record FrameAdded (n : DN.Nest) (f : Frame) (r : DN.Nest) : Type 0 where
+  pub nest-is : (l : List ℕ) → IsFrame f l → nestIn r ≡ withFrame (nestIn n) l
+  pub counted : IsCounted r
+
+-- the reading of a placement text: its number and line, and the gaps, of which there is none where the text is refused
+pub record IsPlaced (n : ℕ) (s : List ℕ) (r : PlacementReading) : Type 0 where
+  pub placed-is : placed (r .number) (r .line) (gapsIn (r .placement .words)) ≡ readPlacement n s
+
+-- the reading of a refused placement text
+pub record UnplacedAs (number line : ℕ) (r : PlacementReading) : Type 0 where
+  pub placed-is : placed (r .number) (r .line) (gapsIn (r .placement .words)) ≡ placed number line []
+
+-- r is the refusal of a barrier after the gap `last`, of a nest with n points
+abbrev pub BarrierFault : ℕ → ℕ → Frame → ℕ → Type 0
+BarrierFault last n f r = (l : List ℕ) → IsFrame f l → r ≡ barrierFault last n l
