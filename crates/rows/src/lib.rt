@@ -55,7 +55,7 @@ pub fn make_row(
 }
 
 // The entries from d + 1 to e of the row that starts at base.
-fn copy_row(from: &[usize], base: usize, d: usize, e: usize, xs: &mut [usize])
+pub fn copy_row(from: &[usize], base: usize, d: usize, e: usize, xs: &mut [usize])
     requires { ⌜ base + e < length (now from) ⌝ }
     requires { ⌜ e < length (now xs) ⌝ }
     requires { ⌜ d < e ⌝ }
@@ -216,7 +216,8 @@ pub fn value(
     }
 }
 
-fn smaller(a: usize, b: usize) -> usize
+// The smaller of two numbers.
+pub fn smaller(a: usize, b: usize) -> usize
     ensures { λ r. ⌜ r ≡ min a b ⌝ }
 {
     if b < a { b } else { a }
