@@ -1,3 +1,14 @@
+use mathlib.Core.Path.{_≡_, refl, sym, _∙_}
+use mathlib.Core.Bool.{true}
+use Prim.Native.Nat.{_+_, _-_, _*_, _≤_, min}
+use native.Mathlib.Omega.{arith}
+use lib.ListN.{length, getD, set, length-set}
+use borrow.Author.Needs.{needs}
+use Rattle.sweeps.specs.Listed.{at, row}
+use Rattle.laying.proofs.Sizes.{Sizes, sizes, picked}
+use Rattle.laying.proofs.Turns as turns
+use Rattle.laying.proofs.Turns.{Laying}
+use Rattle.laying.proofs.Whole.{blank, done}
 use Prim.Native.Nat.{ℕ, _<_}
 use borrow.Fn.Kinds.{In}
 use borrow.Fn.PlainCycle.{Measures, is, falls, and}
@@ -13,7 +24,7 @@ use Rattle.laying.proofs.+lay.{statement}
 use Rattle.laying.proofs.+lay.Tie.{close}
 
 abbrev μ-lay : Measures 7 lay-kinds.ps ℕ
-μ-lay κs a = ?
+μ-lay κs a = a .1 .1 .1 .1 .1 .1 .1 .1 .1 .0
 
 abbrev lay-at : ℕ → In 7 lay-kinds.ps
 lay-at t = and 7 lay-kinds.ps (is 7 lay-kinds.ps μ-lay t) lay.Pre
@@ -22,12 +33,12 @@ abbrev lay-below : ℕ → In 7 lay-kinds.ps
 lay-below t = and 7 lay-kinds.ps (falls 7 lay-kinds.ps _<_ μ-lay t) lay.Pre
 
 abbrev lay-Inv-loop : lay-lts.InvT-loop
-lay-Inv-loop points own ends reach limit left choice d q h base e last need k₀ c₀ f₀ p₀ k c f p = ?
+lay-Inv-loop points own ends reach limit left choice d q h base e last need k₀ c₀ f₀ p₀ k c f p =
+    Laying points own reach limit left choice need (h * 256 - 256) d e (k₀ .words) (k .words) c f p
 
 abbrev lay-μ-loop : lay-lts.MeasureT-loop
-lay-μ-loop points own ends reach limit left choice d q h base e last need k₀ c₀ f₀ p₀ k c f p = ?
+lay-μ-loop points own ends reach limit left choice d q h base e last need k₀ c₀ f₀ p₀ k c f p = p
 
--- src/lib.rt:37:16
 lay-mul-base : (t : ℕ) → lay-lts.Need-mul-base (
   copy-row-reads.Asked,
   copy-row-reads.Learnt,
@@ -42,9 +53,12 @@ lay-mul-base : (t : ℕ) → lay-lts.Need-mul-base (
   put-reads.Asked,
   put-reads.Learnt,
 ) (lay-at t) lay.Post lay-Inv-loop lay-μ-loop
-lay-mul-base t c = ?
+lay-mul-base t c =
+    let i = c .before .before .before .before .before .before .before .args in
+    let p = c .before .before .before .before .before .before .before .pre .1 in
+    let z = sizes (i .points .now) (i .own .now) (i .ends .now) (i .reach .now) (i .limit .now) (i .left .now) (i .choice .now) (i .d) (i .q) (i .h) p in
+    omega arith
 
--- src/lib.rt:38:13
 lay-add-if1 : (t : ℕ) → lay-lts.Need-add-if1 (
   copy-row-reads.Asked,
   copy-row-reads.Learnt,
@@ -59,9 +73,12 @@ lay-add-if1 : (t : ℕ) → lay-lts.Need-add-if1 (
   put-reads.Asked,
   put-reads.Learnt,
 ) (lay-at t) lay.Post lay-Inv-loop lay-μ-loop
-lay-add-if1 t c = ?
+lay-add-if1 t c =
+    let i = c .before .before .before .before .before .before .before .args in
+    let p = c .before .before .before .before .before .before .before .pre .1 in
+    let z = sizes (i .points .now) (i .own .now) (i .ends .now) (i .reach .now) (i .limit .now) (i .left .now) (i .choice .now) (i .d) (i .q) (i .h) p in
+    omega arith
 
--- src/lib.rt:38:8
 lay-mul-if1 : (t : ℕ) → lay-lts.Need-mul-if1 (
   copy-row-reads.Asked,
   copy-row-reads.Learnt,
@@ -76,9 +93,12 @@ lay-mul-if1 : (t : ℕ) → lay-lts.Need-mul-if1 (
   put-reads.Asked,
   put-reads.Learnt,
 ) (lay-at t) lay.Post lay-Inv-loop lay-μ-loop
-lay-mul-if1 t c = ?
+lay-mul-if1 t c =
+    let i = c .before .before .before .before .before .before .before .args in
+    let p = c .before .before .before .before .before .before .before .pre .1 in
+    let z = sizes (i .points .now) (i .own .now) (i .ends .now) (i .reach .now) (i .limit .now) (i .left .now) (i .choice .now) (i .d) (i .q) (i .h) p in
+    omega arith
 
--- src/lib.rt:38:8
 lay-shared-slice-read-if1 : (t : ℕ) → lay-lts.Need-shared-slice-read-if1 (
   copy-row-reads.Asked,
   copy-row-reads.Learnt,
@@ -93,9 +113,12 @@ lay-shared-slice-read-if1 : (t : ℕ) → lay-lts.Need-shared-slice-read-if1 (
   put-reads.Asked,
   put-reads.Learnt,
 ) (lay-at t) lay.Post lay-Inv-loop lay-μ-loop
-lay-shared-slice-read-if1 t c = ?
+lay-shared-slice-read-if1 t c =
+    let i = c .before .before .before .before .before .before .before .before .args in
+    let p = c .before .before .before .before .before .before .before .before .pre .1 in
+    let z = sizes (i .points .now) (i .own .now) (i .ends .now) (i .reach .now) (i .limit .now) (i .left .now) (i .choice .now) (i .d) (i .q) (i .h) p in
+    omega arith
 
--- src/lib.rt:39:9
 lay-returns : (t : ℕ) → lay-lts.Need-returns (
   copy-row-reads.Asked,
   copy-row-reads.Learnt,
@@ -110,9 +133,11 @@ lay-returns : (t : ℕ) → lay-lts.Need-returns (
   put-reads.Asked,
   put-reads.Learnt,
 ) (lay-at t) lay.Post lay-Inv-loop lay-μ-loop
-lay-returns t c = ?
+lay-returns t c =
+    let i = c .before .before .before .before .before .before .before .before .before .args in
+    let p = c .before .before .before .before .before .before .before .before .before .pre .1 in
+    blank (i .points .now) (i .own .now) (i .ends .now) (i .reach .now) (i .limit .now) (i .left .now) (i .choice .now) (p .0) (i .d) (i .q) (i .h) (p .1 .1 .0) (p .1 .1 .1 .0) (p .1 .1 .1 .1 .0) (p .1 .1 .1 .1 .1 .0) (i .key .words) (c .if1 .taken)
 
--- src/lib.rt:41:13
 lay-mul-e : (t : ℕ) → lay-lts.Need-mul-e (
   copy-row-reads.Asked,
   copy-row-reads.Learnt,
@@ -127,9 +152,12 @@ lay-mul-e : (t : ℕ) → lay-lts.Need-mul-e (
   put-reads.Asked,
   put-reads.Learnt,
 ) (lay-at t) lay.Post lay-Inv-loop lay-μ-loop
-lay-mul-e t c = ?
+lay-mul-e t c =
+    let i = c .before .before .before .before .before .before .before .before .before .args in
+    let p = c .before .before .before .before .before .before .before .before .before .pre .1 in
+    let z = sizes (i .points .now) (i .own .now) (i .ends .now) (i .reach .now) (i .limit .now) (i .left .now) (i .choice .now) (i .d) (i .q) (i .h) p in
+    omega arith
 
--- src/lib.rt:41:13
 lay-shared-slice-read-e : (t : ℕ) → lay-lts.Need-shared-slice-read-e (
   copy-row-reads.Asked,
   copy-row-reads.Learnt,
@@ -144,9 +172,12 @@ lay-shared-slice-read-e : (t : ℕ) → lay-lts.Need-shared-slice-read-e (
   put-reads.Asked,
   put-reads.Learnt,
 ) (lay-at t) lay.Post lay-Inv-loop lay-μ-loop
-lay-shared-slice-read-e t c = ?
+lay-shared-slice-read-e t c =
+    let i = c .before .before .before .before .before .before .before .before .before .before .args in
+    let p = c .before .before .before .before .before .before .before .before .before .before .pre .1 in
+    let z = sizes (i .points .now) (i .own .now) (i .ends .now) (i .reach .now) (i .limit .now) (i .left .now) (i .choice .now) (i .d) (i .q) (i .h) p in
+    omega arith
 
--- src/lib.rt:42:23
 lay-add-last : (t : ℕ) → lay-lts.Need-add-last (
   copy-row-reads.Asked,
   copy-row-reads.Learnt,
@@ -161,9 +192,12 @@ lay-add-last : (t : ℕ) → lay-lts.Need-add-last (
   put-reads.Asked,
   put-reads.Learnt,
 ) (lay-at t) lay.Post lay-Inv-loop lay-μ-loop
-lay-add-last t c = ?
+lay-add-last t c =
+    let i = c .before .before .before .before .before .before .before .before .before .before .args in
+    let p = c .before .before .before .before .before .before .before .before .before .before .pre .1 in
+    let z = sizes (i .points .now) (i .own .now) (i .ends .now) (i .reach .now) (i .limit .now) (i .left .now) (i .choice .now) (i .d) (i .q) (i .h) p in
+    omega arith
 
--- src/lib.rt:42:16
 lay-mul-last : (t : ℕ) → lay-lts.Need-mul-last (
   copy-row-reads.Asked,
   copy-row-reads.Learnt,
@@ -178,9 +212,12 @@ lay-mul-last : (t : ℕ) → lay-lts.Need-mul-last (
   put-reads.Asked,
   put-reads.Learnt,
 ) (lay-at t) lay.Post lay-Inv-loop lay-μ-loop
-lay-mul-last t c = ?
+lay-mul-last t c =
+    let i = c .before .before .before .before .before .before .before .before .before .before .args in
+    let p = c .before .before .before .before .before .before .before .before .before .before .pre .1 in
+    let z = sizes (i .points .now) (i .own .now) (i .ends .now) (i .reach .now) (i .limit .now) (i .left .now) (i .choice .now) (i .d) (i .q) (i .h) p in
+    omega arith
 
--- src/lib.rt:42:16
 lay-shared-slice-read-last : (t : ℕ) → lay-lts.Need-shared-slice-read-last (
   copy-row-reads.Asked,
   copy-row-reads.Learnt,
@@ -195,9 +232,12 @@ lay-shared-slice-read-last : (t : ℕ) → lay-lts.Need-shared-slice-read-last (
   put-reads.Asked,
   put-reads.Learnt,
 ) (lay-at t) lay.Post lay-Inv-loop lay-μ-loop
-lay-shared-slice-read-last t c = ?
+lay-shared-slice-read-last t c =
+    let i = c .before .before .before .before .before .before .before .before .before .before .before .args in
+    let p = c .before .before .before .before .before .before .before .before .before .before .before .pre .1 in
+    let z = sizes (i .points .now) (i .own .now) (i .ends .now) (i .reach .now) (i .limit .now) (i .left .now) (i .choice .now) (i .d) (i .q) (i .h) p in
+    omega arith
 
--- src/lib.rt:44:39
 lay-slice-aggregate-copy-row : (t : ℕ) → lay-lts.Need-slice-aggregate-copy-row (
   copy-row-reads.Asked,
   copy-row-reads.Learnt,
@@ -212,9 +252,8 @@ lay-slice-aggregate-copy-row : (t : ℕ) → lay-lts.Need-slice-aggregate-copy-r
   put-reads.Asked,
   put-reads.Learnt,
 ) (lay-at t) lay.Post lay-Inv-loop lay-μ-loop
-lay-slice-aggregate-copy-row t c = ?
+lay-slice-aggregate-copy-row t c = refl
 
--- src/lib.rt:44:5
 lay-copy-row-requires : (t : ℕ) → lay-lts.Need-copy-row-requires (
   copy-row-reads.Asked,
   copy-row-reads.Learnt,
@@ -229,9 +268,12 @@ lay-copy-row-requires : (t : ℕ) → lay-lts.Need-copy-row-requires (
   put-reads.Asked,
   put-reads.Learnt,
 ) (lay-at t) lay.Post lay-Inv-loop lay-μ-loop
-lay-copy-row-requires t c κs = ?
+lay-copy-row-requires t c κs =
+    let i = c .before .before .before .before .before .before .before .before .before .before .before .before .args in
+    let p = c .before .before .before .before .before .before .before .before .before .before .before .before .pre .1 in
+    let z = sizes (i .points .now) (i .own .now) (i .ends .now) (i .reach .now) (i .limit .now) (i .left .now) (i .choice .now) (i .d) (i .q) (i .h) p in
+    (omega arith, (omega arith, z .long))
 
--- src/lib.rt:45:32
 lay-mul-smaller : (t : ℕ) → lay-lts.Need-mul-smaller (
   copy-row-reads.Asked,
   copy-row-reads.Learnt,
@@ -246,9 +288,13 @@ lay-mul-smaller : (t : ℕ) → lay-lts.Need-mul-smaller (
   put-reads.Asked,
   put-reads.Learnt,
 ) (lay-at t) lay.Post lay-Inv-loop lay-μ-loop
-lay-mul-smaller t c = ?
+lay-mul-smaller t c =
+    let i = c .before .before .before .before .before .before .before .before .before .before .before .before .before .before .args in
+    let p = c .before .before .before .before .before .before .before .before .before .before .before .before .before .before .pre .1 in
+    let z = sizes (i .points .now) (i .own .now) (i .ends .now) (i .reach .now) (i .limit .now) (i .left .now) (i .choice .now) (i .d) (i .q) (i .h) p in
+    let x = picked (i .points .now) (i .own .now) (i .ends .now) (i .reach .now) (i .limit .now) (i .left .now) (i .choice .now) (i .d) (i .q) (i .h) p (c .before .before .before .before .before .if1 .left) in
+    omega arith
 
--- src/lib.rt:45:32
 lay-array-read-smaller : (t : ℕ) → lay-lts.Need-array-read-smaller (
   copy-row-reads.Asked,
   copy-row-reads.Learnt,
@@ -263,9 +309,13 @@ lay-array-read-smaller : (t : ℕ) → lay-lts.Need-array-read-smaller (
   put-reads.Asked,
   put-reads.Learnt,
 ) (lay-at t) lay.Post lay-Inv-loop lay-μ-loop
-lay-array-read-smaller t c = ?
+lay-array-read-smaller t c =
+    let i = c .before .before .before .before .before .before .before .before .before .before .before .before .before .before .args in
+    let p = c .before .before .before .before .before .before .before .before .before .before .before .before .before .before .pre .1 in
+    let z = sizes (i .points .now) (i .own .now) (i .ends .now) (i .reach .now) (i .limit .now) (i .left .now) (i .choice .now) (i .d) (i .q) (i .h) p in
+    let x = picked (i .points .now) (i .own .now) (i .ends .now) (i .reach .now) (i .limit .now) (i .left .now) (i .choice .now) (i .d) (i .q) (i .h) p (c .before .before .before .before .before .if1 .left) in
+    omega arith
 
--- src/lib.rt:45:18
 lay-smaller-requires : (t : ℕ) → lay-lts.Need-smaller-requires (
   copy-row-reads.Asked,
   copy-row-reads.Learnt,
@@ -280,9 +330,8 @@ lay-smaller-requires : (t : ℕ) → lay-lts.Need-smaller-requires (
   put-reads.Asked,
   put-reads.Learnt,
 ) (lay-at t) lay.Post lay-Inv-loop lay-μ-loop
-lay-smaller-requires t c κs = ?
+lay-smaller-requires t c κs = search needs
 
--- src/lib.rt:45:5
 lay-mul-need : (t : ℕ) → lay-lts.Need-mul-need (
   copy-row-reads.Asked,
   copy-row-reads.Learnt,
@@ -297,9 +346,13 @@ lay-mul-need : (t : ℕ) → lay-lts.Need-mul-need (
   put-reads.Asked,
   put-reads.Learnt,
 ) (lay-at t) lay.Post lay-Inv-loop lay-μ-loop
-lay-mul-need t c = ?
+lay-mul-need t c =
+    let i = c .before .before .before .before .before .before .before .before .before .before .before .before .before .before .before .args in
+    let p = c .before .before .before .before .before .before .before .before .before .before .before .before .before .before .before .pre .1 in
+    let z = sizes (i .points .now) (i .own .now) (i .ends .now) (i .reach .now) (i .limit .now) (i .left .now) (i .choice .now) (i .d) (i .q) (i .h) p in
+    let x = picked (i .points .now) (i .own .now) (i .ends .now) (i .reach .now) (i .limit .now) (i .left .now) (i .choice .now) (i .d) (i .q) (i .h) p (c .before .before .before .before .before .before .if1 .left) in
+    omega arith
 
--- src/lib.rt:45:5
 lay-array-write-need : (t : ℕ) → lay-lts.Need-array-write-need (
   copy-row-reads.Asked,
   copy-row-reads.Learnt,
@@ -314,9 +367,13 @@ lay-array-write-need : (t : ℕ) → lay-lts.Need-array-write-need (
   put-reads.Asked,
   put-reads.Learnt,
 ) (lay-at t) lay.Post lay-Inv-loop lay-μ-loop
-lay-array-write-need t c = ?
+lay-array-write-need t c =
+    let i = c .before .before .before .before .before .before .before .before .before .before .before .before .before .before .before .args in
+    let p = c .before .before .before .before .before .before .before .before .before .before .before .before .before .before .before .pre .1 in
+    let z = sizes (i .points .now) (i .own .now) (i .ends .now) (i .reach .now) (i .limit .now) (i .left .now) (i .choice .now) (i .d) (i .q) (i .h) p in
+    let x = picked (i .points .now) (i .own .now) (i .ends .now) (i .reach .now) (i .limit .now) (i .left .now) (i .choice .now) (i .d) (i .q) (i .h) p (c .before .before .before .before .before .before .if1 .left) in
+    omega arith
 
--- src/lib.rt:48:17
 lay-add-f : (t : ℕ) → lay-lts.Need-add-f (
   copy-row-reads.Asked,
   copy-row-reads.Learnt,
@@ -331,9 +388,12 @@ lay-add-f : (t : ℕ) → lay-lts.Need-add-f (
   put-reads.Asked,
   put-reads.Learnt,
 ) (lay-at t) lay.Post lay-Inv-loop lay-μ-loop
-lay-add-f t c = ?
+lay-add-f t c =
+    let i = c .before .before .before .before .before .before .before .before .before .before .before .before .before .before .before .args in
+    let p = c .before .before .before .before .before .before .before .before .before .before .before .before .before .before .before .pre .1 in
+    let z = sizes (i .points .now) (i .own .now) (i .ends .now) (i .reach .now) (i .limit .now) (i .left .now) (i .choice .now) (i .d) (i .q) (i .h) p in
+    omega arith
 
--- src/lib.rt:50:5
 lay-loop-holds : (t : ℕ) → lay-lts.Need-loop-holds (
   copy-row-reads.Asked,
   copy-row-reads.Learnt,
@@ -348,9 +408,12 @@ lay-loop-holds : (t : ℕ) → lay-lts.Need-loop-holds (
   put-reads.Asked,
   put-reads.Learnt,
 ) (lay-at t) lay.Post lay-Inv-loop lay-μ-loop
-lay-loop-holds t c = ?
+lay-loop-holds t c =
+    let i = c .before .before .before .before .before .before .before .before .before .before .before .before .before .before .before .args in
+    let p = c .before .before .before .before .before .before .before .before .before .before .before .before .before .before .before .pre .1 in
+    let z = sizes (i .points .now) (i .own .now) (i .ends .now) (i .reach .now) (i .limit .now) (i .left .now) (i .choice .now) (i .d) (i .q) (i .h) p in
+    turns.begin (i .points .now) (i .own .now) (i .ends .now) (i .reach .now) (i .limit .now) (i .left .now) (i .choice .now) (p .0) (i .d) (i .h) (p .1 .1 .0) (p .1 .1 .1 .0) (at (i .ends .now) (i .d)) (z .e-is) (set (c .before .before .copy-row .last .1 .1 .1 .1 .0) (row (i .choice .now) (i .h * 256) (i .q)) (c .smaller .result)) (i .key .words) (i .h * 256 - 256)
 
--- src/lib.rt:51:22
 lay-sub-before : (t : ℕ) → lay-lts.Need-sub-before (
   copy-row-reads.Asked,
   copy-row-reads.Learnt,
@@ -365,9 +428,8 @@ lay-sub-before : (t : ℕ) → lay-lts.Need-sub-before (
   put-reads.Asked,
   put-reads.Learnt,
 ) (lay-at t) lay.Post lay-Inv-loop lay-μ-loop
-lay-sub-before t c = ?
+lay-sub-before t c = omega arith
 
--- src/lib.rt:52:12
 lay-shared-slice-read-if2 : (t : ℕ) → lay-lts.Need-shared-slice-read-if2 (
   copy-row-reads.Asked,
   copy-row-reads.Learnt,
@@ -382,9 +444,12 @@ lay-shared-slice-read-if2 : (t : ℕ) → lay-lts.Need-shared-slice-read-if2 (
   put-reads.Asked,
   put-reads.Learnt,
 ) (lay-at t) lay.Post lay-Inv-loop lay-μ-loop
-lay-shared-slice-read-if2 t c = ?
+lay-shared-slice-read-if2 t c =
+    let i = c .before .before .before .before .before .before .before .before .before .before .before .before .before .before .before .before .before .before .args in
+    let p = c .before .before .before .before .before .before .before .before .before .before .before .before .before .before .before .before .before .before .pre .1 in
+    let z = sizes (i .points .now) (i .own .now) (i .ends .now) (i .reach .now) (i .limit .now) (i .left .now) (i .choice .now) (i .d) (i .q) (i .h) p in
+    omega arith
 
--- src/lib.rt:53:21
 lay-mul-l : (t : ℕ) → lay-lts.Need-mul-l (
   copy-row-reads.Asked,
   copy-row-reads.Learnt,
@@ -399,9 +464,12 @@ lay-mul-l : (t : ℕ) → lay-lts.Need-mul-l (
   put-reads.Asked,
   put-reads.Learnt,
 ) (lay-at t) lay.Post lay-Inv-loop lay-μ-loop
-lay-mul-l t c = ?
+lay-mul-l t c =
+    let i = c .before .before .before .before .before .before .before .before .before .before .before .before .before .before .before .before .before .before .before .args in
+    let p = c .before .before .before .before .before .before .before .before .before .before .before .before .before .before .before .before .before .before .before .pre .1 in
+    let z = sizes (i .points .now) (i .own .now) (i .ends .now) (i .reach .now) (i .limit .now) (i .left .now) (i .choice .now) (i .d) (i .q) (i .h) p in
+    omega arith
 
--- src/lib.rt:53:21
 lay-shared-slice-read-l : (t : ℕ) → lay-lts.Need-shared-slice-read-l (
   copy-row-reads.Asked,
   copy-row-reads.Learnt,
@@ -416,9 +484,12 @@ lay-shared-slice-read-l : (t : ℕ) → lay-lts.Need-shared-slice-read-l (
   put-reads.Asked,
   put-reads.Learnt,
 ) (lay-at t) lay.Post lay-Inv-loop lay-μ-loop
-lay-shared-slice-read-l t c = ?
+lay-shared-slice-read-l t c =
+    let i = c .before .before .before .before .before .before .before .before .before .before .before .before .before .before .before .before .before .before .before .before .args in
+    let p = c .before .before .before .before .before .before .before .before .before .before .before .before .before .before .before .before .before .before .before .before .pre .1 in
+    let z = sizes (i .points .now) (i .own .now) (i .ends .now) (i .reach .now) (i .limit .now) (i .left .now) (i .choice .now) (i .d) (i .q) (i .h) p in
+    omega arith
 
--- src/lib.rt:54:40
 lay-slice-aggregate-step-child : (t : ℕ) → lay-lts.Need-slice-aggregate-step-child (
   copy-row-reads.Asked,
   copy-row-reads.Learnt,
@@ -433,9 +504,8 @@ lay-slice-aggregate-step-child : (t : ℕ) → lay-lts.Need-slice-aggregate-step
   put-reads.Asked,
   put-reads.Learnt,
 ) (lay-at t) lay.Post lay-Inv-loop lay-μ-loop
-lay-slice-aggregate-step-child t c = ?
+lay-slice-aggregate-step-child t c = search needs
 
--- src/lib.rt:54:53
 lay-sub-step-child : (t : ℕ) → lay-lts.Need-sub-step-child (
   copy-row-reads.Asked,
   copy-row-reads.Learnt,
@@ -450,9 +520,12 @@ lay-sub-step-child : (t : ℕ) → lay-lts.Need-sub-step-child (
   put-reads.Asked,
   put-reads.Learnt,
 ) (lay-at t) lay.Post lay-Inv-loop lay-μ-loop
-lay-sub-step-child t c = ?
+lay-sub-step-child t c =
+    let i = c .before .before .before .before .before .before .before .before .before .before .before .before .before .before .before .before .before .before .before .before .before .args in
+    let p = c .before .before .before .before .before .before .before .before .before .before .before .before .before .before .before .before .before .before .before .before .before .pre .1 in
+    let z = sizes (i .points .now) (i .own .now) (i .ends .now) (i .reach .now) (i .limit .now) (i .left .now) (i .choice .now) (i .d) (i .q) (i .h) p in
+    omega arith
 
--- src/lib.rt:54:17
 lay-step-child-requires : (t : ℕ) → lay-lts.Need-step-child-requires (
   copy-row-reads.Asked,
   copy-row-reads.Learnt,
@@ -467,9 +540,15 @@ lay-step-child-requires : (t : ℕ) → lay-lts.Need-step-child-requires (
   put-reads.Asked,
   put-reads.Learnt,
 ) (lay-at t) lay.Post lay-Inv-loop lay-μ-loop
-lay-step-child-requires t c κs = ?
+lay-step-child-requires t c κs =
+    let i = c .before .before .before .before .before .before .before .before .before .before .before .before .before .before .before .before .before .before .before .before .before .args in
+    let p = c .before .before .before .before .before .before .before .before .before .before .before .before .before .before .before .before .before .before .before .before .before .pre .1 in
+    let z = sizes (i .points .now) (i .own .now) (i .ends .now) (i .reach .now) (i .limit .now) (i .left .now) (i .choice .now) (i .d) (i .q) (i .h) p in
+    let l = c .before .before .before .before .before .loop in
+    let m = p .0 .own-low (l .p - 1) in
+    let n : length (set (c .before .before .before .before .before .before .before .before .copy-row .last .1 .1 .1 .1 .0) (row (i .choice .now) (i .h * 256) (i .q)) (c .before .before .before .before .before .before .smaller .result)) ≡ 256 = length-set (c .before .before .before .before .before .before .before .before .copy-row .last .1 .1 .1 .1 .0) (row (i .choice .now) (i .h * 256) (i .q)) (c .before .before .before .before .before .before .smaller .result) ∙ c .before .before .before .before .before .before .before .before .copy-row .kept .1 .1 .1 .1 .0 in
+    (omega arith, (omega arith, (m, omega (arith, l .inv .small))))
 
--- src/lib.rt:55:17
 lay-put-where-requires : (t : ℕ) → lay-lts.Need-put-where-requires (
   copy-row-reads.Asked,
   copy-row-reads.Learnt,
@@ -484,9 +563,12 @@ lay-put-where-requires : (t : ℕ) → lay-lts.Need-put-where-requires (
   put-reads.Asked,
   put-reads.Learnt,
 ) (lay-at t) lay.Post lay-Inv-loop lay-μ-loop
-lay-put-where-requires t c κs = ?
+lay-put-where-requires t c κs =
+    let i = c .before .before .before .before .before .before .before .before .before .before .before .before .before .before .before .before .before .before .before .before .before .before .args in
+    let p = c .before .before .before .before .before .before .before .before .before .before .before .before .before .before .before .before .before .before .before .before .before .before .pre .1 in
+    let z = sizes (i .points .now) (i .own .now) (i .ends .now) (i .reach .now) (i .limit .now) (i .left .now) (i .choice .now) (i .d) (i .q) (i .h) p in
+    omega arith
 
--- src/lib.rt:56:78
 lay-sub-lay : (t : ℕ) → lay-lts.Need-sub-lay (
   copy-row-reads.Asked,
   copy-row-reads.Learnt,
@@ -501,9 +583,12 @@ lay-sub-lay : (t : ℕ) → lay-lts.Need-sub-lay (
   put-reads.Asked,
   put-reads.Learnt,
 ) (lay-at t) lay.Post lay-Inv-loop lay-μ-loop
-lay-sub-lay t c = ?
+lay-sub-lay t c =
+    let i = c .before .before .before .before .before .before .before .before .before .before .before .before .before .before .before .before .before .before .before .before .before .before .before .args in
+    let p = c .before .before .before .before .before .before .before .before .before .before .before .before .before .before .before .before .before .before .before .before .before .before .before .pre .1 in
+    let z = sizes (i .points .now) (i .own .now) (i .ends .now) (i .reach .now) (i .limit .now) (i .left .now) (i .choice .now) (i .d) (i .q) (i .h) p in
+    omega arith
 
--- src/lib.rt:56:13
 lay-lay-requires : (t : ℕ) → lay-lts.Need-lay-requires (
   copy-row-reads.Asked,
   copy-row-reads.Learnt,
@@ -518,9 +603,16 @@ lay-lay-requires : (t : ℕ) → lay-lts.Need-lay-requires (
   put-reads.Asked,
   put-reads.Learnt,
 ) (lay-at t) lay.Post lay-Inv-loop lay-μ-loop
-lay-lay-requires t c κs = ?
+lay-lay-requires t c κs =
+    let i = c .before .before .before .before .before .before .before .before .before .before .before .before .before .before .before .before .before .before .before .before .before .before .before .args in
+    let p = c .before .before .before .before .before .before .before .before .before .before .before .before .before .before .before .before .before .before .before .before .before .before .before .pre .1 in
+    let z = sizes (i .points .now) (i .own .now) (i .ends .now) (i .reach .now) (i .limit .now) (i .left .now) (i .choice .now) (i .d) (i .q) (i .h) p in
+    let l = c .before .before .before .before .before .before .before .loop in
+    let more = c .before .before .before .before .before .before .loop-test .taken in
+    let ends = c .before .before .before .before .if2 .taken in
+    let s = c .before .step-child in
+    (omega (arith, c .before .before .before .before .before .before .before .before .before .before .before .before .before .before .before .before .before .before .before .before .before .before .before .pre .0), turns.child-asked (i .points .now) (i .own .now) (i .ends .now) (i .reach .now) (i .limit .now) (i .left .now) (i .choice .now) (p .0) (i .d) (i .h) (p .1 .1 .0) (p .1 .1 .1 .0) (at (i .ends .now) (i .d)) (z .e-is) (set (c .before .before .before .before .before .before .before .before .before .before .copy-row .last .1 .1 .1 .1 .0) (row (i .choice .now) (i .h * 256) (i .q)) (c .before .before .before .before .before .before .before .before .smaller .result)) (i .key .words) (i .h * 256 - 256) (l .k .words) (l .c) (l .f) (l .p) (l .inv) more ends (i .q) (s .result .c) (s .result .f) (s .result .ask) p (s .ensures))
 
--- src/lib.rt:50:5
 lay-loop-less : (t : ℕ) → lay-lts.Need-loop-less (
   copy-row-reads.Asked,
   copy-row-reads.Learnt,
@@ -535,9 +627,15 @@ lay-loop-less : (t : ℕ) → lay-lts.Need-loop-less (
   put-reads.Asked,
   put-reads.Learnt,
 ) (lay-at t) lay.Post lay-Inv-loop lay-μ-loop
-lay-loop-less t c = ?
+lay-loop-less t c =
+    let i = c .before .before .before .before .before .before .before .before .before .before .before .before .before .before .before .before .before .before .before .before .before .before .before .before .args in
+    let p = c .before .before .before .before .before .before .before .before .before .before .before .before .before .before .before .before .before .before .before .before .before .before .before .before .pre .1 in
+    let z = sizes (i .points .now) (i .own .now) (i .ends .now) (i .reach .now) (i .limit .now) (i .left .now) (i .choice .now) (i .d) (i .q) (i .h) p in
+    let l = c .before .before .before .before .before .before .before .before .loop in
+    let more = c .before .before .before .before .before .before .before .loop-test .taken in
+    let ends = c .before .before .before .before .before .if2 .taken in
+    omega (arith, turns.child-long (i .points .now) (i .own .now) (i .ends .now) (i .reach .now) (i .limit .now) (i .left .now) (i .choice .now) (p .0) (i .d) (i .h) (p .1 .1 .0) (p .1 .1 .1 .0) (at (i .ends .now) (i .d)) (z .e-is) (set (c .before .before .before .before .before .before .before .before .before .before .before .copy-row .last .1 .1 .1 .1 .0) (row (i .choice .now) (i .h * 256) (i .q)) (c .before .before .before .before .before .before .before .before .before .smaller .result)) (i .key .words) (i .h * 256 - 256) (l .k .words) (l .c) (l .f) (l .p) (l .inv) more ends)
 
--- src/lib.rt:50:5
 lay-loop-again : (t : ℕ) → lay-lts.Need-loop-again (
   copy-row-reads.Asked,
   copy-row-reads.Learnt,
@@ -552,9 +650,17 @@ lay-loop-again : (t : ℕ) → lay-lts.Need-loop-again (
   put-reads.Asked,
   put-reads.Learnt,
 ) (lay-at t) lay.Post lay-Inv-loop lay-μ-loop
-lay-loop-again t c = ?
+lay-loop-again t c =
+    let i = c .before .before .before .before .before .before .before .before .before .before .before .before .before .before .before .before .before .before .before .before .before .before .before .before .args in
+    let p = c .before .before .before .before .before .before .before .before .before .before .before .before .before .before .before .before .before .before .before .before .before .before .before .before .pre .1 in
+    let z = sizes (i .points .now) (i .own .now) (i .ends .now) (i .reach .now) (i .limit .now) (i .left .now) (i .choice .now) (i .d) (i .q) (i .h) p in
+    let l = c .before .before .before .before .before .before .before .before .loop in
+    let more = c .before .before .before .before .before .before .before .loop-test .taken in
+    let ends = c .before .before .before .before .before .if2 .taken in
+    let s = c .before .before .step-child in
+    let m = c .before .put-where in
+    turns.on-child (i .points .now) (i .own .now) (i .ends .now) (i .reach .now) (i .limit .now) (i .left .now) (i .choice .now) (p .0) (i .d) (i .h) (p .1 .1 .0) (p .1 .1 .1 .0) (at (i .ends .now) (i .d)) (z .e-is) (set (c .before .before .before .before .before .before .before .before .before .before .before .copy-row .last .1 .1 .1 .1 .0) (row (i .choice .now) (i .h * 256) (i .q)) (c .before .before .before .before .before .before .before .before .before .smaller .result)) (i .key .words) (i .h * 256 - 256) (l .k .words) (l .c) (l .f) (l .p) (l .inv) more ends (s .result .c) (s .result .f) (s .result .ask) (m .result .words) (c .lay .result .words) (s .ensures) (m .ensures) (c .lay .ensures)
 
--- src/lib.rt:61:16
 lay-mul-if3 : (t : ℕ) → lay-lts.Need-mul-if3 (
   copy-row-reads.Asked,
   copy-row-reads.Learnt,
@@ -569,9 +675,12 @@ lay-mul-if3 : (t : ℕ) → lay-lts.Need-mul-if3 (
   put-reads.Asked,
   put-reads.Learnt,
 ) (lay-at t) lay.Post lay-Inv-loop lay-μ-loop
-lay-mul-if3 t c = ?
+lay-mul-if3 t c =
+    let i = c .before .before .before .before .before .before .before .before .before .before .before .before .before .before .before .before .before .before .before .args in
+    let p = c .before .before .before .before .before .before .before .before .before .before .before .before .before .before .before .before .before .before .before .pre .1 in
+    let z = sizes (i .points .now) (i .own .now) (i .ends .now) (i .reach .now) (i .limit .now) (i .left .now) (i .choice .now) (i .d) (i .q) (i .h) p in
+    omega arith
 
--- src/lib.rt:61:16
 lay-array-read-if3 : (t : ℕ) → lay-lts.Need-array-read-if3 (
   copy-row-reads.Asked,
   copy-row-reads.Learnt,
@@ -586,9 +695,12 @@ lay-array-read-if3 : (t : ℕ) → lay-lts.Need-array-read-if3 (
   put-reads.Asked,
   put-reads.Learnt,
 ) (lay-at t) lay.Post lay-Inv-loop lay-μ-loop
-lay-array-read-if3 t c = ?
+lay-array-read-if3 t c =
+    let i = c .before .before .before .before .before .before .before .before .before .before .before .before .before .before .before .before .before .before .before .args in
+    let p = c .before .before .before .before .before .before .before .before .before .before .before .before .before .before .before .before .before .before .before .pre .1 in
+    let z = sizes (i .points .now) (i .own .now) (i .ends .now) (i .reach .now) (i .limit .now) (i .left .now) (i .choice .now) (i .d) (i .q) (i .h) p in
+    omega arith
 
--- src/lib.rt:62:17
 lay-put-requires : (t : ℕ) → lay-lts.Need-put-requires (
   copy-row-reads.Asked,
   copy-row-reads.Learnt,
@@ -603,9 +715,12 @@ lay-put-requires : (t : ℕ) → lay-lts.Need-put-requires (
   put-reads.Asked,
   put-reads.Learnt,
 ) (lay-at t) lay.Post lay-Inv-loop lay-μ-loop
-lay-put-requires t c κs = ?
+lay-put-requires t c κs =
+    let i = c .before .before .before .before .before .before .before .before .before .before .before .before .before .before .before .before .before .before .before .before .args in
+    let p = c .before .before .before .before .before .before .before .before .before .before .before .before .before .before .before .before .before .before .before .before .pre .1 in
+    let z = sizes (i .points .now) (i .own .now) (i .ends .now) (i .reach .now) (i .limit .now) (i .left .now) (i .choice .now) (i .d) (i .q) (i .h) p in
+    omega arith
 
--- src/lib.rt:63:17
 lay-add-c : (t : ℕ) → lay-lts.Need-add-c (
   copy-row-reads.Asked,
   copy-row-reads.Learnt,
@@ -620,9 +735,12 @@ lay-add-c : (t : ℕ) → lay-lts.Need-add-c (
   put-reads.Asked,
   put-reads.Learnt,
 ) (lay-at t) lay.Post lay-Inv-loop lay-μ-loop
-lay-add-c t c = ?
+lay-add-c t c =
+    let i = c .before .before .before .before .before .before .before .before .before .before .before .before .before .before .before .before .before .before .before .before .before .args in
+    let p = c .before .before .before .before .before .before .before .before .before .before .before .before .before .before .before .before .before .before .before .before .before .pre .1 in
+    let z = sizes (i .points .now) (i .own .now) (i .ends .now) (i .reach .now) (i .limit .now) (i .left .now) (i .choice .now) (i .d) (i .q) (i .h) p in
+    omega (arith, c .before .before .before .before .before .loop .inv .small)
 
--- src/lib.rt:50:5
 lay-loop-less-2 : (t : ℕ) → lay-lts.Need-loop-less-2 (
   copy-row-reads.Asked,
   copy-row-reads.Learnt,
@@ -637,9 +755,8 @@ lay-loop-less-2 : (t : ℕ) → lay-lts.Need-loop-less-2 (
   put-reads.Asked,
   put-reads.Learnt,
 ) (lay-at t) lay.Post lay-Inv-loop lay-μ-loop
-lay-loop-less-2 t c = ?
+lay-loop-less-2 t c = omega arith
 
--- src/lib.rt:50:5
 lay-loop-again-2 : (t : ℕ) → lay-lts.Need-loop-again-2 (
   copy-row-reads.Asked,
   copy-row-reads.Learnt,
@@ -654,9 +771,14 @@ lay-loop-again-2 : (t : ℕ) → lay-lts.Need-loop-again-2 (
   put-reads.Asked,
   put-reads.Learnt,
 ) (lay-at t) lay.Post lay-Inv-loop lay-μ-loop
-lay-loop-again-2 t c = ?
+lay-loop-again-2 t c =
+    let i = c .before .before .before .before .before .before .before .before .before .before .before .before .before .before .before .before .before .before .before .before .before .args in
+    let p = c .before .before .before .before .before .before .before .before .before .before .before .before .before .before .before .before .before .before .before .before .before .pre .1 in
+    let z = sizes (i .points .now) (i .own .now) (i .ends .now) (i .reach .now) (i .limit .now) (i .left .now) (i .choice .now) (i .d) (i .q) (i .h) p in
+    let l = c .before .before .before .before .before .loop in
+    let more = c .before .before .before .before .loop-test .taken in
+    turns.on-put (i .points .now) (i .own .now) (i .ends .now) (i .reach .now) (i .limit .now) (i .left .now) (i .choice .now) (p .0) (i .d) (i .h) (p .1 .1 .0) (p .1 .1 .1 .0) (at (i .ends .now) (i .d)) (z .e-is) (set (c .before .before .before .before .before .before .before .before .copy-row .last .1 .1 .1 .1 .0) (row (i .choice .now) (i .h * 256) (i .q)) (c .before .before .before .before .before .before .smaller .result)) (i .key .words) (i .h * 256 - 256) (l .k .words) (l .c) (l .f) (l .p) (l .inv) more (c .put .result .words) (c .before .before .if2 .left) (c .before .if3 .taken) (c .put .ensures)
 
--- src/lib.rt:50:5
 lay-loop-less-3 : (t : ℕ) → lay-lts.Need-loop-less-3 (
   copy-row-reads.Asked,
   copy-row-reads.Learnt,
@@ -671,9 +793,8 @@ lay-loop-less-3 : (t : ℕ) → lay-lts.Need-loop-less-3 (
   put-reads.Asked,
   put-reads.Learnt,
 ) (lay-at t) lay.Post lay-Inv-loop lay-μ-loop
-lay-loop-less-3 t c = ?
+lay-loop-less-3 t c = omega arith
 
--- src/lib.rt:50:5
 lay-loop-again-3 : (t : ℕ) → lay-lts.Need-loop-again-3 (
   copy-row-reads.Asked,
   copy-row-reads.Learnt,
@@ -688,9 +809,14 @@ lay-loop-again-3 : (t : ℕ) → lay-lts.Need-loop-again-3 (
   put-reads.Asked,
   put-reads.Learnt,
 ) (lay-at t) lay.Post lay-Inv-loop lay-μ-loop
-lay-loop-again-3 t c = ?
+lay-loop-again-3 t c =
+    let i = c .before .before .before .before .before .before .before .before .before .before .before .before .before .before .before .before .before .before .before .before .args in
+    let p = c .before .before .before .before .before .before .before .before .before .before .before .before .before .before .before .before .before .before .before .before .pre .1 in
+    let z = sizes (i .points .now) (i .own .now) (i .ends .now) (i .reach .now) (i .limit .now) (i .left .now) (i .choice .now) (i .d) (i .q) (i .h) p in
+    let l = c .before .before .before .before .loop in
+    let more = c .before .before .before .loop-test .taken in
+    turns.on-skip (i .points .now) (i .own .now) (i .ends .now) (i .reach .now) (i .limit .now) (i .left .now) (i .choice .now) (p .0) (i .d) (i .h) (p .1 .1 .0) (p .1 .1 .1 .0) (at (i .ends .now) (i .d)) (z .e-is) (set (c .before .before .before .before .before .before .before .copy-row .last .1 .1 .1 .1 .0) (row (i .choice .now) (i .h * 256) (i .q)) (c .before .before .before .before .before .smaller .result)) (i .key .words) (i .h * 256 - 256) (l .k .words) (l .c) (l .f) (l .p) (l .inv) more (c .before .if2 .left) (c .if3 .left)
 
--- src/lib.rt:69:24
 lay-add-put-where : (t : ℕ) → lay-lts.Need-add-put-where (
   copy-row-reads.Asked,
   copy-row-reads.Learnt,
@@ -705,9 +831,13 @@ lay-add-put-where : (t : ℕ) → lay-lts.Need-add-put-where (
   put-reads.Asked,
   put-reads.Learnt,
 ) (lay-at t) lay.Post lay-Inv-loop lay-μ-loop
-lay-add-put-where t c = ?
+lay-add-put-where t c =
+    let i = c .before .before .before .before .before .before .before .before .before .before .before .before .before .before .before .before .before .args in
+    let p = c .before .before .before .before .before .before .before .before .before .before .before .before .before .before .before .before .before .pre .1 in
+    let z = sizes (i .points .now) (i .own .now) (i .ends .now) (i .reach .now) (i .limit .now) (i .left .now) (i .choice .now) (i .d) (i .q) (i .h) p in
+    let x = picked (i .points .now) (i .own .now) (i .ends .now) (i .reach .now) (i .limit .now) (i .left .now) (i .choice .now) (i .d) (i .q) (i .h) p (c .before .before .before .before .before .before .before .before .if1 .left) in
+    omega arith
 
--- src/lib.rt:69:18
 lay-mul-put-where : (t : ℕ) → lay-lts.Need-mul-put-where (
   copy-row-reads.Asked,
   copy-row-reads.Learnt,
@@ -722,9 +852,13 @@ lay-mul-put-where : (t : ℕ) → lay-lts.Need-mul-put-where (
   put-reads.Asked,
   put-reads.Learnt,
 ) (lay-at t) lay.Post lay-Inv-loop lay-μ-loop
-lay-mul-put-where t c = ?
+lay-mul-put-where t c =
+    let i = c .before .before .before .before .before .before .before .before .before .before .before .before .before .before .before .before .before .args in
+    let p = c .before .before .before .before .before .before .before .before .before .before .before .before .before .before .before .before .before .pre .1 in
+    let z = sizes (i .points .now) (i .own .now) (i .ends .now) (i .reach .now) (i .limit .now) (i .left .now) (i .choice .now) (i .d) (i .q) (i .h) p in
+    let x = picked (i .points .now) (i .own .now) (i .ends .now) (i .reach .now) (i .limit .now) (i .left .now) (i .choice .now) (i .d) (i .q) (i .h) p (c .before .before .before .before .before .before .before .before .if1 .left) in
+    omega arith
 
--- src/lib.rt:69:18
 lay-shared-slice-read-put-where : (t : ℕ) → lay-lts.Need-shared-slice-read-put-where (
   copy-row-reads.Asked,
   copy-row-reads.Learnt,
@@ -739,9 +873,13 @@ lay-shared-slice-read-put-where : (t : ℕ) → lay-lts.Need-shared-slice-read-p
   put-reads.Asked,
   put-reads.Learnt,
 ) (lay-at t) lay.Post lay-Inv-loop lay-μ-loop
-lay-shared-slice-read-put-where t c = ?
+lay-shared-slice-read-put-where t c =
+    let i = c .before .before .before .before .before .before .before .before .before .before .before .before .before .before .before .before .before .before .args in
+    let p = c .before .before .before .before .before .before .before .before .before .before .before .before .before .before .before .before .before .before .pre .1 in
+    let z = sizes (i .points .now) (i .own .now) (i .ends .now) (i .reach .now) (i .limit .now) (i .left .now) (i .choice .now) (i .d) (i .q) (i .h) p in
+    let x = picked (i .points .now) (i .own .now) (i .ends .now) (i .reach .now) (i .limit .now) (i .left .now) (i .choice .now) (i .d) (i .q) (i .h) p (c .before .before .before .before .before .before .before .before .before .if1 .left) in
+    omega arith
 
--- src/lib.rt:69:41
 lay-add-put-where-2 : (t : ℕ) → lay-lts.Need-add-put-where-2 (
   copy-row-reads.Asked,
   copy-row-reads.Learnt,
@@ -756,9 +894,12 @@ lay-add-put-where-2 : (t : ℕ) → lay-lts.Need-add-put-where-2 (
   put-reads.Asked,
   put-reads.Learnt,
 ) (lay-at t) lay.Post lay-Inv-loop lay-μ-loop
-lay-add-put-where-2 t c = ?
+lay-add-put-where-2 t c =
+    let i = c .before .before .before .before .before .before .before .before .before .before .before .before .before .before .before .before .before .before .args in
+    let p = c .before .before .before .before .before .before .before .before .before .before .before .before .before .before .before .before .before .before .pre .1 in
+    let z = sizes (i .points .now) (i .own .now) (i .ends .now) (i .reach .now) (i .limit .now) (i .left .now) (i .choice .now) (i .d) (i .q) (i .h) p in
+    omega arith
 
--- src/lib.rt:69:5
 lay-put-where-requires-2 : (t : ℕ) → lay-lts.Need-put-where-requires-2 (
   copy-row-reads.Asked,
   copy-row-reads.Learnt,
@@ -773,9 +914,12 @@ lay-put-where-requires-2 : (t : ℕ) → lay-lts.Need-put-where-requires-2 (
   put-reads.Asked,
   put-reads.Learnt,
 ) (lay-at t) lay.Post lay-Inv-loop lay-μ-loop
-lay-put-where-requires-2 t c κs = ?
+lay-put-where-requires-2 t c κs =
+    let i = c .before .before .before .before .before .before .before .before .before .before .before .before .before .before .before .before .before .before .args in
+    let p = c .before .before .before .before .before .before .before .before .before .before .before .before .before .before .before .before .before .before .pre .1 in
+    let z = sizes (i .points .now) (i .own .now) (i .ends .now) (i .reach .now) (i .limit .now) (i .left .now) (i .choice .now) (i .d) (i .q) (i .h) p in
+    omega arith
 
--- src/lib.rt:13:1
 lay-returns-2 : (t : ℕ) → lay-lts.Need-returns-2 (
   copy-row-reads.Asked,
   copy-row-reads.Learnt,
@@ -790,7 +934,17 @@ lay-returns-2 : (t : ℕ) → lay-lts.Need-returns-2 (
   put-reads.Asked,
   put-reads.Learnt,
 ) (lay-at t) lay.Post lay-Inv-loop lay-μ-loop
-lay-returns-2 t c = ?
+lay-returns-2 t c =
+    let i = c .before .before .before .before .before .before .before .before .before .before .before .before .before .before .before .before .before .before .before .args in
+    let p = c .before .before .before .before .before .before .before .before .before .before .before .before .before .before .before .before .before .before .before .pre .1 in
+    let z = sizes (i .points .now) (i .own .now) (i .ends .now) (i .reach .now) (i .limit .now) (i .left .now) (i .choice .now) (i .d) (i .q) (i .h) p in
+    let l = c .before .before .before .loop in
+    let x = picked (i .points .now) (i .own .now) (i .ends .now) (i .reach .now) (i .limit .now) (i .left .now) (i .choice .now) (i .d) (i .q) (i .h) p (c .before .before .before .before .before .before .before .before .before .before .if1 .left) in
+    let r = c .before .before .before .before .before .before .copy-row in
+    let last = row (i .choice .now) (i .h * 256) (i .q) in
+    let need = r .last .1 .1 .1 .1 .0 in
+    let low : c .before .before .before .before .smaller .result ≡ min (at need last) (at (i .ends .now) (i .d)) = c .before .before .before .before .smaller .ensures in
+    done (i .points .now) (i .own .now) (i .ends .now) (i .reach .now) (i .limit .now) (i .left .now) (i .choice .now) (p .0) (i .d) (i .q) (i .h) (p .1 .1 .0) (p .1 .1 .1 .0) (p .1 .1 .1 .1 .0) (p .1 .1 .1 .1 .1 .0) (i .key .words) (at (i .ends .now) (i .d)) last need (l .k .words) (c .put-where2 .result .words) (l .c) (l .f) (l .p) (z .e-is) refl (c .before .before .before .before .before .before .before .before .before .before .if1 .left) (x .0) (x .1) (omega (arith, r .kept .1 .1 .1 .1 .0)) (r .ensures) (rw low at (l .inv)) (omega (arith, c .before .before .loop-test)) (c .put-where2 .ensures)
 
 pub +lay-spec : {M : Type 1} → statement M
 +lay-spec = close μ-lay λ t. lay-lts.spec (
