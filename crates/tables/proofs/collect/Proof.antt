@@ -1,0 +1,132 @@
+-- `collect` meets its contract: from the last dependence to the first, each is entered in front of those after it
+-- (`Collecting`).
+use mathlib.Core.Path.{_≡_, refl}
+use native.Mathlib.Omega.{arith}
+use borrow.Author.Needs.{needs}
+use lib.ListN.{length}
+use Rattle.nests.specs.Stored.{depsIn}
+use Rattle.tables.proofs.Collecting.{Collecting, collect-start, collect-on, collect-done, fits-here, room-kept}
+use Rattle.tables.proofs.collect.Statement.{statement}
+use Rattle.tables.proofs.collect.Tie as tie
+
+abbrev Inv-loop : tie.InvT-loop
+Inv-loop points own ends heights reach₀ back₀ has₀ nest i₀ reach back has i =
+    Collecting points (depsIn (nest .many) (nest .deps)) heights i reach back has ×
+    ((length reach ≡ length reach₀) × ((length back ≡ length back₀) × (length has ≡ length has₀)))
+
+abbrev μ-loop : tie.MeasureT-loop
+μ-loop points own ends heights reach₀ back₀ has₀ nest i₀ reach back has i = i
+
+fill-requires : tie.Need-fill-requires Inv-loop μ-loop
+fill-requires c κs = search needs
+
+fill-requires-2 : tie.Need-fill-requires-2 Inv-loop μ-loop
+fill-requires-2 c κs = search needs
+
+fill-requires-3 : tie.Need-fill-requires-3 Inv-loop μ-loop
+fill-requires-3 c κs = search needs
+
+loop-holds : tie.Need-loop-holds Inv-loop μ-loop
+loop-holds c =
+    let s = c .before .before .before .before .before .before .before .before .before .before .before .before .before .before .before .before .before .before .before in
+    let a = s .args in
+    let w = s .pre in
+    let r = c .before .before .before .before .before .before .before .before .before .before .fill in
+    let b = c .before .before .before .before .before .before .fill2 in
+    let h = c .before .before .fill3 in (
+      collect-start (a .points .now) (w .0) (a .heights .now) (w .1 .0 .heights-are)
+          (depsIn (a .t1 .many) (a .t1 .deps)) (a .t1 .many) (w .1 .1 .1 .1 .0 .many-is) (r .last .0) (b .last .0)
+          (h .last .0)
+          (room-kept (a .reach .now) (a .back .now) (a .has .now) (r .last .0) (b .last .0) (h .last .0) (w .1 .1 .1 .0)
+          (r .kept .0) (b .kept .0) (h .kept .0))
+          (λ k l. r .ensures k (omega (arith, r .kept .0))) (λ k l. b .ensures k (omega (arith, b .kept .0)))
+          (λ k l. h .ensures k (omega (arith, h .kept .0))),
+      (refl, (refl, refl)),
+    )
+
+sub-i : tie.Need-sub-i Inv-loop μ-loop
+sub-i c = search needs
+
+mul-e : tie.Need-mul-e Inv-loop μ-loop
+mul-e c = search needs
+
+element-copy-out-e : tie.Need-element-copy-out-e Inv-loop μ-loop
+element-copy-out-e c = search needs
+
+enter-requires : tie.Need-enter-requires Inv-loop μ-loop
+enter-requires c κs =
+    let l = c .before .before .before .before .before .loop in
+    let s = c .before .before .before .before .before .before .before .before .before .before .before .before .before .before .before .before .before .before .before .before .before .before .before .before .before in
+    let a = s .args in
+    let w = s .pre in (
+      w .0,
+      (
+        w .1 .0,
+        (
+          w .1 .1 .0,
+          (
+            l .inv .0 .room,
+            fits-here (a .points .now) (a .t1 .many) (a .t1 .deps) (w .1 .1 .1 .1 .0 .many-is) (l .i) (c .before .before .before .before .loop-test .taken)
+                (l .inv .0 .here) (w .1 .1 .1 .1 .1),
+          ),
+        ),
+      ),
+    )
+
+loop-less : tie.Need-loop-less Inv-loop μ-loop
+loop-less c = search needs
+
+loop-again : tie.Need-loop-again Inv-loop μ-loop
+loop-again c =
+    let l = c .before .before .before .before .before .before .before .before .before .before .before .before .loop in
+    let e = c .before .before .before .before .before .before .enter in
+    let s = c .before .before .before .before .before .before .before .before .before .before .before .before .before .before .before .before .before .before .before .before .before .before .before .before .before .before .before .before .before .before .before .before in
+    let a = s .args in
+    let reach = e .last .1 .1 .1 .1 .0 in
+    let back = e .last .1 .1 .1 .1 .1 .0 in
+    let has = e .last .1 .1 .1 .1 .1 .1 .0 in
+    let k = e .kept .1 .1 .1 .1 in (
+      collect-on (a .points .now) (a .t1 .many) (a .t1 .deps) (s .pre .1 .1 .1 .1 .0 .many-is) (l .i)
+          (c .before .before .before .before .before .before .before .before .before .before .before .loop-test .taken) (l .inv .0 .here) (a .heights .now) (l .reach) (l .back) (l .has) reach back has
+          (l .inv .0)
+          (room-kept (l .reach) (l .back) (l .has) reach back has (l .inv .0 .room) (k .0) (k .1 .0) (k .1 .1 .0))
+          (e .ensures),
+      (omega (arith, k .0, l .inv .1 .0), (omega (arith, k .1 .0, l .inv .1 .1 .0), omega (arith, k .1 .1 .0, l .inv .1 .1 .1))),
+    )
+
+same-length : tie.Need-same-length Inv-loop μ-loop
+same-length c = search needs
+
+same-length-2 : tie.Need-same-length-2 Inv-loop μ-loop
+same-length-2 c = search needs
+
+same-length-3 : tie.Need-same-length-3 Inv-loop μ-loop
+same-length-3 c = search needs
+
+returns : tie.Need-returns Inv-loop μ-loop
+returns c =
+    let a = c .before .before .before .before .before .before .before .before .before .before .before .before .before .before .before .before .before .before .before .before .before .args in
+    let l = c .before .loop in
+    collect-done (a .points .now) (depsIn (a .t1 .many) (a .t1 .deps)) (a .heights .now) (l .i) (l .reach) (l .back)
+    (l .has) (c .loop-test .left) (l .inv .0)
+
+pub collect-spec : {M : Type 1} → statement M
+collect-spec =
+    tie.close
+    (tie.spec
+    Inv-loop
+    μ-loop
+    fill-requires
+    fill-requires-2
+    fill-requires-3
+    loop-holds
+    sub-i
+    mul-e
+    element-copy-out-e
+    enter-requires
+    loop-less
+    loop-again
+    same-length
+    same-length-2
+    same-length-3
+    returns)

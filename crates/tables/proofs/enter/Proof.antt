@@ -1,0 +1,168 @@
+-- `enter` meets its contract: an independent dependence lowers the reach at its home (`line-entered`), a carried one
+-- what goes back at its source (`back-entered`).
+use Prim.Native.Nat.{_+_, _<_}
+use native.Mathlib.Omega.{arith}
+use borrow.Author.Needs.{needs}
+use Rattle.nests.specs.Kinds.{POINTS}
+use Rattle.nests.specs.Stored.{depIn}
+use Rattle.nests.proofs.Deps.{Line, Back}
+use Rattle.tables.specs.Charts.{TABLE, cell}
+use Rattle.tables.proofs.Entering.{is-line, is-back, line-there, back-there, line-entered, back-entered}
+use Rattle.tables.proofs.enter.Statement.{statement}
+use Rattle.tables.proofs.enter.Tie as tie
+
+-- an independent dependence, its home, and its cell
+line-at : (c : tie.Then1) → Line (c .before .before .before .before .before .before .before .before .before .before .before .args .points .now) (depIn (c .before .before .before .before .before .before .before .before .before .before .before .args .e))
+line-at c =
+    let a = c .before .before .before .before .before .before .before .before .before .before .before .args in
+    is-line (a .points .now) (depIn (a .e)) (c .before .before .before .before .before .before .before .before .before .before .before .pre .1 .1 .1 .1) (c .if1 .taken)
+
+home-at :
+    (c : tie.After-home-of) →
+    (c .home-of .result < POINTS) ×
+    (cell (c .before .before .before .before .before .before .before .before .before .before .before .before .args .heights .now) (c .home-of .result) (c .before .before .before .before .before .before .before .before .before .before .before .before .args .e .s + 1) < TABLE)
+home-at c =
+    let a = c .before .before .before .before .before .before .before .before .before .before .before .before .args in
+    let w = c .before .before .before .before .before .before .before .before .before .before .before .before .pre in
+    line-there (a .points .now) (w .0) (a .heights .now) (w .1 .0 .heights-are) (depIn (a .e)) (line-at (c .before))
+    (c .home-of .result) (c .home-of .ensures)
+
+-- a carried dependence, and its cell
+back-at : (c : tie.Else1) → Back (c .before .before .before .before .before .before .before .before .before .before .before .args .points .now) (depIn (c .before .before .before .before .before .before .before .before .before .before .before .args .e))
+back-at c =
+    let a = c .before .before .before .before .before .before .before .before .before .before .before .args in
+    is-back (a .points .now) (depIn (a .e)) (c .before .before .before .before .before .before .before .before .before .before .before .pre .1 .1 .1 .1) (c .if1 .left)
+
+cell-at : (c : tie.Else1) → cell (c .before .before .before .before .before .before .before .before .before .before .before .args .heights .now) (c .before .before .before .before .before .before .before .before .before .before .before .args .e .d) (c .before .before .before .before .before .before .before .before .before .before .before .args .e .s) < TABLE
+cell-at c =
+    let a = c .before .before .before .before .before .before .before .before .before .before .before .args in
+    let w = c .before .before .before .before .before .before .before .before .before .before .before .pre in
+    back-there (a .points .now) (w .0) (a .heights .now) (w .1 .0 .heights-are) (depIn (a .e)) (back-at c) .1
+
+cast-s : tie.Need-cast-s
+cast-s c = search needs
+
+cast-t : tie.Need-cast-t
+cast-t c = search needs
+
+home-of-requires : tie.Need-home-of-requires
+home-of-requires c κs =
+    let w = c .before .before .before .before .before .before .before .before .before .before .before .pre in
+    let f = line-at c in (
+      w .0,
+      (
+        w .1 .0 .own-is,
+        (w .1 .0 .ends-are, (w .1 .1 .0 .own-room, (w .1 .1 .0 .ends-room, (f .forward, f .target-there)))),
+      ),
+    )
+
+mul-lower : tie.Need-mul-lower
+mul-lower c = omega (arith, home-at (c .before))
+
+shared-slice-read-lower : tie.Need-shared-slice-read-lower
+shared-slice-read-lower c = omega (arith, home-at (c .before .before), c .before .before .before .before .before .before .before .before .before .before .before .before .before .before .pre .1 .1 .0 .heights-room)
+
+mul-lower-2 : tie.Need-mul-lower-2
+mul-lower-2 c = omega (arith, home-at (c .before .before))
+
+add-lower : tie.Need-add-lower
+add-lower c = search needs
+
+add-lower-2 : tie.Need-add-lower-2
+add-lower-2 c = omega (arith, home-at (c .before .before))
+
+lower-requires : tie.Need-lower-requires
+lower-requires c κs = omega (arith, home-at (c .before .before), c .before .before .before .before .before .before .before .before .before .before .before .before .before .before .pre .1 .1 .1 .0 .reach-room)
+
+mul-has : tie.Need-mul-has
+mul-has c = omega (arith, home-at (c .before .before .before .before .before))
+
+slice-write-has : tie.Need-slice-write-has
+slice-write-has c = omega (arith, home-at (c .before .before .before .before .before), c .before .before .before .before .before .before .before .before .before .before .before .before .before .before .before .before .before .pre .1 .1 .1 .0 .has-room)
+
+same-length : tie.Need-same-length
+same-length c = search needs
+
+same-length-2 : tie.Need-same-length-2
+same-length-2 c = search needs
+
+returns : tie.Need-returns
+returns c =
+    let a = c .before .before .before .before .before .before .before .before .before .before .before .before .before .before .before .before .before .args in
+    let w = c .before .before .before .before .before .before .before .before .before .before .before .before .before .before .before .before .before .pre in
+    let h = c .before .before .before .before .before .home-of in
+    λ ds p.
+    rw
+    (c .before .before .lower .ensures)
+    (line-entered (a .points .now) (w .0) (a .heights .now) (w .1 .0 .heights-are) ds (depIn (a .e)) (a .reach .now)
+    (a .back .now) (a .has .now) (w .1 .1 .1 .0) p (line-at (c .before .before .before .before .before .before)) (h .result) (h .ensures))
+
+cast-d : tie.Need-cast-d
+cast-d c = search needs
+
+mul-lower-3 : tie.Need-mul-lower-3
+mul-lower-3 c = search needs
+
+shared-slice-read-lower-2 : tie.Need-shared-slice-read-lower-2
+shared-slice-read-lower-2 c = search needs
+
+mul-lower-4 : tie.Need-mul-lower-4
+mul-lower-4 c = omega (arith, cell-at (c .before .before .before))
+
+add-lower-3 : tie.Need-add-lower-3
+add-lower-3 c = omega (arith, cell-at (c .before .before .before))
+
+lower-requires-2 : tie.Need-lower-requires-2
+lower-requires-2 c κs = omega (arith, cell-at (c .before .before .before), c .before .before .before .before .before .before .before .before .before .before .before .before .before .before .pre .1 .1 .1 .0 .limit-room)
+
+mul-has-2 : tie.Need-mul-has-2
+mul-has-2 c = search needs
+
+slice-write-has-2 : tie.Need-slice-write-has-2
+slice-write-has-2 c = search needs
+
+same-length-3 : tie.Need-same-length-3
+same-length-3 c = search needs
+
+same-length-4 : tie.Need-same-length-4
+same-length-4 c = search needs
+
+returns-2 : tie.Need-returns-2
+returns-2 c =
+    let a = c .before .before .before .before .before .before .before .before .before .before .before .before .before .before .before .before .before .args in
+    let w = c .before .before .before .before .before .before .before .before .before .before .before .before .before .before .before .before .before .pre in
+    λ ds p.
+    rw
+    (c .before .before .lower2 .ensures)
+    (back-entered (a .points .now) (w .0) (a .heights .now) (w .1 .0 .heights-are) ds (depIn (a .e)) (a .reach .now)
+    (a .back .now) (a .has .now) (w .1 .1 .1 .0) p (back-at (c .before .before .before .before .before .before)))
+
+pub enter-spec : {M : Type 1} → statement M
+enter-spec =
+    tie.close
+    (tie.spec
+    cast-s
+    cast-t
+    home-of-requires
+    mul-lower
+    shared-slice-read-lower
+    mul-lower-2
+    add-lower
+    add-lower-2
+    lower-requires
+    mul-has
+    slice-write-has
+    same-length
+    same-length-2
+    returns
+    cast-d
+    mul-lower-3
+    shared-slice-read-lower-2
+    mul-lower-4
+    add-lower-3
+    lower-requires-2
+    mul-has-2
+    slice-write-has-2
+    same-length-3
+    same-length-4
+    returns-2)

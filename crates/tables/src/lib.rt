@@ -1,0 +1,213 @@
+// The tables that the planner's sweeps read, made from a nest: its loops, and its dependences by their homes.
+use nests::Dependence;
+use nests::Nest;
+ghost use mathlib.Core.Path.{_≡_};
+ghost use Prim.Native.Nat.{ℕ, suc, _+_, _<_, _≤_, min};
+ghost use lib.ListN.{length, set};
+ghost use Rattle.nests.specs.Kinds.{POINTS};
+ghost use Rattle.nests.specs.Loops.{ownerFrom};
+ghost use Rattle.nests.specs.Stored.{depIn, nestIn, IsCounted};
+ghost use Rattle.nests.proofs.Deps.{Fits};
+ghost use Rattle.planner.proofs.Instance.{AllFit};
+ghost use Rattle.tables.specs.Charts.{at, TABLE, Points, OwnIs, EndsAre, HeightsAre, Charted, ChartRoom};
+ghost use Rattle.tables.specs.Collected.{Collected, Entered, LinesRoom, Narrowed, Limited};
+ghost use Rattle.tables.specs.Prepared.{Prepared};
+
+// The entries of a row, one for each point.
+const ROW: usize = 256;
+
+// All tables of a nest.
+pub fn prepare(
+    nest: Nest,
+    own: &mut [usize],
+    ends: &mut [usize],
+    heights: &mut [usize],
+    reach: &mut [usize],
+    limit: &mut [usize],
+    has: &mut [usize],
+)
+    requires { ⌜ IsCounted nest ⌝ }
+    requires { ⌜ Points (nestIn nest .points) ⌝ }
+    requires { ⌜ AllFit (nestIn nest .points) (nestIn nest .deps) ⌝ }
+    requires { ⌜ ChartRoom (now own) (now ends) (now heights) ⌝ }
+    requires { ⌜ LinesRoom (now reach) (now limit) (now has) ⌝ }
+    ensures { λ r. ⌜ Prepared (nestIn nest .points) (nestIn nest .deps) (now (own .exit)) (now (ends .exit)) (now (heights .exit)) (now (reach .exit)) (now (limit .exit)) (now (has .exit)) ⌝ }
+{
+    let n = nest.count;
+    let points = nest.points;
+    chart(&points[..n], own, ends, heights);
+    collect(nest, &points[..n], own, ends, heights, reach, limit, has);
+    narrow(&points[..n], ends, heights, limit);
+}
+
+// Of each gap its loop, of each DO its ENDDO and its height.
+fn chart(points: &[u8], own: &mut [usize], ends: &mut [usize], heights: &mut [usize])
+    requires { ⌜ Points (now points) ⌝ }
+    requires { ⌜ ChartRoom (now own) (now ends) (now heights) ⌝ }
+    ensures { λ r. ⌜ Charted (now (points .entry)) (now (own .exit)) (now (ends .exit)) (now (heights .exit)) ⌝ }
+{
+    fill(own, 0);
+    let mut o = 0;
+    let mut h = Nest::DEPTH;
+    let mut i = 0;
+    while i < points.len() {
+        own[i] = o;
+        let kind = points[i];
+        if kind == nests::DO {
+            heights[i] = h;
+            h -= 1;
+            o = i;
+            i += 1;
+        } else if kind == nests::ENDDO {
+            ends[o] = i;
+            h += 1;
+            o = own[o];
+            i += 1;
+        } else {
+            i += 1;
+        }
+    }
+}
+
+// All dependences, each in the row of its home: independent ones in `reach`, carried ones in `back`.
+fn collect(
+    nest: Nest,
+    points: &[u8],
+    own: &[usize],
+    ends: &[usize],
+    heights: &[usize],
+    reach: &mut [usize],
+    back: &mut [usize],
+    has: &mut [usize],
+)
+    requires { ⌜ Points (now points) ⌝ }
+    requires { ⌜ Charted (now points) (now own) (now ends) (now heights) ⌝ }
+    requires { ⌜ ChartRoom (now own) (now ends) (now heights) ⌝ }
+    requires { ⌜ LinesRoom (now reach) (now back) (now has) ⌝ }
+    requires { ⌜ IsCounted nest ⌝ }
+    requires { ⌜ AllFit (now points) (nestIn nest .deps) ⌝ }
+    ensures { λ r. ⌜ Collected (now (points .entry)) (nestIn nest .deps) (now (heights .entry)) (now (reach .exit)) (now (back .exit)) (now (has .exit)) ⌝ }
+{
+    fill(reach, points.len());
+    fill(back, points.len());
+    fill(has, 0);
+    let mut i = nest.many;
+    while 0 < i {
+        i -= 1;
+        let e = nest.deps[i];
+        enter(points, own, ends, heights, reach, back, has, e);
+    }
+}
+
+// One dependence more.
+fn enter(
+    points: &[u8],
+    own: &[usize],
+    ends: &[usize],
+    heights: &[usize],
+    reach: &mut [usize],
+    back: &mut [usize],
+    has: &mut [usize],
+    e: Dependence,
+)
+    requires { ⌜ Points (now points) ⌝ }
+    requires { ⌜ Charted (now points) (now own) (now ends) (now heights) ⌝ }
+    requires { ⌜ ChartRoom (now own) (now ends) (now heights) ⌝ }
+    requires { ⌜ LinesRoom (now reach) (now back) (now has) ⌝ }
+    requires { ⌜ Fits (now points) (depIn e) ⌝ }
+    ensures { λ r. ⌜ Entered (now (points .entry)) (now (heights .entry)) (depIn e) (now (reach .entry)) (now (back .entry)) (now (has .entry)) (now (reach .exit)) (now (back .exit)) (now (has .exit)) ⌝ }
+{
+    let s = e.s as usize;
+    let t = e.t as usize;
+    if e.kind == nests::INDEPENDENT {
+        let home = home_of(points, own, ends, s, t);
+        lower(reach, heights[home] * ROW + (s + 1), t);
+        has[home] = 1;
+        return;
+    }
+    let d = e.d as usize;
+    lower(back, heights[d] * ROW + s, t);
+    has[d] = 1;
+}
+
+// The innermost loop that holds all gaps from s + 1 to t.
+fn home_of(points: &[u8], own: &[usize], ends: &[usize], s: usize, t: usize) -> usize
+    requires { ⌜ Points (now points) ⌝ }
+    requires { ⌜ OwnIs (now points) (now own) ⌝ }
+    requires { ⌜ EndsAre (now points) (now ends) ⌝ }
+    requires { ⌜ POINTS ≤ length (now own) ⌝ }
+    requires { ⌜ POINTS ≤ length (now ends) ⌝ }
+    requires { ⌜ s < t ⌝ }
+    requires { ⌜ t < length (now points) ⌝ }
+    ensures { λ r. ⌜ r ≡ ownerFrom (suc s) t (now (points .entry)) ⌝ }
+{
+    let mut l = own[s];
+    if points[s] == nests::DO {
+        l = s;
+    }
+    while ends[l] < t {
+        l = own[l];
+    }
+    l
+}
+
+// From what goes back in each loop's row, its limits.
+fn narrow(points: &[u8], ends: &[usize], heights: &[usize], limit: &mut [usize])
+    requires { ⌜ Points (now points) ⌝ }
+    requires { ⌜ EndsAre (now points) (now ends) ⌝ }
+    requires { ⌜ HeightsAre (now points) (now heights) ⌝ }
+    requires { ⌜ POINTS ≤ length (now ends) ⌝ }
+    requires { ⌜ POINTS ≤ length (now heights) ⌝ }
+    requires { ⌜ TABLE ≤ length (now limit) ⌝ }
+    ensures { λ r. ⌜ Limited (now (points .entry)) (now (heights .entry)) (now (limit .entry)) (now (limit .exit)) ⌝ }
+{
+    let mut d = 0;
+    while d < points.len() {
+        if points[d] == nests::DO {
+            narrow_row(limit, heights[d] * ROW, d, ends[d]);
+        }
+        d += 1;
+    }
+}
+
+// In one loop's row, from right to left: at each place the least from there to the ENDDO e, and at most e.
+fn narrow_row(xs: &mut [usize], base: usize, d: usize, e: usize)
+    requires { ⌜ d ≤ e ⌝ }
+    requires { ⌜ base + e < length (now xs) ⌝ }
+    ensures { λ r. ⌜ Narrowed (now (xs .entry)) base d e (now (xs .exit)) ⌝ }
+{
+    let mut m = e;
+    let mut q = e;
+    while d < q {
+        let place = base + q;
+        let x = xs[place];
+        if x < m {
+            m = x;
+            q -= 1;
+        } else {
+            xs[place] = m;
+            q -= 1;
+        }
+    }
+}
+
+// The entry at the place is t, if it was more.
+fn lower(xs: &mut [usize], place: usize, t: usize)
+    requires { ⌜ place < length (now xs) ⌝ }
+    ensures { λ r. ⌜ now (xs .exit) ≡ set (now (xs .entry)) place (min t (at (now (xs .entry)) place)) ⌝ }
+{
+    if t < xs[place] {
+        xs[place] = t;
+    }
+}
+
+// Every entry is v.
+fn fill(xs: &mut [usize], v: usize)
+    ensures { λ r. ⌜ ((i : ℕ) → i < length (now (xs .entry)) → at (now (xs .exit)) i ≡ v) ⌝ }
+{
+    let mut i = 0;
+    while i < xs.len() {
+        xs[i] = v;
+        i += 1;
+    }
+}
