@@ -2,3 +2,4 @@
 pub mod Lengths
 pub mod Counting
 pub mod Both
+pub mod Answering

@@ -10,18 +10,42 @@ ghost use Rattle.lines.specs.Writing.{over};
 ghost use Rattle.placements.specs.Placements.{areGapsFrom, areGaps};
 ghost use Rattle.placements.specs.Words.{GAPS, gapsIn};
 ghost use Rattle.texts.specs.Program.{refusalText};
-ghost use Rattle.answers.specs.Answers.{ROOM, LINES, keyAndCounts, CountsSay};
+ghost use Rattle.answers.specs.Answers.{ROOM, LINES, keyAndCounts, CountsSay, Answered};
 use lines::put_frame;
 use nests::DO;
 use nests::Nest;
 use placements::Placement;
 use placements::count_of;
+use plan::plan;
+use texts::read_nest;
 use texts::write_text;
 
 // The kinds of the program's own lines.
 const COUNT: u8 = 34;
 
 const REFUSAL: u8 = 47;
+
+// The longest input that is read, in bytes.
+const LONGEST: usize = 8192;
+
+// Writes the answer to an input from the start of the buffer: the key's frames and the loops' counts, or the line of
+// a refusal; gives its length.
+pub fn answer(input: &[u8], out: &mut [u8]) -> usize
+    requires { ⌜ ROOM ≤ length (now out) ⌝ }
+    ensures { λ r. ⌜ Answered (now (input .entry)) (now (out .entry)) (now (out .exit)) r ⌝ }
+{
+    if LONGEST < input.len() {
+        return write_refusal(5, 0, out);
+    }
+    let reading = read_nest(input);
+    let number = reading.number;
+    if number != 0 {
+        return write_refusal(number, reading.line, out);
+    }
+    let nest = reading.nest;
+    let key = plan(nest);
+    write_both(nest, key, out)
+}
 
 // Writes a key's frames, then the counts; gives the length.
 fn write_both(nest: Nest, key: Placement, out: &mut [u8]) -> usize
