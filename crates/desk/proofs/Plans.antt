@@ -10,7 +10,7 @@ use borrow.Author.Tests.{eq-eqb, ne-eqb}
 use Rattle.nests.specs.Nests.{Nest}
 use Rattle.nests.specs.Valid.{isValid}
 use Rattle.nests.specs.Stored.{nestIn, IsCounted}
-use Rattle.nests.proofs.Deps.{valid-is}
+use Rattle.nests.proofs.Deps.{valid-is, deps-fit}
 use Rattle.placements.specs.Words.{GAPS, gapsIn, holds}
 use Rattle.placements.specs.Keys.{IsKey}
 use Rattle.planner.specs.Home.{keyIn}
@@ -27,7 +27,7 @@ use Rattle.desk.specs.Says.{PlannedAs, PlanSays}
 pub planned-key : (n : Nest) (ws : List ℕ) → isValid n ≡ true → Planned.PlanSays n ws → IsKey n (gapsIn ws)
 planned-key n ws v h =
     let w = valid-is n v in
-    subst (λ (x : List ℕ). IsKey n x) (sym (words-of-key n (w .shape) ws (w .few-points) (λ g _. h g))) (key-is-key n v)
+    subst (λ (x : List ℕ). IsKey n x) (sym (words-of-key n (w .shape) (deps-fit (n .points) (n .deps) (w .all-deps)) ws (w .few-points) (λ g _. h g))) (key-is-key n v)
 
 module _ (d : DD.Desk) (r : DR.Reply) where
   pub plan-refused : d .loaded ≡ false → r .number ≡ 10 → r .line ≡ 0 → r .desk ≡ d → PlanSays d r
