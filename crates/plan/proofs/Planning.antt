@@ -1,5 +1,5 @@
 -- The tables of a nest are what settling and laying ask, and what the outermost loop lays is the key.
--- Main statements: `charts`, `lines`, `choices`, `key`.
+-- Main statements: `charts`, `lines`, `choices`, `key`, `top-height`.
 use mathlib.Core.Path.{_≡_, refl, sym, _∙_, ap}
 use mathlib.Core.Bool.{Bool, true, false, _||_}
 use mathlib.Core.List.{List}
@@ -25,7 +25,7 @@ use Rattle.planner.proofs.Tables.{table-is}
 use Rattle.tables.specs.Charts.{Points, Charted}
 use Rattle.tables.specs.Prepared.{Prepared}
 use Rattle.sweeps.specs.Listed.{at, row}
-use Rattle.settling.specs.Settled.{HasHeight, Charts, LinesAt, Rows, SettleSays}
+use Rattle.settling.specs.Settled.{HasHeight, Charts, LinesAt, Rows}
 use Rattle.laying.specs.Laid.{Choices, LaySays}
 
 -- a front comes from a suffix of the loop's range
@@ -41,7 +41,7 @@ chosen-in-range B laws N T t d i q a b h = ⊎-elim
 
 module _ (ps : List ℕ) (ds : List Dep) (own ends heights reach limit has : List ℕ) (w : Points ps) (p : Prepared ps ds own ends heights reach limit has) where
   -- the planner's tables
-  table : Tables
+  abbrev table : Tables
   table = tableOf (loopsIn ps) (linesIn ps ds) (length ps)
 
   tabled : IsTable (loopsIn ps) (linesIn ps ds) table
@@ -70,9 +70,9 @@ module _ (ps : List ℕ) (ds : List Dep) (own ends heights reach limit has : Lis
       same : (d h : ℕ) → isDo ps d ≡ true → HasHeight ps d h → h ≡ at heights d
       same d h i e = omega (arith, p .charted .heights-are d i)
 
-  module _ (left₀ choice₀ left choice : List ℕ) (s : SettleSays ps reach limit has left₀ choice₀ left choice 0) where
+  module _ (left choice : List ℕ) (settled : (N : Lines) (T : Tables) → IsTable (loopsIn ps) N T → LinesAt ps N reach limit has → Rows ps T left choice 0 (endOf ps 0)) where
     rows : Rows ps table left choice 0 (endOf ps 0)
-    rows = s .rows (linesIn ps ds) table tabled lines
+    rows = settled (linesIn ps ds) table tabled lines
 
     pub choices : Choices ps left choice 0 (endOf ps 0)
     choices l h q i a b e c f g =
@@ -86,3 +86,7 @@ module _ (ps : List ℕ) (ds : List Dep) (own ends heights reach limit has : Lis
         or-none : (b : Bool) → (b || false) ≡ b
         or-none true = refl
         or-none false = refl
+
+-- the outermost loop has the greatest height
+pub top-height : (ps : List ℕ) → HasHeight ps 0 8
+top-height ps = refl
