@@ -44,11 +44,11 @@ module _ (d : DD.Desk) (r : DR.Reply) where
       let z : stateFault false (deskIn d) ≡ 0 = rw a in
       let t : eqb (stateFault false (deskIn d)) 0 ≡ true = eq-eqb (stateFault false (deskIn d)) 0 z in
       let q : PlannedAs (deskIn d .nest-is) (r .desk) =
-              record {
-                counted = rw e (m .counted);
-                has-nest = b;
-                same-nest = ap nestIn e;
-                has-key = p;
-                is-key = planned-key (nestIn (d .nest)) (r .desk .key .words) (m .valid a) h;
-              } in
+      record {
+        counted = rw e (m .counted);
+        has-nest = b;
+        same-nest = ap nestIn e;
+        has-key = p;
+        is-key = planned-key (nestIn (d .nest)) (r .desk .key .words) (m .valid a) h;
+      } in
       record { number-is = n ∙ sym z; line-is = l; desk-is = rw t q }
