@@ -79,11 +79,12 @@ loop-again c =
     (λ x.
     let n = x .4 in
     let k = x .0 .taken in
+    let is-do = eq-eqb (getD (a .points .now) (l .d) 0) 1 k in
     rw (x .7) (
       omega (arith, n .kept .0, l .inv .0),
       λ ds f r.
           limits-on (a .points .now) (w .0) ds (a .heights .now) (l .d) (l .limit) (l .inv .1 ds f r) (w .1 .1 .0) f k
-          (getD (a .ends .now) (l .d) 0) (w .1 .0 (l .d) (eq-eqb (getD (a .points .now) (l .d) 0) 1 k)) (n .last .0) (n .ensures),
+          (getD (a .ends .now) (l .d) 0) (w .1 .0 (l .d) is-do) (n .last .0) (n .ensures),
     ))
     (λ x.
     rw (x .1) (
