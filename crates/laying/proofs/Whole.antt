@@ -107,7 +107,7 @@ module _ (ps own ends reach limit left choice : List ℕ) (w : Charts ps own end
       alike = agree ps own ends reach limit has left choice d e h need N T w is-do height e-is n inside copied
 
       there : 0 < T .left d q
-      there = 
+      there =
           let z : row left (h * 256) q ≡ T .left d q = r .left-is d h q is-do (omega arith) (end-after ps (w .shape) d is-do) height after within in
           omega (arith, some)
 

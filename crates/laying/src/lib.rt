@@ -30,9 +30,7 @@ pub fn lay(
     requires { ⌜ d < q ⌝ }
     requires { ⌜ q ≤ endOf (now points) d ⌝ }
     requires { ⌜ Choices (now points) (now left) (now choice) d (endOf (now points) d) ⌝ }
-    ensures {
-        λ r. ⌜ LaySays (now (points .entry)) (now (reach .entry)) (now (limit .entry)) (now (left .entry)) (now (choice .entry)) d q (key .words) (r .words) ⌝
-    }
+    ensures { λ r. ⌜ LaySays (now (points .entry)) (now (reach .entry)) (now (limit .entry)) (now (left .entry)) (now (choice .entry)) d q (key .words) (r .words) ⌝ }
 {
     let base = h * ROW;
     if left[base + q] == 0 {
@@ -53,7 +51,19 @@ pub fn lay(
             let l = own[before];
             let s = sweeps::step_child(&need, left, base - ROW, l, before, c, f);
             let more = put_where(k, c, s.c, p);
-            k = lay(points, own, ends, reach, limit, left, choice, l, s.ask, h - 1, more);
+            k = lay(
+                points,
+                own,
+                ends,
+                reach,
+                limit,
+                left,
+                choice,
+                l,
+                s.ask,
+                h - 1,
+                more,
+            );
             c = s.c;
             f = s.f;
             p = l;

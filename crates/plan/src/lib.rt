@@ -23,12 +23,43 @@ pub fn plan(nest: Nest) -> Placement
     let mut has = [0; ROW];
     let mut reach = [0; TABLE];
     let mut limit = [0; TABLE];
-    tables::prepare(nest, &mut own, &mut ends, &mut heights, &mut reach, &mut limit, &mut has);
+    tables::prepare(
+        nest,
+        &mut own,
+        &mut ends,
+        &mut heights,
+        &mut reach,
+        &mut limit,
+        &mut has,
+    );
     let n = nest.count;
     let points = nest.points;
     let mut left = [0; TABLE];
     let mut choice = [0; TABLE];
-    settling::settle(&points[..n], &own, &ends, &reach, &limit, &has, &mut left, &mut choice, 0, Nest::DEPTH);
+    settling::settle(
+        &points[..n],
+        &own,
+        &ends,
+        &reach,
+        &limit,
+        &has,
+        &mut left,
+        &mut choice,
+        0,
+        Nest::DEPTH,
+    );
     let none = Placement::empty();
-    laying::lay(&points[..n], &own, &ends, &reach, &limit, &left, &choice, 0, 1, Nest::DEPTH, none)
+    laying::lay(
+        &points[..n],
+        &own,
+        &ends,
+        &reach,
+        &limit,
+        &left,
+        &choice,
+        0,
+        1,
+        Nest::DEPTH,
+        none,
+    )
 }

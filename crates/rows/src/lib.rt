@@ -36,9 +36,7 @@ pub fn make_row(
     requires { ⌜ d < e ⌝ }
     requires { ⌜ e < 256 ⌝ }
     requires { ⌜ 256 ≤ base ⌝ }
-    ensures {
-        λ r. ⌜ RowMade (now (points .entry)) (now (own .entry)) (now (reach .entry)) (now (limit .entry)) (now (left .entry)) (now (choice .entry)) (now (left .exit)) (now (choice .exit)) base d e some ⌝
-    }
+    ensures { λ r. ⌜ RowMade (now (points .entry)) (now (own .entry)) (now (reach .entry)) (now (limit .entry)) (now (left .entry)) (now (choice .entry)) (now (left .exit)) (now (choice .exit)) base d e some ⌝ }
 {
     if some == 0 {
         clear(left, base, d, e);
@@ -50,7 +48,19 @@ pub fn make_row(
     let mut cs = [0; ROW];
     let mut fs = [0; ROW];
     copy_row(reach, base, d, e, &mut need);
-    let m = values(points, own, &mut need, left, kids, limit, base, d, e, &mut cs, &mut fs);
+    let m = values(
+        points,
+        own,
+        &mut need,
+        left,
+        kids,
+        limit,
+        base,
+        d,
+        e,
+        &mut cs,
+        &mut fs,
+    );
     choose(&cs, &fs, m, left, choice, base, d, e);
 }
 
@@ -160,9 +170,7 @@ pub fn values(
     requires { ⌜ d < e ⌝ }
     requires { ⌜ e < length (now cs) ⌝ }
     requires { ⌜ e < length (now fs) ⌝ }
-    ensures {
-        λ r. ⌜ ValuesSay (now (points .entry)) (now (own .entry)) (now (need .entry)) (now (left .entry)) kids (now (limit .entry)) base d e e (now (cs .exit)) (now (fs .exit)) r ⌝
-    }
+    ensures { λ r. ⌜ ValuesSay (now (points .entry)) (now (own .entry)) (now (need .entry)) (now (left .entry)) kids (now (limit .entry)) base d e e (now (cs .exit)) (now (fs .exit)) r ⌝ }
     ensures { λ r. ⌜ now (need .exit) ≡ now (need .entry) ⌝ }
 {
     let mut m = 0;

@@ -168,7 +168,7 @@ module _ (ps own ends reach limit has left₀ choice₀ : List ℕ) (w : Charts 
 
         -- a loop of i's range is i or lies inside
         later : (l : ℕ) → isDo ps l ≡ true → l < suc (endOf ps i) → l < endOf ps i
-        later l j b = lt-by λ y. 
+        later l j b = lt-by λ y.
             let e : l ≡ endOf ps i = omega arith in
             let u : getD ps l 0 ≡ 1 = eqb-true (getD ps l 0) 1 j in
             let v : getD ps l 0 ≡ 2 = eqb-true (getD ps l 0) 2 (rw e (end-is-end ps (w .shape) i loop)) in
