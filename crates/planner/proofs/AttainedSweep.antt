@@ -14,7 +14,7 @@ use Rattle.planner.proofs.World.{World, Inside, LoopLaws}
 use Rattle.planner.proofs.Claim.{Hit, Laid, Claim}
 use Rattle.planner.proofs.Walk.{plain-cases, child-cases, Free, Inner, Outer, AtPlain, AtChild, along}
 use Rattle.planner.proofs.Ring.{hit-wider, hit-more}
-use Rattle.planner.proofs.AttainedBody.{Part, Body, laid-part, idle-part, only-self}
+use Rattle.planner.proofs.AttainedBody.{Part, Body, laid-part, whole-part, only-self}
 use Rattle.planner.proofs.AttainedBody.{start-body, put-body, skip-body, join-body}
 use Rattle.planner.proofs.AttainedFront.{NeedLaws, Foremost, start-front, skip-front, put-front}
 use Rattle.planner.proofs.AttainedFront.{join-front, bare-front, Cuts, start-cuts, more-cuts, front-cuts}
@@ -106,14 +106,7 @@ module _
 
     -- what is laid for the child where no line asks more
     whole : Part W T l (T .lay l (suc l))
-    whole =
-        ⊎-elim
-        (λ (z : T .left l (suc l) ≤ 0). (
-        let y : T .left l (suc l) ≡ 0 = omega arith in
-        idle-part W T l (T .lay l (suc l)) (claim .empty y) (none y)))
-        (λ (z : 0 < T .left l (suc l)). (
-        laid-part W T l (suc l) (T .lay l (suc l)) (laid (suc l) (omega arith) (at .short) z)))
-        (le-or (T .left l (suc l)) 0)
+    whole = whole-part W T l (omega (arith, at .short, at .child .ends)) claim
 
     -- the front with what is laid for the child
     laid-front : (b f : ℕ) (w : ℕ → Bool) → l < b → b ≤ p → 0 < T .left l b → Foremost e p f w

@@ -13,7 +13,8 @@ use Rattle.laws.specs.Choice.{pick}
 use Rattle.laws.proofs.Tests.{le-or}
 use Rattle.planner.specs.Sweep.{Loops, Lines, Tables, State, put, sweep, close, needOf, value, IsTable}
 use Rattle.planner.specs.Plan.{tableOf, keyOf}
-use Rattle.planner.proofs.World.{World, Inside, Owner, LoopLaws, Lawful}
+use Rattle.planner.proofs.World.{World, Inside, LoopLaws, Lawful}
+use Rattle.planner.proofs.Inside.{inside-self, from-inside, first-own}
 use Rattle.planner.proofs.Counts.{cnt, cnt-none}
 use Rattle.planner.proofs.Claim.{Hit, mineOf, count, Sound, Settled, Best, Laid, Leads, Claim}
 use Rattle.planner.proofs.Rows.{row-lay}
@@ -40,13 +41,6 @@ module _ (W : World) (N : Lines) (laws : Lawful W N) (T : Tables) (table : IsTab
       (firsts : (l : ℕ) → Inside (W .loops) d l → d < l → First W T l) where
     abbrev e : ℕ
     e = W .loops .stop d
-
-    -- the gap right after the DO is d's own
-    first-own : W .loops .own (suc d) ≡ d
-    first-own =
-        let o : Owner (W .loops) d (suc d) =
-        laws .of-loops .owner d (suc d) is-do (omega arith) (laws .of-loops .long d is-do) in
-        omega (arith, o .from, o .below)
 
     -- the value for a suffix that x cuts with as many own gaps: a gap right after the DO closes the prefix, or none
     value-first : (x : ℕ → Bool) (q : ℕ) → Settled W (T .cost) x d → d < q → q ≤ e → Hit x q e →
@@ -78,7 +72,7 @@ module _ (W : World) (N : Lines) (laws : Lawful W N) (T : Tables) (table : IsTab
             omega (arith, leb-false (s .f) (N .limit d q) z, limit-low W N laws d q is-do low high) in
             let r : Runs W x d (suc d) s =
             runs-above W (laws .of-loops) T d is-do all-kids firsts need x settled hits f in
-            put-first W x d d s first-own r (omega (arith, none))
+            put-first W x d d s (first-own (W .loops) (laws .of-loops) d is-do) r (omega (arith, none))
 
     module _ (x : ℕ → Bool) (q : ℕ) (best : Best W (T .cost) x d) (low : d < q) (hit : Hit x q e) where
       inside : q ≤ e
@@ -119,15 +113,8 @@ module _ (W : World) (N : Lines) (laws : Lawful W N) (T : Tables) (table : IsTab
     first-from : First W T d
     first-from = record { first = lay-first }
 
-  first-in : (k d : ℕ) → W .loops .stop d ≤ d + k → W .loops .isDo d ≡ true → First W T d
-  first-in zero d h is-do = absurd (omega (arith, laws .of-loops .long d is-do))
-  first-in (suc k) d h is-do =
-      first-from d is-do
-      (λ l i j. first-in k l
-      (omega (arith, laws .of-loops .nested d l is-do (i .is-do) j (omega (arith, i .below)))) (i .is-do))
-
   pub first : (d : ℕ) → W .loops .isDo d ≡ true → First W T d
-  first d is-do = first-in (W .loops .stop d) d (omega arith) is-do
+  first = from-inside (W .loops) (laws .of-loops) (First W T) first-from
 
   -- what is laid for d is first among the placements that are sound at d with the same counts
   pub laid-first : (d : ℕ) → W .loops .isDo d ≡ true → (y : ℕ → Bool) → Sound W y d →
@@ -140,13 +127,13 @@ module _ (W : World) (N : Lines) (laws : Lawful W N) (T : Tables) (table : IsTab
       }
     where
       exact : (l : ℕ) → Inside (W .loops) d l → count (W .loops) y l ≡ T .cost l
-      exact l i = same l i ∙ laid W N laws T table d is-do .counts l i
-
-      self : Inside (W .loops) d d
-      self = record { is-do = is-do; from = omega arith; below = laws .of-loops .long d is-do }
+      exact l i = same l i ∙ laid W N laws T table d is-do .done l i .exact
 
       best : Best W (T .cost) y d
-      best = record { settled = record { sound = sound; inside = λ l i j. exact l i }; exact = exact d self }
+      best = record {
+        settled = record { sound = sound; inside = λ l i j. exact l i };
+        exact = exact d (inside-self (W .loops) (laws .of-loops) d is-do);
+      }
 
 -- the computed key, of a nest of n points whose outermost loop is 0
 pub computed-first : (W : World) (N : Lines) → Lawful W N → (n : ℕ) → W .loops .isDo 0 ≡ true →

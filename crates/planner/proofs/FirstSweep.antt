@@ -15,10 +15,9 @@ use Rattle.planner.proofs.World.{World, Inside, LoopLaws}
 use Rattle.planner.proofs.Counts.{cnt, cnt-yes, cnt-skips}
 use Rattle.planner.proofs.Claim.{Hit, mineOf, count, Settled, Best, Laid, Claim}
 use Rattle.planner.proofs.Walk.{plain-cases, child-cases, Free, Inner, Outer, AtPlain, AtChild, along}
-use Rattle.planner.proofs.Exchange.{Inv, mine-own}
+use Rattle.planner.proofs.Exchange.{Inv, start-inv, mine-own, child-inside, plain-kept, child-kept}
+use Rattle.planner.proofs.Exchange.{best-in-child, with-bar, without-bar, bar, caught}
 use Rattle.planner.proofs.AttainedBody.{only-is}
-use Rattle.planner.proofs.FirstExchange.{child-inside, plain-kept, child-kept}
-use Rattle.planner.proofs.FirstExchange.{best-in-child, with-bar, without-bar, bar, caught}
 use Rattle.planner.proofs.FirstPlaces.{NotAfter, skip-before, put-before, join-before}
 
 -- what is laid for d and q is first among the placements that are best in d and have a gap from q on
@@ -222,7 +221,7 @@ module _
       (λ p l s at i. child-turns p l s at (i .now))
       record {
         now = record {
-          inv = record { fits = omega arith; le = omega arith; tight = λ z g a b c. absurd (omega arith) };
+          inv = start-inv (W .loops) x d;
           low = λ g h. never h;
           first = λ z. record { at = λ g a b c. absurd (omega arith) };
         };

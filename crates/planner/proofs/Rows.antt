@@ -8,7 +8,7 @@ use native.Mathlib.Omega.{arith}
 use lib.Dec.{eqb, ltb, leb}
 use borrow.Author.Tests.{ltb-true, ltb-false, leb-true, leb-false, eqb-true, eqb-false, eq-eqb, lt-ltb, le-ltb}
 use Rattle.laws.specs.Choice.{pick, firstOf}
-use Rattle.laws.proofs.Tests.{test, never, never-both, le-or, eq-or, and-true, and-intro, and-false, or-true, or-false}
+use Rattle.laws.proofs.Tests.{test, never, never-both, le-or, eq-or, true-by, and-true, and-intro, and-false, or-true, or-false}
 use Rattle.planner.specs.Sweep.{Loops, Lines, Tables, State, bare, put, stepPlain, free, inner, outer, stepChild, start, sweep, close, needOf, value, least, Front, front, best, childSome, someOf, costOf, frontOf, leftOf, choiceOf, layOf, IsTable}
 use Rattle.planner.proofs.World.{World, Inside, Child, LoopLaws}
 use Rattle.planner.proofs.Walk.{plain-cases, child-cases, Free, Inner, Outer, AtPlain, AtChild, along}
@@ -133,3 +133,11 @@ module _ (B : Loops) (laws : LoopLaws B) (N : Lines) (T : Tables) (table : IsTab
   pub row-idle : (q : ℕ) → d < q → q ≤ B .stop d → someOf B N T d ≡ false → (T .cost d ≡ 0) × (T .left d q ≡ 0)
   unfolding costOf leftOf frontOf
   row-idle q a b h = (table .cost-is d is-do ∙ rw h, table .left-is d q is-do a b ∙ rw (h, leftOf))
+
+  -- a front that is there: something is to cut
+  pub row-busy : (q : ℕ) → d < q → q ≤ B .stop d → 0 < T .left d q → someOf B N T d ≡ true
+  row-busy q a b h = true-by (λ z. omega (arith, row-idle q a b z .1))
+
+  pub row-there : (q : ℕ) → d < q → q ≤ B .stop d → 0 < T .left d q →
+      Fronts (value B N T d) (T .cost d) (B .stop d) q (front (T .left d q) (T .choice d q))
+  row-there q a b h = row-fronts q a b (row-busy q a b h)
