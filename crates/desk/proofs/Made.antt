@@ -62,7 +62,7 @@ refused-keeps d s r h z = rw (ne-eqb (readNest s .number) 0 (λ q. z (h .number-
 pub made-load : (d : DD.Desk) (s : List ℕ) (r : DR.Reply) → IsMade d → LoadSays d s r → IsMade (r .desk)
 made-load d s r m h = ⊎-elim
     (λ (z : r .number ≡ 0).
-        made-loaded (r .desk) (readNest s .nest-is) (accepted-valid s (sym (h .number-is) ∙ z)) (loaded-holds d s r h z))
+    made-loaded (r .desk) (readNest s .nest-is) (accepted-valid s (sym (h .number-is) ∙ z)) (loaded-holds d s r h z))
     (λ (z : r .number ≡ 0 → ⊥). subst (λ (x : DD.Desk). IsMade x) (sym (refused-keeps d s r h z)) m)
     (eq-or (r .number) 0)
 
@@ -121,7 +121,7 @@ load-then-plan s d r q h =
     let p = plan-makes d r (i .has-nest) h in
     let n = readNest s .nest-is in
     let k : IsKey n (deskIn (r .desk) .key) =
-            subst (λ (x : Nest). IsKey x (deskIn (r .desk) .key)) (i .nest-is) (p .is-key) in
+    subst (λ (x : Nest). IsKey x (deskIn (r .desk) .key)) (i .nest-is) (p .is-key) in
     let v = valid-is n (accepted-valid s (i .accepted)) in
     record {
       no-refusal = rw (i .has-nest) at (h .number-is);

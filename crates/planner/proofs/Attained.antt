@@ -19,9 +19,11 @@ use Rattle.planner.proofs.Claim.{Hit, Sound, Settled, Best, Laid, Claim
 use Rattle.planner.proofs.Walk.{AtPlain}
 use Rattle.planner.proofs.Choices.{Fronts}
 use Rattle.planner.proofs.Rows.{row-there, row-lay, row-blank}
-use Rattle.planner.proofs.Ring.{hit-wider, limit-low, limit-high, ring-cut}
+use Rattle.planner.proofs.Hits.{hit-wider}
+use Rattle.planner.proofs.Needs.{NeedLaws, need-laws, need-least, need-suffix, Cuts}
+use Rattle.planner.proofs.Ring.{limit-low, limit-high, ring-cut}
 use Rattle.planner.proofs.AttainedBody.{Done, Body}
-use Rattle.planner.proofs.AttainedFront.{NeedLaws, need-laws, need-least, need-suffix, Foremost, Cuts}
+use Rattle.planner.proofs.AttainedFront.{Foremost}
 use Rattle.planner.proofs.AttainedSweep.{Swept, Kids, put-swept, swept}
 
 -- what a sweep lays with its front within the limit t
@@ -78,7 +80,7 @@ module _
     closed s k = go (leb (s .f) (N .limit d q)) refl
       where
         above : d < N .limit d q
-        above = limit-low W N laws d q is-do low high
+        above = limit-low W N laws d is-do q low high
 
         go : (t : Bool) → leb (s .f) (N .limit d q) ≡ t → Within W T need d (N .limit d q) (pick t s (put d s))
         go true z = record { laid = k; within = leb-true (s .f) (N .limit d q) z }
@@ -95,7 +97,7 @@ module _
     -- its gaps: the first, one from q on, and those that the dependences ask
     value-holds : v .w (v .f) ≡ true
     value-holds =
-        valued .laid .front .holds (omega (arith, valued .within, limit-high W N laws d q is-do low high))
+        valued .laid .front .holds (omega (arith, valued .within, limit-high W N laws d is-do q low high))
 
     value-hit : Hit (v .w) q e
     value-hit =
@@ -118,7 +120,7 @@ module _
           high = valued .within;
           holds = value-holds;
         } in
-        ring-cut W N laws d q is-do low high (v .w) first value-hit
+        ring-cut W N laws d is-do q low high (v .w) first value-hit
 
     -- what the loops inside ask is done
     value-done : (l : ℕ) → Inside (W .loops) d l → d < l → Done W T l (v .w)

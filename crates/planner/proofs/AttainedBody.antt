@@ -8,16 +8,15 @@ use mathlib.Core.Bool.{Bool, true, false, _&&_, _||_}
 use mathlib.Core.Logic.{_⊎_, inl, inr, ⊎-elim}
 use Prim.Native.Nat.{ℕ, zero, suc, _≤_, _<_}
 use native.Mathlib.Omega.{arith}
-use lib.Dec.{eqb}
-use borrow.Author.Tests.{eqb-true, eq-eqb}
-use Rattle.laws.proofs.Tests.{never, never-both, le-or, eq-or, bool-by, false-by, or-true, or-left, or-right}
+use Rattle.laws.proofs.Tests.{never, never-both, le-or, eq-or, false-by, or-left, or-right}
 use Rattle.planner.specs.Sweep.{Loops, Tables, bare, only, also}
 use Rattle.planner.proofs.World.{World, Inside, Owner, Child, Plain, LoopLaws}
 use Rattle.planner.proofs.Inside.{self-or-inside, end-no-do}
 use Rattle.planner.proofs.Counts.{cnt-same, cnt-none, cnt-put}
 use Rattle.planner.proofs.Claim.{Hit, mineOf, count, Sound, Laid, Idle, Claim}
 use Rattle.planner.proofs.Exchange.{mine-own, mine-other}
-use Rattle.planner.proofs.Ring.{hit-more}
+use Rattle.planner.proofs.Hits.{hit-more}
+use Rattle.planner.proofs.Unions.{only-is, only-self, also-left, also-right}
 
 -- x does what loop l asks: it has l's cost and cuts what has home l
 pub record Done (W : World) (T : Tables) (l : ℕ) (x : ℕ → Bool) : Type 0 where
@@ -56,24 +55,6 @@ count-none B x l h = cnt-none (mineOf B x l) (B .stop l) (λ g i j. go g i j (eq
     go : (g : ℕ) → 0 < g → g ≤ B .stop l → (B .own g ≡ l) ⊎ ((B .own g ≡ l) → ⊥) → mineOf B x l g ≡ false
     go g i j (inl z) = mine-own B x l g z ∙ false-by (h g i j z)
     go g i j (inr z) = mine-other B x l g z
-
--- of two placements together: at a gap that the first lacks it is the second, and the other way round
-pub also-right : (x w : ℕ → Bool) (g : ℕ) → (x g ≡ true → ⊥) → also x w g ≡ w g
-also-right x w g h =
-    let z : x g ≡ false = false-by h in
-    rw z
-
-pub also-left : (x w : ℕ → Bool) (g : ℕ) → (w g ≡ true → ⊥) → also x w g ≡ x g
-also-left x w g h =
-    bool-by (also x w g) (x g)
-    (λ k. ⊎-elim (λ (z : x g ≡ true). z) (λ (z : w g ≡ true). absurd (h z)) (or-true (x g) (w g) k))
-    (λ k. or-left (w g) k)
-
-pub only-is : (p g : ℕ) → only p g ≡ true → g ≡ p
-only-is p g h = eqb-true g p h
-
-pub only-self : (p : ℕ) → only p p ≡ true
-only-self p = eq-eqb p p refl
 
 -- more gaps, none of them l's own: what l asks is still done
 pub done-more : (W : World) (T : Tables) (l : ℕ) (x y : ℕ → Bool)

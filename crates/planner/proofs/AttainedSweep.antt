@@ -10,14 +10,16 @@ use Rattle.laws.specs.Choice.{firstOf}
 use Rattle.laws.proofs.Tests.{le-or, or-left, or-right}
 use Rattle.planner.specs.Sweep.{Loops, Tables, State, only, also, put, stepPlain}
 use Rattle.planner.specs.Sweep.{free, inner, outer, stepChild, sweep}
-use Rattle.planner.proofs.World.{World, Inside, LoopLaws}
+use Rattle.planner.proofs.World.{World, EachInside, LoopLaws}
 use Rattle.planner.proofs.Claim.{Hit, Laid, Claim}
 use Rattle.planner.proofs.Walk.{plain-cases, child-cases, Free, Inner, Outer, AtPlain, AtChild, along}
-use Rattle.planner.proofs.Ring.{hit-wider, hit-more}
-use Rattle.planner.proofs.AttainedBody.{Part, Body, laid-part, whole-part, only-self}
+use Rattle.planner.proofs.Unions.{only-self}
+use Rattle.planner.proofs.Hits.{hit-wider, hit-more}
+use Rattle.planner.proofs.Needs.{NeedLaws, Cuts, start-cuts, more-cuts}
+use Rattle.planner.proofs.AttainedBody.{Part, Body, laid-part, whole-part}
 use Rattle.planner.proofs.AttainedBody.{start-body, put-body, skip-body, join-body}
-use Rattle.planner.proofs.AttainedFront.{NeedLaws, Foremost, start-front, skip-front, put-front}
-use Rattle.planner.proofs.AttainedFront.{join-front, bare-front, Cuts, start-cuts, more-cuts, front-cuts}
+use Rattle.planner.proofs.AttainedFront.{Foremost, start-front, skip-front, put-front, join-front}
+use Rattle.planner.proofs.AttainedFront.{bare-front, front-cuts}
 
 -- what is laid down to boundary p
 pub record Swept (W : World) (T : Tables) (need : ℕ → ℕ) (d p : ℕ) (s : State) : Type 0 where
@@ -32,8 +34,7 @@ Kids W T d =
 
 -- which those of all the loops inside d give
 pub kids-inside : (W : World) (T : Tables) (d : ℕ)
-    → ((l : ℕ) → Inside (W .loops) d l → d < l → Claim W T l)
-    → Kids W T d
+    → EachInside (W .loops) d (Claim W T) → Kids W T d
 kids-inside W T d all l a b c e = all l record { is-do = a; from = omega arith; below = e } c
 
 module _

@@ -14,10 +14,11 @@ use Rattle.laws.specs.Choice.{firstOf}
 use Rattle.laws.proofs.Tests.{test, never-both, le-or, lt-by}
 use Rattle.planner.specs.Sweep.{Loops, Tables, State, put, stepPlain, free, inner, outer, stepChild, start}
 use Rattle.planner.specs.Sweep.{sweep}
-use Rattle.planner.proofs.World.{World, Inside, LoopLaws}
+use Rattle.planner.proofs.World.{World, Inside, EachInside, LoopLaws}
 use Rattle.planner.proofs.Inside.{inside-trans}
 use Rattle.planner.proofs.Counts.{cnt, cnt-yes, cnt-skips, cnt-skip}
 use Rattle.planner.proofs.Claim.{Hit, mineOf, count, Settled, Best, Laid, Leads, Claim}
+use Rattle.planner.proofs.Needs.{Cuts}
 use Rattle.planner.proofs.Walk.{plain-cases, child-cases, Free, Inner, Outer, AtPlain, AtChild, along}
 
 -- at boundary p: own gaps, and where the two have equally many the front
@@ -71,9 +72,8 @@ child-inside B d p l at =
 
 module _
     (W : World) (laws : LoopLaws (W .loops)) (T : Tables) (d : ℕ) (is-do : W .loops .isDo d ≡ true)
-    (kids : (l : ℕ) → Inside (W .loops) d l → d < l → Claim W T l) (need : ℕ → ℕ) (x : ℕ → Bool)
-    (settled : Settled W (T .cost) x d)
-    (hits : (a : ℕ) → d < a → a ≤ W .loops .stop d → need a ≤ W .loops .stop d → Hit x a (need a)) where
+    (kids : EachInside (W .loops) d (Claim W T)) (need : ℕ → ℕ) (x : ℕ → Bool)
+    (settled : Settled W (T .cost) x d) (hits : Cuts need (W .loops .stop d) d x) where
   abbrev e : ℕ
   e = W .loops .stop d
 
@@ -115,7 +115,7 @@ module _
       }
     where
       hit : Hit x (suc p) (need (suc p))
-      hit = hits (suc p) (omega (arith, at .low)) (omega (arith, at .high)) (omega (arith, i .fits))
+      hit = hits .cut (suc p) (omega (arith, at .low)) (omega (arith, at .high)) (omega (arith, i .fits))
 
       fewer : x (suc p) ≡ false → s .c + mine (suc p) < all
       fewer z = lt-by (λ y. (
@@ -209,7 +209,7 @@ module _
     pub caught : (b : ℕ) → l < b → b ≤ suc p → need b < s .f → s .c + mine l ≡ all → Hit x b p
     caught b h j u z =
         let k : Hit x b (need b) =
-        hits b (omega (arith, at .child .below)) (omega (arith, at .high)) (omega (arith, i .fits)) in
+        hits .cut b (omega (arith, at .child .below)) (omega (arith, at .high)) (omega (arith, i .fits)) in
         let m : k .gap ≤ p = ⊎-elim
         (λ (y : k .gap ≤ p). y)
         (λ (y : p < k .gap). (

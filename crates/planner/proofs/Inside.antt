@@ -8,7 +8,7 @@ use Prim.Native.Nat.{ℕ, zero, suc, _+_, _≤_, _<_}
 use native.Mathlib.Omega.{arith}
 use Rattle.laws.proofs.Tests.{le-or}
 use Rattle.planner.specs.Sweep.{Loops}
-use Rattle.planner.proofs.World.{Inside, Owner, Child, LoopLaws}
+use Rattle.planner.proofs.World.{Inside, EachInside, Owner, Child, LoopLaws}
 
 -- a loop inside d is d or lies strictly inside
 pub self-or-inside : (B : Loops) (d l : ℕ) (P : ℕ → Type 0) → Inside B d l → P d → (d < l → P l) → P l
@@ -33,9 +33,7 @@ module _ (B : Loops) (laws : LoopLaws B) where
       record { is-do = j .is-do; from = omega (arith, i .from, j .from); below = omega (arith, j .below) }))
 
   -- induction from the inside
-  module _
-      (P : ℕ → Type 0)
-      (on : (d : ℕ) → B .isDo d ≡ true → ((l : ℕ) → Inside B d l → d < l → P l) → P d) where
+  module _ (P : ℕ → Type 0) (on : (d : ℕ) → B .isDo d ≡ true → EachInside B d P → P d) where
     by-height : (k d : ℕ) → B .stop d ≤ d + k → B .isDo d ≡ true → P d
     by-height zero d h is-do = absurd (omega (arith, laws .long d is-do))
     by-height (suc k) d h is-do =

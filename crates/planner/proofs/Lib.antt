@@ -5,12 +5,15 @@ pub mod World
 pub mod Inside
 pub mod Counts
 pub mod Claim
+pub mod Unions
+pub mod Hits
+pub mod Needs
 pub mod Walk
 pub mod Exchange
 pub mod Choices
 pub mod Rows
-pub mod Bounds
 pub mod Ring
+pub mod Bounds
 pub mod AttainedBody
 pub mod AttainedFront
 pub mod AttainedSweep

@@ -8,7 +8,7 @@ use Prim.Native.Nat.{ℕ, suc, _≤_, _<_}
 use native.Mathlib.Omega.{arith}
 use Rattle.planner.specs.Sweep.{Lines, Tables, IsTable}
 use Rattle.planner.specs.Plan.{tableOf, keyOf}
-use Rattle.planner.proofs.World.{World, Inside, LoopLaws, Lawful}
+use Rattle.planner.proofs.World.{World, Inside, EachInside, LoopLaws, Lawful}
 use Rattle.planner.proofs.Inside.{inside-trans, from-inside}
 use Rattle.planner.proofs.Claim.{count, Sound, Claim}
 use Rattle.planner.proofs.Bounds.{lower, leftmost, some-gap}
@@ -29,8 +29,7 @@ pub record Key (W : World) (d : ℕ) (x : ℕ → Bool) : Type 0 where
       count (W .loops) x l ≤ count (W .loops) y l
 
 module _ (W : World) (N : Lines) (laws : Lawful W N) (T : Tables) (table : IsTable (W .loops) N T) where
-  claim-from : (d : ℕ) → W .loops .isDo d ≡ true → ((l : ℕ) → Inside (W .loops) d l → d < l → Claim W T l) →
-      Claim W T d
+  claim-from : (d : ℕ) → W .loops .isDo d ≡ true → EachInside (W .loops) d (Claim W T) → Claim W T d
   claim-from d is-do all =
       let kids : Kids W T d = kids-inside W T d all in
       record {
