@@ -4,26 +4,25 @@
 -- Main statements: `attained`, `blank`.
 use mathlib.Core.Path.{_≡_, refl, _∙_, fun-ext, subst⁻¹}
 use mathlib.Core.Bool.{Bool, true, false}
-use mathlib.Core.Logic.{_⊎_, inl, inr, ⊎-elim}
+use mathlib.Core.Logic.{_⊎_, inl}
 use Prim.Native.Nat.{ℕ, suc, _≤_, _<_}
 use native.Mathlib.Omega.{arith}
 use lib.Dec.{leb}
 use borrow.Author.Tests.{leb-true, leb-false}
 use Rattle.laws.specs.Choice.{pick}
-use Rattle.laws.proofs.Tests.{test, never-both, le-or}
-use Rattle.planner.specs.Sweep.{Loops, Lines, Tables, State, put, sweep, close, needOf, value}
-use Rattle.planner.specs.Sweep.{front, someOf, IsTable}
-use Rattle.planner.proofs.World.{World, Inside, LoopLaws, LineLaws, Lawful}
+use Rattle.laws.proofs.Tests.{never-both}
+use Rattle.planner.specs.Sweep.{Lines, Tables, State, put, sweep, close, needOf, value}
+use Rattle.planner.specs.Sweep.{front, IsTable}
+use Rattle.planner.proofs.World.{World, Inside, Lawful}
 use Rattle.planner.proofs.Inside.{self-or-inside, first-own}
-use Rattle.planner.proofs.Claim.{Hit, Sound, Settled, Best, Laid, Claim}
+use Rattle.planner.proofs.Claim.{Hit, Sound, Settled, Laid}
 use Rattle.planner.proofs.Walk.{AtPlain}
 use Rattle.planner.proofs.Choices.{Fronts}
 use Rattle.planner.proofs.Rows.{row-there, row-lay, row-blank}
 use Rattle.planner.proofs.Hits.{hit-wider}
-use Rattle.planner.proofs.Needs.{NeedLaws, need-laws, need-least, need-suffix, Cuts}
+use Rattle.planner.proofs.Needs.{NeedLaws, need-laws, need-least, need-suffix}
 use Rattle.planner.proofs.Ring.{limit-low, limit-high, ring-cut}
-use Rattle.planner.proofs.AttainedBody.{Done, Body}
-use Rattle.planner.proofs.AttainedFront.{Foremost}
+use Rattle.planner.proofs.AttainedBody.{Done}
 use Rattle.planner.proofs.AttainedSweep.{Swept, Kids, put-swept, swept}
 
 -- what a sweep lays with its front within the limit t

@@ -3,14 +3,14 @@
 -- loops alone.
 -- Main definitions: `Done`, `Part`, `Body`. Main statements: `laid-part`, `idle-part`, `whole-part`, `part-sound`,
 -- `start-body`, `skip-body`, `put-body`, `join-body`.
-use mathlib.Core.Path.{_≡_, refl, sym, _∙_, ap}
-use mathlib.Core.Bool.{Bool, true, false, _&&_, _||_}
+use mathlib.Core.Path.{_≡_, sym, _∙_, ap}
+use mathlib.Core.Bool.{Bool, true, false}
 use mathlib.Core.Logic.{_⊎_, inl, inr, ⊎-elim}
 use Prim.Native.Nat.{ℕ, zero, suc, _≤_, _<_}
 use native.Mathlib.Omega.{arith}
 use Rattle.laws.proofs.Tests.{never, never-both, le-or, eq-or, false-by, or-left, or-right}
 use Rattle.planner.specs.Sweep.{Loops, Tables, bare, only, also}
-use Rattle.planner.proofs.World.{World, Inside, Owner, Child, Plain, LoopLaws}
+use Rattle.planner.proofs.World.{World, Inside, Child, Plain, LoopLaws}
 use Rattle.planner.proofs.Inside.{self-or-inside, end-no-do}
 use Rattle.planner.proofs.Counts.{cnt-same, cnt-none, cnt-put}
 use Rattle.planner.proofs.Claim.{Hit, mineOf, count, Sound, Laid, Idle, Claim}

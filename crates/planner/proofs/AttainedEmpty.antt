@@ -2,15 +2,15 @@
 -- to cut, the least value would have a front. Every loop inside d is d or lies in a child of d, as the walk shows.
 -- Main statements: `each-in-child`, `empty`.
 use mathlib.Core.Path.{_≡_, sym, _∙_}
-use mathlib.Core.Bool.{Bool, true, false}
-use mathlib.Core.Logic.{_⊎_, inl, inr, ⊎-elim}
+use mathlib.Core.Bool.{true, false}
+use mathlib.Core.Logic.{⊎-elim}
 use Prim.Native.Nat.{ℕ, suc, _≤_, _<_}
 use native.Mathlib.Omega.{arith}
 use Rattle.laws.proofs.Tests.{test, never-both, le-or, eq-or}
 use Rattle.planner.specs.Sweep.{Loops, Lines, Tables, value, least, front, someOf, IsTable}
-use Rattle.planner.proofs.World.{World, Inside, Child, Plain, LoopLaws, LineLaws, Lawful}
+use Rattle.planner.proofs.World.{World, Inside, Plain, LoopLaws, Lawful}
 use Rattle.planner.proofs.Inside.{self-or-inside, end-no-do}
-use Rattle.planner.proofs.Claim.{Idle, Claim}
+use Rattle.planner.proofs.Claim.{Idle}
 use Rattle.planner.proofs.Walk.{AtPlain, AtChild, along}
 use Rattle.planner.proofs.Choices.{Attains, least-at, Fronts}
 use Rattle.planner.proofs.Rows.{Nothing, some-none, row-cost, row-fronts, row-idle}

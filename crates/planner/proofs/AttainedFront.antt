@@ -2,7 +2,7 @@
 -- not cut, so the front moves to the left and cuts what it is said to cut.
 -- Main definition: `Foremost`. Main statements: `put-front`, `join-front`, `bare-front`, `front-cuts`.
 use mathlib.Core.Path.{_≡_}
-use mathlib.Core.Bool.{Bool, true, _||_}
+use mathlib.Core.Bool.{Bool, true}
 use Prim.Native.Nat.{ℕ, suc, _≤_, _<_}
 use native.Mathlib.Omega.{arith}
 use Rattle.laws.proofs.Tests.{never, or-left, or-right}

@@ -2,13 +2,13 @@
 -- children; so they hold at the loop's DO.
 -- Main statements: `Swept`, `Kids`, `put-swept`, `swept`.
 use mathlib.Core.Path.{_≡_, refl}
-use mathlib.Core.Bool.{Bool, true, _||_}
-use mathlib.Core.Logic.{_⊎_, inl, inr, ⊎-elim}
+use mathlib.Core.Bool.{Bool, true}
+use mathlib.Core.Logic.{⊎-elim}
 use Prim.Native.Nat.{ℕ, zero, suc, _≤_, _<_}
 use native.Mathlib.Omega.{arith}
 use Rattle.laws.specs.Choice.{firstOf}
 use Rattle.laws.proofs.Tests.{le-or, or-left, or-right}
-use Rattle.planner.specs.Sweep.{Loops, Tables, State, only, also, put, stepPlain}
+use Rattle.planner.specs.Sweep.{Tables, State, only, also, put, stepPlain}
 use Rattle.planner.specs.Sweep.{free, inner, outer, stepChild, sweep}
 use Rattle.planner.proofs.World.{World, EachInside, LoopLaws}
 use Rattle.planner.proofs.Claim.{Hit, Laid, Claim}

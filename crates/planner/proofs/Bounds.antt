@@ -13,11 +13,11 @@ use Rattle.laws.specs.Choice.{pick}
 use Rattle.laws.proofs.Tests.{test, lt-by}
 use Rattle.planner.specs.Sweep.{Loops, Lines, Tables, State, put, sweep, close, needOf, value}
 use Rattle.planner.specs.Sweep.{someOf, front, IsTable}
-use Rattle.planner.proofs.World.{World, Inside, EachInside, Owner, Home, by-line, by-back, LoopLaws, LineLaws}
+use Rattle.planner.proofs.World.{World, Inside, EachInside, Owner, Home, by-line, by-back}
 use Rattle.planner.proofs.World.{Lawful}
 use Rattle.planner.proofs.Inside.{inside-self, self-or-inside}
-use Rattle.planner.proofs.Counts.{cnt, cnt-some}
-use Rattle.planner.proofs.Claim.{Hit, mineOf, count, Sound, Settled, Best, Leads, Idle, Claim}
+use Rattle.planner.proofs.Counts.{cnt-some}
+use Rattle.planner.proofs.Claim.{Hit, mineOf, count, Settled, Best, Leads, Idle, Claim}
 use Rattle.planner.proofs.Hits.{hit-wider, Last, last-gap, last-late}
 use Rattle.planner.proofs.Needs.{need-cases, Cuts}
 use Rattle.planner.proofs.Ring.{limit-high, ring-gap}

@@ -11,7 +11,7 @@ use borrow.Author.Tests.{ltb-true, ltb-false, eqb-true, eqb-false}
 use Rattle.laws.specs.Choice.{pick}
 use Rattle.laws.proofs.Tests.{le-or, and-true, and-false}
 use Rattle.planner.specs.Sweep.{Loops, Lines, bare, needOf}
-use Rattle.planner.proofs.World.{World, Child, LoopLaws, LineLaws, Lawful}
+use Rattle.planner.proofs.World.{World, Child, Lawful}
 use Rattle.planner.proofs.Claim.{Hit}
 use Rattle.planner.proofs.Hits.{hit-more}
 

@@ -1,12 +1,12 @@
 -- The definitions run: the keys of document 01's papers P, Q and R, and P's counts, computed.
 -- Main statements: `papers`, `counts-P`.
 use mathlib.Core.Path.{_≡_, refl}
-use mathlib.Core.Bool.{Bool, true, false, _&&_, _||_}
+use mathlib.Core.Bool.{Bool, true, _&&_}
 use mathlib.Core.List.{List, [], _∷_}
 use Prim.Native.Nat.{ℕ, zero, suc}
-use lib.Dec.{eqb, ltb, leb}
+use lib.Dec.{eqb, ltb}
 use lib.ListN.{getD}
-use Rattle.laws.specs.Choice.{pick, between}
+use Rattle.laws.specs.Choice.{pick}
 use Rattle.planner.specs.Sweep.{Loops, Lines, needOf, put, stepPlain, seek, free, inner, outer, childAt}
 use Rattle.planner.specs.Sweep.{stepChild, next, step, walk, sweep, close, value, least, better, best}
 use Rattle.planner.specs.Sweep.{childSome, someOf, costOf, frontOf, leftOf, choiceOf, layOf}

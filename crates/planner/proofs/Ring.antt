@@ -7,8 +7,8 @@ use mathlib.Core.Logic.{_⊎_, inl, inr, ⊎-elim}
 use Prim.Native.Nat.{ℕ, suc, _≤_, _<_}
 use native.Mathlib.Omega.{arith}
 use Rattle.laws.proofs.Tests.{le-or}
-use Rattle.planner.specs.Sweep.{Loops, Lines}
-use Rattle.planner.proofs.World.{World, Behind, LineLaws, Lawful}
+use Rattle.planner.specs.Sweep.{Lines}
+use Rattle.planner.proofs.World.{World, Behind, Lawful}
 use Rattle.planner.proofs.Claim.{Hit}
 use Rattle.planner.proofs.Hits.{hit-wider, Last}
 

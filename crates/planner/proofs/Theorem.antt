@@ -8,7 +8,7 @@ use Prim.Native.Nat.{ℕ, suc, _≤_, _<_}
 use native.Mathlib.Omega.{arith}
 use Rattle.planner.specs.Sweep.{Lines, Tables, IsTable}
 use Rattle.planner.specs.Plan.{tableOf, keyOf}
-use Rattle.planner.proofs.World.{World, Inside, EachInside, LoopLaws, Lawful}
+use Rattle.planner.proofs.World.{World, Inside, EachInside, Lawful}
 use Rattle.planner.proofs.Inside.{inside-trans, from-inside}
 use Rattle.planner.proofs.Claim.{count, Sound, Claim}
 use Rattle.planner.proofs.Bounds.{lower, leftmost, some-gap}

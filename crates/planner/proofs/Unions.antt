@@ -1,7 +1,7 @@
 -- Placements of one gap, and two placements together.
 -- Main statements: `only-is`, `only-self`, `also-by`, `also-left`, `also-right`.
 use mathlib.Core.Path.{_≡_, refl}
-use mathlib.Core.Bool.{Bool, true, false, _||_}
+use mathlib.Core.Bool.{Bool, true, false}
 use mathlib.Core.Logic.{⊎-elim}
 use Prim.Native.Nat.{ℕ}
 use borrow.Author.Tests.{eqb-true, eq-eqb}

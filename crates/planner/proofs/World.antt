@@ -1,9 +1,9 @@
 -- A nest as the theorem sees it: loops, the independent dependences and the carried ones of each loop, and their laws.
 -- Main definitions: `World`, `Inside`, `Lawful` (with `LoopLaws` and `LineLaws`).
 use mathlib.Core.Path.{_≡_}
-use mathlib.Core.Bool.{Bool, true, false}
+use mathlib.Core.Bool.{true, false}
 use mathlib.Core.Logic.{_⊎_}
-use Prim.Native.Nat.{ℕ, zero, suc, _≤_, _<_}
+use Prim.Native.Nat.{ℕ, suc, _≤_, _<_}
 use Rattle.planner.specs.Sweep.{Loops, Lines}
 
 -- Line d a b: an independent dependence with home d has the gaps a … b
