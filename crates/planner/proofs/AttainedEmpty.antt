@@ -114,5 +114,6 @@ module _
   empty h l i =
       ⊎-elim
       (λ (z : someOf (W .loops) N T d ≡ true). absurd (omega (arith, has-front z)))
-      (λ (z : someOf (W .loops) N T d ≡ false). self-or-inside (W .loops) d l (Idle W T) i (self-idle z) (child-idle z l i))
+      (λ (z : someOf (W .loops) N T d ≡ false). (
+      self-or-inside (W .loops) d l (Idle W T) i (self-idle z) (child-idle z l i)))
       (test (someOf (W .loops) N T d))

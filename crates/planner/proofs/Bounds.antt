@@ -1,6 +1,6 @@
--- What every settled placement owes, for a loop d from the claims of the loops inside it. The ring is a family of lines:
--- with q the last gap of x in d's range, the carried dependences that start above q force a gap of x at or before the
--- limit, so the value for q stands in the exchange relation to x.
+-- What every settled placement owes, for a loop d from the claims of the loops inside it. The ring is a family of
+-- lines: with q the last gap of x in d's range, the carried dependences that start above q force a gap of x at or
+-- before the limit, so the value for q stands in the exchange relation to x.
 -- Main definition: `Bound`. Main statements: `meets`, `value-bound`, `value-exact`, `lower`, `some-gap`, `leftmost`.
 use mathlib.Core.Path.{_≡_, refl, _∙_}
 use mathlib.Core.Bool.{Bool, true, false}

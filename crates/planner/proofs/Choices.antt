@@ -113,7 +113,8 @@ module _ (v : ℕ → State) (c e q : ℕ) (fits : q ≤ e) (pos : 0 < v q .f) (
   keep-later h =
       record {
         there = λ a l m n. at-or a l (λ _. 0 < r .f) (λ y. h (rw y at n) .0) (λ z. i .there a z m n);
-        least = λ a l m n. at-or a l (λ a. r .f ≤ v a .f) (λ y. omega (arith, h (rw y at n) .1)) (λ z. i .least a z m n);
+        least = λ a l m n. at-or a l (λ a. r .f ≤ v a .f)
+            (λ y. omega (arith, h (rw y at n) .1)) (λ z. i .least a z m n);
         smallest = λ a l m n o. at-or a l (λ a. r .at ≤ a) (λ y. (
             let j : v q .f ≡ r .f = rw y at o in
             absurd (omega (arith, h (rw y at n) .1)))) (λ z. i .smallest a z m n o);

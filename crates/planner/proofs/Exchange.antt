@@ -1,8 +1,8 @@
--- The exchange argument: along a sweep of d, a placement x that is settled in d and meets the same needs never has fewer
--- own gaps above the boundary than the sweep, and where it has equally many the sweep's front lies before all of x's gaps.
--- Each step keeps this relation, so it holds at every boundary. Where x has as many own gaps above a child as the sweep
--- and the sweep puts none after the child, x has none there either, and cuts inside the child the lines that the sweep
--- cuts there.
+-- The exchange argument: along a sweep of d, a placement x that is settled in d and meets the same needs never has
+-- fewer own gaps above the boundary than the sweep, and where it has equally many the sweep's front lies before all of
+-- x's gaps. Each step keeps this relation, so it holds at every boundary. Where x has as many own gaps above a child
+-- as the sweep and the sweep puts none after the child, x has none there either, and cuts inside the child the lines
+-- that the sweep cuts there.
 -- Main definition: `Inv`. Main statements: `plain-kept`, `child-kept`, `exchange`, `bar`, `caught`.
 use mathlib.Core.Path.{_≡_, refl, _∙_}
 use mathlib.Core.Bool.{Bool, true, false}

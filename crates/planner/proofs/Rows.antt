@@ -1,5 +1,6 @@
 -- What a table's row of loop d says: with something to cut, the least value and the best fronts; with nothing, zeros.
--- Main statements: `some-home`, `some-none`, `value-front`, `row-cost`, `row-fronts`, `row-lay`, `row-idle`, `row-busy`.
+-- Main statements: `some-home`, `some-none`, `value-front`, `row-cost`, `row-fronts`, `row-lay`, `row-idle`,
+-- `row-busy`.
 use mathlib.Core.Path.{_≡_, _∙_}
 use mathlib.Core.Bool.{Bool, true, false, _&&_}
 use mathlib.Core.Logic.{_⊎_, inl, inr, ⊎-elim}
