@@ -1,12 +1,12 @@
 -- The answer to an input, case by case: too long, refused, accepted. In each the key is the planner's (`keyOf`), which
 -- is a key wherever the text is accepted.
--- Main statements: `planned-key`, `accepted-nest`, `answer-long`, `answer-refused`, `answer-key`.
+-- Main statements: `planned-key`, `accepted-nest`, `answer-long`, `answer-refused`, `answer-key`, `answer-within`.
 use mathlib.Core.Path.{_≡_, sym, _∙_, ap, subst}
 use mathlib.Core.Bool.{true}
 use mathlib.Core.List.{List}
 use Prim.Native.Nat.{ℕ, _≤_, _<_}
 use native.Mathlib.Omega.{arith}
-use lib.ListN.{length}
+use lib.ListN.{length, drop, length-append}
 use borrow.Author.Tests.{lt-ltb, le-ltb, eq-eqb}
 use Rattle.nests.specs.Nests.{Nest}
 use Rattle.nests.specs.Valid.{isValid}
@@ -129,3 +129,9 @@ module _ (input : List ℕ) (short : length input ≤ LONGEST) (g : Reading) (re
         → out ≡ over (keyAndCounts (nestIn (g .nest)) (gapsIn ws)) o
         → Answered input o out r
     answer-key ws h p = by-text input o out r (keyAndCounts (nestIn (g .nest)) (gapsIn ws)) (key-text ws h p)
+
+-- an answer lies within the buffer
+pub answer-within : (input o out : List ℕ) (r : ℕ) → Answered input o out r → r ≤ length out
+answer-within input o out r a =
+    let t = programText input (a .key) in
+    omega (arith, a .length-is, ap length (a .out-is), length-append t (drop (length t) o))
