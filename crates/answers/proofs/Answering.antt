@@ -1,12 +1,12 @@
 -- The answer to an input, case by case: too long, refused, accepted. In each the key is the planner's (`keyOf`), which
 -- is a key wherever the text is accepted.
--- Main statements: `planned-key`, `accepted-nest`, `answer-long`, `answer-refused`, `answer-key`.
+-- Main statements: `planned-key`, `accepted-nest`, `answer-long`, `answer-refused`, `answer-key`, `answer-within`.
 use mathlib.Core.Path.{_≡_, sym, _∙_, ap, subst}
 use mathlib.Core.Bool.{true}
 use mathlib.Core.List.{List}
 use Prim.Native.Nat.{ℕ, _≤_, _<_}
 use native.Mathlib.Omega.{arith}
-use lib.ListN.{length}
+use lib.ListN.{length, drop, length-append}
 use borrow.Author.Tests.{lt-ltb, le-ltb, eq-eqb}
 use Rattle.nests.specs.Nests.{Nest}
 use Rattle.nests.specs.Valid.{isValid}
@@ -77,56 +77,61 @@ pub answer-long
 unfolding programText
 answer-long input o out r long l w = by-text input o out r (refusalText 5 0) (rw (lt-ltb LONGEST (length input) long)) l w
 
-module _ (input o out : List ℕ) (r : ℕ) (short : length input ≤ LONGEST) (g : Reading) (read : IsRead input g) where
+-- a text that is read
+module _ (input : List ℕ) (short : length input ≤ LONGEST) (g : Reading) (read : IsRead input g) where
   number-is : g .number ≡ readNest input .number
   number-is = ap (λ (x : Got). x .number) (read .got-is)
 
   place-is : g .line ≡ readNest input .place
   place-is = ap (λ (x : Got). x .place) (read .got-is)
 
+  nest-is : nestIn (g .nest) ≡ readNest input .nest-is
+  nest-is = ap (λ (x : Got). x .nest-is) (read .got-is)
+
   -- a refusal's line fits two bytes
   pub line-fits : g .line < LINES
   line-fits = omega (arith, place-is, place-within input)
 
-  -- a text that is not accepted
-  pub answer-refused
-      : (g .number ≡ 0 → ⊥)
-      → r ≡ length (refusalText (g .number) (g .line))
-      → out ≡ over (refusalText (g .number) (g .line)) o
-      → Answered input o out r
-  answer-refused h l w =
-      by-text input o out r (refusalText (g .number) (g .line))
-      (program-refused input (keyOf (readNest input .nest-is)) short (λ z. h (number-is ∙ z)) ∙
-      (rw (number-is, place-is)))
-      l w
-
   -- an accepted text's nest is valid
   pub accepted-nest : g .number ≡ 0 → isValid (nestIn (g .nest)) ≡ true
-  accepted-nest h =
-      ap (λ (x : Got). isValid (x .nest-is)) (read .got-is) ∙ accepted-valid input (sym number-is ∙ h)
+  accepted-nest h = ap isValid nest-is ∙ accepted-valid input (sym number-is ∙ h)
 
-  -- and its key and counts are written
-  pub answer-key
+  refused-text
+      : (g .number ≡ 0 → ⊥)
+      → programText input (keyOf (readNest input .nest-is)) ≡ refusalText (g .number) (g .line)
+  refused-text h =
+      program-refused input (keyOf (readNest input .nest-is)) short (λ z. h (number-is ∙ z)) ∙ rw (number-is, place-is)
+
+  key-text
       : (ws : List ℕ)
       → g .number ≡ 0
       → PlanSays (nestIn (g .nest)) ws
-      → r ≡ length (keyAndCounts (nestIn (g .nest)) (gapsIn ws))
-      → out ≡ over (keyAndCounts (nestIn (g .nest)) (gapsIn ws)) o
-      → Answered input o out r
-  answer-key ws h p l w =
-      by-text input o out r (keyAndCounts (nestIn (g .nest)) (gapsIn ws)) text l w
-    where
-      nest-is : nestIn (g .nest) ≡ readNest input .nest-is
-      nest-is = ap (λ (x : Got). x .nest-is) (read .got-is)
+      → programText input (keyOf (readNest input .nest-is)) ≡ keyAndCounts (nestIn (g .nest)) (gapsIn ws)
+  key-text ws h p =
+      program-read input (keyOf (readNest input .nest-is)) short (sym number-is ∙ h) ∙
+      ap (λ (x : Nest). keyAndCounts x (keyOf x)) (sym nest-is) ∙
+      ap (keyAndCounts (nestIn (g .nest))) (sym (planned-key (nestIn (g .nest)) ws (accepted-nest h) p))
 
-      written
-          : programText input (keyOf (readNest input .nest-is))
-          ≡ keyAndCounts (readNest input .nest-is) (keyOf (readNest input .nest-is))
-      written = program-read input (keyOf (readNest input .nest-is)) short (sym number-is ∙ h)
+  -- refused: the refusal is written; accepted: the key and the counts
+  module _ (o out : List ℕ) (r : ℕ) where
+    pub answer-refused
+        : (g .number ≡ 0 → ⊥)
+        → r ≡ length (refusalText (g .number) (g .line))
+        → out ≡ over (refusalText (g .number) (g .line)) o
+        → Answered input o out r
+    answer-refused h = by-text input o out r (refusalText (g .number) (g .line)) (refused-text h)
 
-      text : programText input (keyOf (readNest input .nest-is)) ≡ keyAndCounts (nestIn (g .nest)) (gapsIn ws)
-      text =
-          written ∙
-          ap (λ (x : Nest). keyAndCounts x (keyOf x)) (sym nest-is) ∙
-          ap (λ (x : List ℕ). keyAndCounts (nestIn (g .nest)) x)
-          (sym (planned-key (nestIn (g .nest)) ws (accepted-nest h) p))
+    pub answer-key
+        : (ws : List ℕ)
+        → g .number ≡ 0
+        → PlanSays (nestIn (g .nest)) ws
+        → r ≡ length (keyAndCounts (nestIn (g .nest)) (gapsIn ws))
+        → out ≡ over (keyAndCounts (nestIn (g .nest)) (gapsIn ws)) o
+        → Answered input o out r
+    answer-key ws h p = by-text input o out r (keyAndCounts (nestIn (g .nest)) (gapsIn ws)) (key-text ws h p)
+
+-- an answer lies within the buffer
+pub answer-within : (input o out : List ℕ) (r : ℕ) → Answered input o out r → r ≤ length out
+answer-within input o out r a =
+    let t = programText input (a .key) in
+    omega (arith, a .length-is, ap length (a .out-is), length-append t (drop (length t) o))
