@@ -6,3 +6,4 @@ pub mod Choices
 pub mod Members
 pub mod Stores
 pub mod Implies
+pub mod Ors
