@@ -37,7 +37,7 @@ pub fn sweep(
     let mut p = e;
     while d < p {
         let before = p - 1;
-        if points[before] == 2 {
+        if points[before] == nests::ENDDO {
             let l = own[before];
             let s = step_child(need, left, kids, l, before, c, f);
             c = s.c;

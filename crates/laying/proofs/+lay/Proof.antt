@@ -1,3 +1,5 @@
+-- `lay` meets its contract; the height falls at each call. The invariant of its loop: the placement holds what the sweep
+-- has laid so far (`Laying`). At its end that is what the loop lays (`done`).
 use mathlib.Core.Path.{_≡_, refl, sym, _∙_}
 use mathlib.Core.Bool.{true}
 use Prim.Native.Nat.{_+_, _-_, _*_, _≤_, min}

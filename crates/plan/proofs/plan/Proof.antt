@@ -1,3 +1,4 @@
+-- `plan` meets its contract: the tables are what settling and laying ask, and what loop 0 lays is the key (Planning).
 use mathlib.Core.Path.{_≡_, refl, sym, _∙_}
 use Prim.Native.Nat.{_≤_}
 use native.Mathlib.Omega.{arith}

@@ -1,3 +1,4 @@
+-- `better` meets its contract, case by case.
 use Rattle.rows.proofs.Choosing.{better-other, better-first, better-lower, better-higher}
 use Rattle.rows.proofs.better.Statement.{statement}
 use Rattle.rows.proofs.better.Tie as tie

@@ -1,3 +1,4 @@
+-- `choose` meets its contract. The invariant: the suffixes after q are chosen from (`Choosing`).
 use mathlib.Core.Path.{_≡_}
 use native.Mathlib.Omega.{arith}
 use borrow.Author.Needs.{needs}

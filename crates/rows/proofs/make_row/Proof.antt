@@ -1,3 +1,4 @@
+-- `make_row` meets its contract: the values, then the choice among them; or zeros where nothing is to cut (Making).
 use mathlib.Core.Path.{_≡_, refl, sym, _∙_}
 use Prim.Native.Nat.{_+_, _-_, _≤_, _<_}
 use native.Mathlib.Omega.{arith}

@@ -1,3 +1,4 @@
+-- `value` meets its contract: one sweep with the place of the suffix lowered, and put back (Suffix).
 use mathlib.Core.Path.{_≡_, refl, sym, _∙_}
 use native.Mathlib.Omega.{arith}
 use Prim.Native.Nat.{min}

@@ -1,3 +1,5 @@
+-- `settle` meets its contract; the height falls at each call. The invariant of its loop: the loops inside d that lie
+-- before i are settled (`Settling`). At its end the loop's own row is made (`done`).
 use mathlib.Core.Path.{_≡_, refl, sym, _∙_}
 use mathlib.Core.Bool.{true}
 use Prim.Native.Nat.{_+_, _-_, _*_, _≤_}

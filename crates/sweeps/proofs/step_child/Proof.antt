@@ -1,3 +1,4 @@
+-- `step_child` meets its contract, in each of the three cases of a step over a child (Steps).
 use mathlib.Core.Path.{_≡_, refl, sym, _∙_}
 use Prim.Native.Nat.{_≤_}
 use native.Mathlib.Omega.{arith}
