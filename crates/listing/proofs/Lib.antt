@@ -1,0 +1,3 @@
+-- Laws of the list.
+pub mod Records
+pub mod Steps
