@@ -6,8 +6,9 @@ ghost use lib.ListN.{length, take};
 ghost use Rattle.nests.specs.Stored.{depIn, IsCounted};
 ghost use Rattle.placements.specs.Placements.{cuts};
 ghost use Rattle.placements.specs.Words.{gapsIn};
-ghost use Rattle.desk.specs.Desks.{deskIn, recordFault};
-ghost use Rattle.listing.specs.Lists.{begun, stepOf};
+ghost use Rattle.desk.specs.Desks.{deskIn, IsMade, recordFault};
+ghost use Rattle.desk.specs.Says.{ListSays};
+ghost use Rattle.listing.specs.Lists.{allDeps, begun, stepOf};
 use desk::Answer;
 use desk::Desk;
 use nests::CARRIED;
@@ -15,6 +16,21 @@ use nests::Dependence;
 use nests::INDEPENDENT;
 use placements::Cut;
 use placements::Placement;
+
+// What is wrong with the first faulty record of the list, else the place of the first that the key doesn't cut, or 0.
+// Numbers 10, 11, then 2, 6, 7 with the record's place from 1.
+pub fn check_list(desk: Desk, list: &[Dependence]) -> Answer
+    requires { ⌜ IsMade desk ⌝ }
+    ensures { λ r. ⌜ ListSays desk (allDeps (now (list .entry))) r ⌝ }
+{
+    let mut found = begin(desk);
+    let mut i = 0;
+    while i < list.len() {
+        found = step(desk, found, list[i], i);
+        i += 1;
+    }
+    found
+}
 
 // The answer before the first record: 10, 11, or nothing yet.
 fn begin(desk: Desk) -> Answer
@@ -26,8 +42,7 @@ fn begin(desk: Desk) -> Answer
 
 // The answer after the record at index i of the list. A refusal stays; a faulty record refuses with its place.
 fn step(desk: Desk, found: Answer, e: Dependence, i: usize) -> Answer
-    requires { ⌜ IsCounted (desk .nest) ⌝ }
-    requires { ⌜ i + 1 < 2 ^ 64 ⌝ }
+    requires { ⌜ IsCounted (desk .nest) × (i + 1 < 2 ^ 64) ⌝ }
     ensures { λ r. ⌜ r ≡ stepOf (deskIn desk) found (depIn e) i ⌝ }
 {
     if found.number != 0 {
