@@ -313,5 +313,24 @@ module _ {M : Type 1} (𝓤 : URA M) (H : Heap 𝓤) (A : Atoms 𝓤) (W : Given
         move ! (18 ∷ []) $ split ! $ move ! (1 ∷ []) $ drop ! $ move ! (19 ∷ []) $ fsplit ! $ drop ! $ fsplit ! $ move ! (1 ∷ []) $ drop ! $ move ! (1 ∷ []) $
         body (made .counted) room 𝓣 known-step l₀ l₁ l₂ l₃ l₄ l₅ l₆ l₇ l₈ known-begin)))))))))
 
+module _ {M : Type 1} (𝓤 : URA M) (H : Heap 𝓤) (A : Atoms 𝓤) (W : Given 𝓤 H A) (mem : Memory → SProp 𝓤) (run : Routine → Fun 𝓤) (𝓣 : Tables 𝓤 H) (known-begin : Triple 𝓤 (𝓣 .C #listing·begin) (Begin 𝓤 H A mem run)) (known-step : Triple 𝓤 (𝓣 .C #listing·step) (Step 𝓤 H A mem run)) where
+  list-walks : Walks 𝓤 H A list.ended stayed (WpFn 𝓤 H (𝓣 .C) (𝓣 .Λ) code.function) (list.clauses 𝓤 H A mem run)
+  list-walks = walked 𝓤 H A list.ended stayed (list.clauses 𝓤 H A mem run) (WpFn 𝓤 H (𝓣 .C) (𝓣 .Λ) code.function)
+      (λ κs. (LL.vals D.the-type D′.the-laws, (slice-vals, tt))) (λ κs. (LL.tells D.the-type D′.the-laws, (shr-slice-tells (named 0) (κs .0) E.the-row, tt)))
+      (λ κs qs bounds a g are. needs 𝓤 (IsMade (a .0)) _ (λ made.
+      walk 𝓤 H A W mem run (κs .0) (qs .0) (a .0) (LL.val D.the-type D′.the-laws (a .0)) (are .0) (a .1 .0 .ptr .0) (a .1 .0 .ptr .1) (a .1 .0 .name) (a .1 .0 .now) made
+      (LL.lawful D.the-type D′.the-laws 𝓤 H A W .typed (a .0) _ (are .0) .0) (are .1 .0 .0 .1) 𝓣 known-begin known-step))
+
+  list-meets : Meets 𝓤 H A list.signature (WpFn 𝓤 H (𝓣 .C) (𝓣 .Λ) code.function) (list.spec 𝓤 H A mem run)
+  list-meets = walk-meets 𝓤 H A list.ended stayed W
+      (goes-none 𝓤 H A W 1 (λ _. D.the-row) yes (λ κs x f. refl), (goes-none-slice 𝓤 H A W 1 (0 ∷ []) tt (plain (λ _. E.the-row)) yes, tt))
+      (list.clauses 𝓤 H A mem run) (WpFn 𝓤 H (𝓣 .C) (𝓣 .Λ) code.function) (WpFn-mono 𝓤 H (W .laws) 𝓣 code.function) list-walks
+
 pub check-list-spec : {M : Type 1} → stated.statement M
-check-list-spec 𝓤 H 𝓜 𝓖 𝓡 = ?
+unfolding code.routine tablesOf
+check-list-spec 𝓤 H 𝓜 𝓖 𝓡 =
+    entered 𝓤 H (tripleOf 𝓤 H (𝓖 .A) list.signature (list.spec 𝓤 H (𝓖 .A) (𝓜 .mem) (𝓡 .run)))
+    (tables 𝓤 H 𝓜 𝓡 code.env .C) (tables 𝓤 H 𝓜 𝓡 code.env .Λ) #listing·check-list code.function (code.unfolded 𝓤 H 𝓜 𝓡)
+    (list-meets 𝓤 H (𝓖 .A) (givenOf 𝓤 H 𝓜 𝓖) (𝓜 .mem) (𝓡 .run) (tablesOf 𝓤 H 𝓜 (tables 𝓤 H 𝓜 𝓡 code.env))
+    (cited 𝓤 H (Begin 𝓤 H (𝓖 .A) (𝓜 .mem) (𝓡 .run)) 𝓜 𝓡 code.env #listing·begin begin-def.routine code.calls-listing·begin (begin-thm.met 𝓤 H 𝓜 𝓖 𝓡))
+    (cited 𝓤 H (Step 𝓤 H (𝓖 .A) (𝓜 .mem) (𝓡 .run)) 𝓜 𝓡 code.env #listing·step step-def.routine code.calls-listing·step (step-thm.met 𝓤 H 𝓜 𝓖 𝓡)))
