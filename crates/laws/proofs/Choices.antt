@@ -1,6 +1,6 @@
 -- Choices: by cases of the test; the first of some numbers is 0 where all are; a choice is bounded as its parts are.
--- Main statements: `pick-by`, `pick-same`, `first-zero`, `zero-first`, `when-zero`, `unless-zero`, `first-le`,
--- `when-le`, `pick-le`.
+-- Main statements: `pick-by`, `pick-same`, `first-zero`, `zero-first`, `first-set`, `first-none`, `when-zero`,
+-- `unless-zero`, `first-le`, `when-le`, `pick-le`.
 use mathlib.Core.Path.{_≡_, refl, sym}
 use mathlib.Core.Bool.{Bool, true, false, not}
 use Prim.Native.Nat.{ℕ, zero, suc, _≤_}
@@ -35,6 +35,14 @@ first-zero (suc a) b h = absurd (omega arith)
 
 pub zero-first : {a b : ℕ} → a ≡ 0 → b ≡ 0 → firstOf a b ≡ 0
 zero-first {a} {b} p q = rw (p, q)
+
+-- the first where it is not 0, the second where it is
+pub first-set : (a b : ℕ) → (a ≡ 0 → ⊥) → firstOf a b ≡ a
+first-set zero b h = absurd (h refl)
+first-set (suc a) b h = refl
+
+pub first-none : (a b : ℕ) → a ≡ 0 → firstOf a b ≡ b
+first-none a b h = rw h
 
 -- a number that stands for a test is 0 where the test fails
 pub when-zero : (t : Bool) (k : ℕ) → when t (suc k) ≡ 0 → t ≡ false

@@ -13,8 +13,8 @@ use Rattle.laws.proofs.Tests.{and-true}
 use Rattle.planner.specs.Sweep.{Loops, Lines, Tables, State, needOf, put, stepPlain, seek, free, inner, outer}
 use Rattle.planner.specs.Sweep.{childAt, stepChild, next, step, walk, start, sweep, close, value}
 use Rattle.planner.proofs.World.{Child, LoopLaws}
-use Rattle.planner.proofs.Walk.{plain-cases, close-cases, seek-is, AtPlain, AtChild, Boundary, stop-bound, after-child, after-plain}
-use Rattle.planner.proofs.Walk.{child-bound, plain-bound}
+use Rattle.planner.proofs.Walk.{plain-cases, close-cases, seek-is, AtPlain, AtChild, Boundary, stop-bound}
+use Rattle.planner.proofs.Walk.{after-child, after-plain, child-bound, plain-bound}
 
 pub record Same (s t : State) : Type 0 where
   pub c-is : s .c ≡ t .c
@@ -25,7 +25,7 @@ put-same : (p : ℕ) (s t : State) → Same s t → Same (put p s) (put p t)
 unfolding put
 put-same p s t e =
     record {
-      c-is = ap suc (e .c-is);
+      c-is = rw (e .c-is, put);
       f-is = refl;
       w-is = λ g. ap (λ (b : Bool). eqb g (suc p) || b) (e .w-is g);
     }

@@ -108,7 +108,7 @@ sweep-front B laws T need d is-do =
     (λ k. first-pos (T .left l (suc l)) (s .f) i)
     (λ b k. k .there)
     (λ b k. first-pos (T .left l (suc l)) (suc p) (omega arith)))
-    (omega arith)
+    (omega (arith, laws .long d is-do))
 
 pub value-front : (B : Loops) → LoopLaws B → (N : Lines) (T : Tables) (d q : ℕ) → B .isDo d ≡ true →
     0 < value B N T d q .f
