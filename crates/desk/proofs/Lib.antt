@@ -5,3 +5,4 @@ pub mod Ready
 pub mod Answers
 pub mod Judged
 pub mod Made
+pub mod Plans

@@ -8,7 +8,7 @@ ghost use Rattle.nests.specs.Stored.{nestIn, IsCounted};
 ghost use Rattle.placements.specs.Placements.{areGaps};
 ghost use Rattle.placements.specs.Words.{gapsIn};
 ghost use Rattle.placements.specs.Verdicts.{markOf};
-ghost use Rattle.desk.specs.Says.{EmptySays, LoadSays, CountSays, MarkSays, WriteSays, RefusedAs, verdictIn};
+ghost use Rattle.desk.specs.Says.{EmptySays, LoadSays, PlanSays, CountSays, MarkSays, WriteSays, RefusedAs, verdictIn};
 use nests::Nest;
 use placements::Compared;
 use placements::Counts;
@@ -91,6 +91,33 @@ pub fn load_nest(desk: Desk, text: &[u8]) -> Reply
             planned: false,
             key: Placement::empty(),
         },
+    }
+}
+
+// Works out the key of the nest. Number 10.
+pub fn plan_key(desk: Desk) -> Reply
+    requires { ⌜ IsMade desk ⌝ }
+    ensures { λ r. ⌜ PlanSays desk r ⌝ }
+{
+    let loaded = desk.loaded;
+    if loaded {
+        let nest = desk.nest;
+        let key = plan::plan(nest);
+        return Reply {
+            number: 0,
+            line: 0,
+            desk: Desk {
+                loaded: true,
+                nest: nest,
+                planned: true,
+                key: key,
+            },
+        };
+    }
+    Reply {
+        number: 10,
+        line: 0,
+        desk: desk,
     }
 }
 

@@ -4,5 +4,6 @@ pub mod Ranges
 pub mod Bits
 pub mod Choices
 pub mod Members
+pub mod Stores
 pub mod Implies
 pub mod Connectives

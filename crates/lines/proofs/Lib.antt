@@ -3,3 +3,4 @@ pub mod Spelling
 pub mod Digits
 pub mod Reading
 pub mod Writing
+pub mod Parts

@@ -1,2 +1,6 @@
 -- Laws of the row of one loop.
-pub mod Values
+pub mod Suffix
+pub mod Listings
+pub mod Choosing
+pub mod Copying
+pub mod Making

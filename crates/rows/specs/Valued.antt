@@ -3,8 +3,8 @@
 use mathlib.Core.Path.{_≡_}
 use mathlib.Core.Bool.{Bool}
 use mathlib.Core.List.{List}
-use Prim.Native.Nat.{ℕ, _≤_}
-use Rattle.planner.specs.Sweep.{Lines, State, value}
+use Prim.Native.Nat.{ℕ, _≤_, _<_}
+use Rattle.planner.specs.Sweep.{Lines, State, value, least}
 use Rattle.sweeps.specs.Listed.{at, row, listed, tabled}
 
 -- the lines of one loop: whether there are any, where they end, and its row of limits, which starts at `base`
@@ -25,3 +25,15 @@ pub record Valued (v : State) (c f : ℕ) : Type 0 where
 abbrev pub ValueSays : List ℕ → List ℕ → List ℕ → List ℕ → ℕ → List ℕ → ℕ → ℕ → ℕ → ℕ → ℕ → ℕ → Type 0
 ValueSays ps own need left kids limit base d e q c f =
     (has : Bool) (lay : ℕ → ℕ → ℕ → Bool) → Valued (valueOf ps own need left kids limit base has lay d e q) c f
+
+-- the values of the gaps above d up to p stand in two lists, and m is the least number of barriers among them
+pub record Listing (v : ℕ → State) (cs fs : List ℕ) (d p m : ℕ) : Type 0 where
+  pub c-at : (q : ℕ) → d < q → q ≤ p → at cs q ≡ v q .c
+  pub f-at : (q : ℕ) → d < q → q ≤ p → at fs q ≡ v q .f
+  pub least-is : d < p → m ≡ least (λ q. v q .c) d p
+
+abbrev pub ValuesSay
+    : List ℕ → List ℕ → List ℕ → List ℕ → ℕ → List ℕ → ℕ → ℕ → ℕ → ℕ → List ℕ → List ℕ → ℕ → Type 0
+ValuesSay ps own need left kids limit base d e p cs fs m =
+    (has : Bool) (lay : ℕ → ℕ → ℕ → Bool) →
+    Listing (valueOf ps own need left kids limit base has lay d e) cs fs d p m

@@ -2,9 +2,189 @@
 use sweeps::Front;
 ghost use mathlib.Core.Path.{_≡_};
 ghost use Prim.Native.Nat.{ℕ, _+_, _<_, _≤_, min};
+ghost use mathlib.Core.Bool.{_||_};
+ghost use lib.Dec.{leb};
 ghost use lib.ListN.{length};
+ghost use Rattle.laws.specs.Choice.{pick};
 ghost use Rattle.sweeps.specs.Listed.{Low};
-ghost use Rattle.rows.specs.Valued.{ValueSays};
+ghost use Rattle.rows.specs.Valued.{ValueSays, ValuesSay};
+ghost use Rattle.rows.specs.Made.{Kept, Copied, Cleared, BetterSays, ChooseSays, RowMade};
+
+// The places of a row, one for each point.
+pub const ROW: usize = 256;
+
+// The row of the loop d with its ENDDO e, from the row of the loops directly inside it, which is the one before.
+pub fn make_row(
+    points: &[u8],
+    own: &[usize],
+    reach: &[usize],
+    limit: &[usize],
+    left: &mut [usize],
+    choice: &mut [usize],
+    base: usize,
+    d: usize,
+    e: usize,
+    some: usize,
+)
+    requires { ⌜ e < length (now points) ⌝ }
+    requires { ⌜ e < length (now own) ⌝ }
+    requires { ⌜ base + e < length (now reach) ⌝ }
+    requires { ⌜ base + e < length (now limit) ⌝ }
+    requires { ⌜ base + e < length (now left) ⌝ }
+    requires { ⌜ base + e < length (now choice) ⌝ }
+    requires { ⌜ Low (now own) ⌝ }
+    requires { ⌜ d < e ⌝ }
+    requires { ⌜ e < 256 ⌝ }
+    requires { ⌜ 256 ≤ base ⌝ }
+    ensures { λ r. ⌜ RowMade (now (points .entry)) (now (own .entry)) (now (reach .entry)) (now (limit .entry)) (now (left .entry)) (now (choice .entry)) (now (left .exit)) (now (choice .exit)) base d e some ⌝ }
+{
+    if some == 0 {
+        clear(left, base, d, e);
+        clear(choice, base, d, e);
+        return;
+    }
+    let kids = base - ROW;
+    let mut need = [0; ROW];
+    let mut cs = [0; ROW];
+    let mut fs = [0; ROW];
+    copy_row(reach, base, d, e, &mut need);
+    let m = values(
+        points,
+        own,
+        &mut need,
+        left,
+        kids,
+        limit,
+        base,
+        d,
+        e,
+        &mut cs,
+        &mut fs,
+    );
+    choose(&cs, &fs, m, left, choice, base, d, e);
+}
+
+// The entries from d + 1 to e of the row that starts at base.
+pub fn copy_row(from: &[usize], base: usize, d: usize, e: usize, xs: &mut [usize])
+    requires { ⌜ base + e < length (now from) ⌝ }
+    requires { ⌜ e < length (now xs) ⌝ }
+    requires { ⌜ d < e ⌝ }
+    ensures { λ r. ⌜ Copied (now (from .entry)) base d e (now (xs .exit)) ⌝ }
+{
+    let mut p = d;
+    while p < e {
+        let q = p + 1;
+        xs[q] = from[base + q];
+        p = q;
+    }
+}
+
+// The same entries set to 0.
+fn clear(xs: &mut [usize], base: usize, d: usize, e: usize)
+    requires { ⌜ base + e < length (now xs) ⌝ }
+    requires { ⌜ d < e ⌝ }
+    ensures { λ r. ⌜ Cleared (now (xs .entry)) (now (xs .exit)) base d e ⌝ }
+{
+    let mut p = d;
+    while p < e {
+        let q = p + 1;
+        xs[base + q] = 0;
+        p = q;
+    }
+}
+
+// The leftmost front so far, 0 for none, and the suffix that gives it.
+pub struct Leftmost {
+    pub f: usize,
+    pub at: usize,
+}
+
+// The fronts of the suffixes from e down to d + 1 with m barriers, and where they come from, into the loop's row.
+fn choose(
+    cs: &[usize],
+    fs: &[usize],
+    m: usize,
+    left: &mut [usize],
+    choice: &mut [usize],
+    base: usize,
+    d: usize,
+    e: usize,
+)
+    requires { ⌜ e < length (now cs) ⌝ }
+    requires { ⌜ e < length (now fs) ⌝ }
+    requires { ⌜ base + e < length (now left) ⌝ }
+    requires { ⌜ base + e < length (now choice) ⌝ }
+    requires { ⌜ d < e ⌝ }
+    ensures { λ r. ⌜ ChooseSays (now (cs .entry)) (now (fs .entry)) m (now (left .exit)) (now (choice .exit)) base d e ⌝ }
+    ensures { λ r. ⌜ Kept (now (left .entry)) (now (left .exit)) (base + d) (base + e) ⌝ }
+    ensures { λ r. ⌜ Kept (now (choice .entry)) (now (choice .exit)) (base + d) (base + e) ⌝ }
+{
+    let mut f = 0;
+    let mut at = 0;
+    let mut q = e;
+    while d < q {
+        let best = better(f, at, m, q, cs[q], fs[q]);
+        f = best.f;
+        at = best.at;
+        left[base + q] = f;
+        choice[base + q] = at;
+        q -= 1;
+    }
+}
+
+// The front so far, or that of the suffix q where it has m barriers and its front is no further right.
+fn better(f: usize, at: usize, m: usize, q: usize, c: usize, here: usize) -> Leftmost
+    ensures { λ r. ⌜ BetterSays f at m q c here (r .f) (r .at) ⌝ }
+{
+    if c == m {
+        if f == 0 {
+            return Leftmost { f: here, at: q };
+        }
+        if here <= f {
+            return Leftmost { f: here, at: q };
+        }
+    }
+    Leftmost { f: f, at: at }
+}
+
+// The values of all suffixes, d + 1 to e, into two lists; gives the least number of barriers among them.
+pub fn values(
+    points: &[u8],
+    own: &[usize],
+    need: &mut [usize],
+    left: &[usize],
+    kids: usize,
+    limit: &[usize],
+    base: usize,
+    d: usize,
+    e: usize,
+    cs: &mut [usize],
+    fs: &mut [usize],
+) -> usize
+    requires { ⌜ e < length (now points) ⌝ }
+    requires { ⌜ e < length (now own) ⌝ }
+    requires { ⌜ e < length (now need) ⌝ }
+    requires { ⌜ kids + e < length (now left) ⌝ }
+    requires { ⌜ base + e < length (now limit) ⌝ }
+    requires { ⌜ Low (now own) ⌝ }
+    requires { ⌜ d < e ⌝ }
+    requires { ⌜ e < length (now cs) ⌝ }
+    requires { ⌜ e < length (now fs) ⌝ }
+    ensures { λ r. ⌜ ValuesSay (now (points .entry)) (now (own .entry)) (now (need .entry)) (now (left .entry)) kids (now (limit .entry)) base d e e (now (cs .exit)) (now (fs .exit)) r ⌝ }
+    ensures { λ r. ⌜ now (need .exit) ≡ now (need .entry) ⌝ }
+{
+    let mut m = 0;
+    let mut p = d;
+    while p < e {
+        let q = p + 1;
+        let v = value(points, own, need, left, kids, limit, base, d, e, q);
+        cs[q] = v.c;
+        fs[q] = v.f;
+        m = lesser(p, d, v.c, m);
+        p = q;
+    }
+    m
+}
 
 // The value for the suffix that starts at q. The suffix is one more line, from q to e; its place in `need` is put back.
 pub fn value(
@@ -44,8 +224,22 @@ pub fn value(
     }
 }
 
-fn smaller(a: usize, b: usize) -> usize
+// The smaller of two numbers.
+pub fn smaller(a: usize, b: usize) -> usize
     ensures { λ r. ⌜ r ≡ min a b ⌝ }
 {
     if b < a { b } else { a }
+}
+
+// The least number of barriers with one more value, that of p + 1.
+fn lesser(p: usize, d: usize, here: usize, m: usize) -> usize
+    ensures { λ r. ⌜ r ≡ pick (leb p d || leb here m) here m ⌝ }
+{
+    if p <= d {
+        return here;
+    }
+    if here <= m {
+        return here;
+    }
+    m
 }

@@ -102,7 +102,7 @@ pub fn step_child(
 }
 
 // The first number, or the second where the first is 0.
-fn first_or(first: usize, other: usize) -> usize
+pub fn first_or(first: usize, other: usize) -> usize
     ensures { λ r. ⌜ r ≡ firstOf first other ⌝ }
 {
     if first == 0 { other } else { first }

@@ -20,7 +20,6 @@ use Rattle.planner.specs.Home.{leastEnd, reachOf, hasAt}
 use Rattle.tables.specs.Charts.{at, TABLE, cell, Points, HeightsAre}
 use Rattle.tables.specs.Collected.{backOf, Collected, Entered, LinesRoom}
 use Rattle.tables.proofs.Entries.{all-zero}
-
 use Rattle.tables.proofs.Entering.{cell-there}
 
 -- with no dependence every cell holds n and no loop is a home
@@ -96,27 +95,27 @@ room-kept reach back has reach′ back′ has′ r a b c =
     }
 
 module _
-  (ps : List ℕ) (n : ℕ) (xs : List DE.Dependence) (n-is : n ≡ length (depsIn n xs)) (i : ℕ) (l : 0 < i)
-  (m : i ≤ length (depsIn n xs))
+    (ps : List ℕ) (n : ℕ) (xs : List DE.Dependence) (n-is : n ≡ length (depsIn n xs)) (i : ℕ) (l : 0 < i)
+    (m : i ≤ length (depsIn n xs))
   where
-  here-is : drop (i - 1) (depsIn n xs) ≡ depIn (getD xs (i - 1) no-dependence) ∷ drop i (depsIn n xs)
-  here-is =
-      let e : suc (i - 1) ≡ i = omega arith in
-      rw e at (depsIn-at n xs (i - 1) no-dependence (omega arith) (omega (arith, deps-there n xs)))
+    here-is : drop (i - 1) (depsIn n xs) ≡ depIn (getD xs (i - 1) no-dependence) ∷ drop i (depsIn n xs)
+    here-is =
+        let e : suc (i - 1) ≡ i = omega arith in
+        rw e at (depsIn-at n xs (i - 1) no-dependence (omega arith) (omega (arith, deps-there n xs)))
 
-  pub fits-here : AllFit ps (depsIn n xs) → Fits ps (depIn (getD xs (i - 1) no-dependence))
-  fits-here f =
-      let e = depIn (getD xs (i - 1) no-dependence) in
-      f e (among-drop e (depsIn n xs) (drop i (depsIn n xs)) (i - 1) here-is)
+    pub fits-here : AllFit ps (depsIn n xs) → Fits ps (depIn (getD xs (i - 1) no-dependence))
+    fits-here f =
+        let e = depIn (getD xs (i - 1) no-dependence) in
+        f e (among-drop e (depsIn n xs) (drop i (depsIn n xs)) (i - 1) here-is)
 
-  pub collect-on :
-      (heights reach back has reach′ back′ has′ : List ℕ) → Collecting ps (depsIn n xs) heights i reach back has →
-      LinesRoom reach′ back′ has′ →
-      Entered ps heights (depIn (getD xs (i - 1) no-dependence)) reach back has reach′ back′ has′ →
-      Collecting ps (depsIn n xs) heights (i - 1) reach′ back′ has′
-  collect-on heights reach back has reach′ back′ has′ p r f =
-      record {
-        here = omega (arith, p .here);
-        rest = rw here-is (f (drop i (depsIn n xs)) (p .rest));
-        room = r;
-      }
+    pub collect-on :
+        (heights reach back has reach′ back′ has′ : List ℕ) → Collecting ps (depsIn n xs) heights i reach back has →
+        LinesRoom reach′ back′ has′ →
+        Entered ps heights (depIn (getD xs (i - 1) no-dependence)) reach back has reach′ back′ has′ →
+        Collecting ps (depsIn n xs) heights (i - 1) reach′ back′ has′
+    collect-on heights reach back has reach′ back′ has′ p r f =
+        record {
+          here = omega (arith, p .here);
+          rest = rw here-is (f (drop i (depsIn n xs)) (p .rest));
+          room = r;
+        }

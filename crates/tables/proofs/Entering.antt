@@ -110,62 +110,62 @@ module _ (ps : List ℕ) (w : Points ps) (heights : List ℕ) (tall : HeightsAre
       (eq-or d x)
 
   module _
-    (ds : List Dep) (e : Dep) (reach back has : List ℕ) (room : LinesRoom reach back has)
-    (p : Collected ps ds heights reach back has)
+      (ds : List Dep) (e : Dep) (reach back has : List ℕ) (room : LinesRoom reach back has)
+      (p : Collected ps ds heights reach back has)
     where
-    pub line-entered :
-        Line ps e → (x : ℕ) → x ≡ ownerFrom (suc (e .s)) (e .t) ps →
-        Collected ps (e ∷ ds) heights
-        (set reach (cell heights x (e .s + 1)) (min (e .t) (at reach (cell heights x (e .s + 1))))) back (set has x 1)
-    unfolding reachOf backOf
-    line-entered f x x-is =
-        record {
-          reach-is =
-              ends-lowered (startsAt ps) ds e reach (room .reach-room) x (e .s + 1) (o .loop) (omega (arith, o .below))
-              (omega (arith, o .holds, f .forward)) hit once (p .reach-is);
-          back-is = ends-kept ps heights (leavesAt ps) ds e back (λ d q. rw (f .kind-is)) (p .back-is);
-          has-is = has-more ds e has x (omega (arith, line-there e f x x-is .0, room .has-room)) home-is (p .has-is);
-        }
-      where
-        o : Owner ps (suc (e .s)) (e .t) x
-        o = line-home e f x x-is
+      pub line-entered :
+          Line ps e → (x : ℕ) → x ≡ ownerFrom (suc (e .s)) (e .t) ps →
+          Collected ps (e ∷ ds) heights
+          (set reach (cell heights x (e .s + 1)) (min (e .t) (at reach (cell heights x (e .s + 1))))) back (set has x 1)
+      unfolding reachOf backOf
+      line-entered f x x-is =
+          record {
+            reach-is =
+                ends-lowered (startsAt ps) ds e reach (room .reach-room) x (e .s + 1) (o .loop) (omega (arith, o .below))
+                (omega (arith, o .holds, f .forward)) hit once (p .reach-is);
+            back-is = ends-kept ps heights (leavesAt ps) ds e back (λ d q. rw (f .kind-is)) (p .back-is);
+            has-is = has-more ds e has x (omega (arith, line-there e f x x-is .0, room .has-room)) home-is (p .has-is);
+          }
+        where
+          o : Owner ps (suc (e .s)) (e .t) x
+          o = line-home e f x x-is
 
-        home-is : homeOf ps e ≡ x
-        home-is = rw (f .kind-is) (sym x-is)
+          home-is : homeOf ps e ≡ x
+          home-is = rw (f .kind-is) (sym x-is)
 
-        hit : startsAt ps x (e .s + 1) e ≡ true
-        hit =
-            and-intro (eq-eqb (e .kind) INDEPENDENT (f .kind-is))
-            (and-intro (eq-eqb (homeOf ps e) x home-is) (eq-eqb (suc (e .s)) (e .s + 1) (omega arith)))
+          hit : startsAt ps x (e .s + 1) e ≡ true
+          hit =
+              and-intro (eq-eqb (e .kind) INDEPENDENT (f .kind-is))
+              (and-intro (eq-eqb (homeOf ps e) x home-is) (eq-eqb (suc (e .s)) (e .s + 1) (omega arith)))
 
-        once : (d q : ℕ) → startsAt ps d q e ≡ true → (d ≡ x) × (q ≡ e .s + 1)
-        once d q h =
-            let y = and-true (eqb (e .kind) INDEPENDENT) (eqb (homeOf ps e) d && eqb (suc (e .s)) q) h in
-            let z = and-true (eqb (homeOf ps e) d) (eqb (suc (e .s)) q) (y .1) in
-            (sym (eqb-true (homeOf ps e) d (z .0)) ∙ home-is, omega (arith, eqb-true (suc (e .s)) q (z .1)))
+          once : (d q : ℕ) → startsAt ps d q e ≡ true → (d ≡ x) × (q ≡ e .s + 1)
+          once d q h =
+              let y = and-true (eqb (e .kind) INDEPENDENT) (eqb (homeOf ps e) d && eqb (suc (e .s)) q) h in
+              let z = and-true (eqb (homeOf ps e) d) (eqb (suc (e .s)) q) (y .1) in
+              (sym (eqb-true (homeOf ps e) d (z .0)) ∙ home-is, omega (arith, eqb-true (suc (e .s)) q (z .1)))
 
-    pub back-entered :
-        Back ps e →
-        Collected ps (e ∷ ds) heights reach
-        (set back (cell heights (e .d) (e .s)) (min (e .t) (at back (cell heights (e .d) (e .s))))) (set has (e .d) 1)
-    unfolding reachOf backOf
-    back-entered f =
-        record {
-          reach-is = ends-kept ps heights (startsAt ps) ds e reach (λ d q. rw (f .kind-is)) (p .reach-is);
-          back-is =
-              ends-lowered (leavesAt ps) ds e back (room .limit-room) (e .d) (e .s) (f .loop) (f .source-after)
-              (omega (arith, f .source-before)) hit once (p .back-is);
-          has-is = has-more ds e has (e .d) (omega (arith, back-there e f .0, room .has-room)) home-is (p .has-is);
-        }
-      where
-        home-is : homeOf ps e ≡ e .d
-        home-is = rw (f .kind-is)
+      pub back-entered :
+          Back ps e →
+          Collected ps (e ∷ ds) heights reach
+          (set back (cell heights (e .d) (e .s)) (min (e .t) (at back (cell heights (e .d) (e .s))))) (set has (e .d) 1)
+      unfolding reachOf backOf
+      back-entered f =
+          record {
+            reach-is = ends-kept ps heights (startsAt ps) ds e reach (λ d q. rw (f .kind-is)) (p .reach-is);
+            back-is =
+                ends-lowered (leavesAt ps) ds e back (room .limit-room) (e .d) (e .s) (f .loop) (f .source-after)
+                (omega (arith, f .source-before)) hit once (p .back-is);
+            has-is = has-more ds e has (e .d) (omega (arith, back-there e f .0, room .has-room)) home-is (p .has-is);
+          }
+        where
+          home-is : homeOf ps e ≡ e .d
+          home-is = rw (f .kind-is)
 
-        hit : leavesAt ps (e .d) (e .s) e ≡ true
-        hit = rw (f .kind-is) (and-intro (eq-eqb (e .d) (e .d) refl) (eq-eqb (e .s) (e .s) refl))
+          hit : leavesAt ps (e .d) (e .s) e ≡ true
+          hit = rw (f .kind-is) (and-intro (eq-eqb (e .d) (e .d) refl) (eq-eqb (e .s) (e .s) refl))
 
-        once : (d q : ℕ) → leavesAt ps d q e ≡ true → (d ≡ e .d) × (q ≡ e .s)
-        once d q h =
-            let y = and-true (not (eqb (e .kind) INDEPENDENT)) (eqb (homeOf ps e) d && eqb (e .s) q) h in
-            let z = and-true (eqb (homeOf ps e) d) (eqb (e .s) q) (y .1) in
-            (sym (eqb-true (homeOf ps e) d (z .0)) ∙ home-is, sym (eqb-true (e .s) q (z .1)))
+          once : (d q : ℕ) → leavesAt ps d q e ≡ true → (d ≡ e .d) × (q ≡ e .s)
+          once d q h =
+              let y = and-true (not (eqb (e .kind) INDEPENDENT)) (eqb (homeOf ps e) d && eqb (e .s) q) h in
+              let z = and-true (eqb (homeOf ps e) d) (eqb (e .s) q) (y .1) in
+              (sym (eqb-true (homeOf ps e) d (z .0)) ∙ home-is, sym (eqb-true (e .s) q (z .1)))

@@ -149,67 +149,67 @@ limits-done ps w ds heights i limit l p d q h =
     p .done d q h (omega (arith, end-there ps (w .shape) d h, end-after ps (w .shape) d h))
 
 module _
-  (ps : List ℕ) (w : Points ps) (ds : List Dep) (heights : List ℕ) (i : ℕ) (limit : List ℕ)
-  (p : Limiting ps ds heights i limit)
+    (ps : List ℕ) (w : Points ps) (ds : List Dep) (heights : List ℕ) (i : ℕ) (limit : List ℕ)
+    (p : Limiting ps ds heights i limit)
   where
-  pub limits-skip : (getD ps i 0 ≡ 1 → ⊥) → Limiting ps ds heights (i + 1) limit
-  limits-skip k =
-      record {
-        done = λ d q h l. p .done d q h (before d h l);
-        todo = λ d q h l. p .todo d q h (omega arith);
-      }
-    where
-      before : (d : ℕ) → isDo ps d ≡ true → d < i + 1 → d < i
-      before d h l = ⊎-elim
-          (λ (z : d ≡ i). never-both (rw z at h) (ne-eqb (getD ps i 0) 1 k))
-          (λ (z : d ≡ i → ⊥). omega arith)
-          (eq-or d i)
+    pub limits-skip : (getD ps i 0 ≡ 1 → ⊥) → Limiting ps ds heights (i + 1) limit
+    limits-skip k =
+        record {
+          done = λ d q h l. p .done d q h (before d h l);
+          todo = λ d q h l. p .todo d q h (omega arith);
+        }
+      where
+        before : (d : ℕ) → isDo ps d ≡ true → d < i + 1 → d < i
+        before d h l = ⊎-elim
+            (λ (z : d ≡ i). never-both (rw z at h) (ne-eqb (getD ps i 0) 1 k))
+            (λ (z : d ≡ i → ⊥). omega arith)
+            (eq-or d i)
 
-  pub limits-on :
-      HeightsAre ps heights → AllFit ps ds → getD ps i 0 ≡ 1 → (e : ℕ) → e ≡ endOf ps i → (limit′ : List ℕ) →
-      Narrowed limit (at heights i * ROW) i e limit′ → Limiting ps ds heights (i + 1) limit′
-  limits-on tall fit k e e-is limit′ n = record { done = done; todo = todo }
-    where
-      is-do : isDo ps i ≡ true
-      is-do = eq-eqb (getD ps i 0) 1 k
+    pub limits-on :
+        HeightsAre ps heights → AllFit ps ds → getD ps i 0 ≡ 1 → (e : ℕ) → e ≡ endOf ps i → (limit′ : List ℕ) →
+        Narrowed limit (at heights i * ROW) i e limit′ → Limiting ps ds heights (i + 1) limit′
+    limits-on tall fit k e e-is limit′ n = record { done = done; todo = todo }
+      where
+        is-do : isDo ps i ≡ true
+        is-do = eq-eqb (getD ps i 0) 1 k
 
-      here : (q : ℕ) → i < q → q ≤ endOf ps i → at limit′ (cell heights i q) ≡ limitOf ps ds i q
-      here q l m =
-          let row = at heights i * ROW in
-          let n′ : Narrowed limit row i (endOf ps i) limit′ = rw e-is at n in
-          n′ .inside q (endOf ps i - q) l (omega arith) ∙
-          lowest-is-limit ps w ds fit i is-do (λ j. at limit (row + j)) (suc (endOf ps i - q)) q l (omega arith)
-          (λ j a b. p .todo i j is-do (omega arith) a b)
+        here : (q : ℕ) → i < q → q ≤ endOf ps i → at limit′ (cell heights i q) ≡ limitOf ps ds i q
+        here q l m =
+            let row = at heights i * ROW in
+            let n′ : Narrowed limit row i (endOf ps i) limit′ = rw e-is at n in
+            n′ .inside q (endOf ps i - q) l (omega arith) ∙
+            lowest-is-limit ps w ds fit i is-do (λ j. at limit (row + j)) (suc (endOf ps i - q)) q l (omega arith)
+            (λ j a b. p .todo i j is-do (omega arith) a b)
 
-      -- a cell of another loop lies outside the row
-      apart :
-          (d q : ℕ) → isDo ps d ≡ true → (d ≡ i → ⊥) → d < q → q ≤ endOf ps d →
-          (cell heights d q ≤ cell heights i i) ⊎ (cell heights i e < cell heights d q)
-      apart d q h x l m = ⊎-elim
-          (λ (y : cell heights d q ≤ cell heights i i). inl y)
-          (λ (y : cell heights i i < cell heights d q). ⊎-elim
-          (λ (z : cell heights d q ≤ cell heights i e).
-          let r = cell heights d q - at heights i * ROW in
-          let s : cell heights d q ≡ cell heights i r = omega arith in
-          absurd (x (same-cell ps w heights tall d q i r h l m is-do (omega arith) (omega arith) s .0)))
-          (λ (z : cell heights i e < cell heights d q). inr z)
-          (le-or (cell heights d q) (cell heights i e)))
-          (le-or (cell heights d q) (cell heights i i))
+        -- a cell of another loop lies outside the row
+        apart :
+            (d q : ℕ) → isDo ps d ≡ true → (d ≡ i → ⊥) → d < q → q ≤ endOf ps d →
+            (cell heights d q ≤ cell heights i i) ⊎ (cell heights i e < cell heights d q)
+        apart d q h x l m = ⊎-elim
+            (λ (y : cell heights d q ≤ cell heights i i). inl y)
+            (λ (y : cell heights i i < cell heights d q). ⊎-elim
+            (λ (z : cell heights d q ≤ cell heights i e).
+            let r = cell heights d q - at heights i * ROW in
+            let s : cell heights d q ≡ cell heights i r = omega arith in
+            absurd (x (same-cell ps w heights tall d q i r h l m is-do (omega arith) (omega arith) s .0)))
+            (λ (z : cell heights i e < cell heights d q). inr z)
+            (le-or (cell heights d q) (cell heights i e)))
+            (le-or (cell heights d q) (cell heights i i))
 
-      elsewhere :
-          (d q : ℕ) → isDo ps d ≡ true → (d ≡ i → ⊥) → d < q → q ≤ endOf ps d →
-          at limit′ (cell heights d q) ≡ at limit (cell heights d q)
-      elsewhere d q h x l m = n .outside (cell heights d q) (apart d q h x l m)
+        elsewhere :
+            (d q : ℕ) → isDo ps d ≡ true → (d ≡ i → ⊥) → d < q → q ≤ endOf ps d →
+            at limit′ (cell heights d q) ≡ at limit (cell heights d q)
+        elsewhere d q h x l m = n .outside (cell heights d q) (apart d q h x l m)
 
-      done :
-          (d q : ℕ) → isDo ps d ≡ true → d < i + 1 → d < q → q ≤ endOf ps d →
-          at limit′ (cell heights d q) ≡ limitOf ps ds d q
-      done d q h a l m = ⊎-elim
-          (λ (z : d ≡ i). rw z (here q (omega arith) (rw z at m)))
-          (λ (z : d ≡ i → ⊥). elsewhere d q h z l m ∙ p .done d q h (omega arith) l m)
-          (eq-or d i)
+        done :
+            (d q : ℕ) → isDo ps d ≡ true → d < i + 1 → d < q → q ≤ endOf ps d →
+            at limit′ (cell heights d q) ≡ limitOf ps ds d q
+        done d q h a l m = ⊎-elim
+            (λ (z : d ≡ i). rw z (here q (omega arith) (rw z at m)))
+            (λ (z : d ≡ i → ⊥). elsewhere d q h z l m ∙ p .done d q h (omega arith) l m)
+            (eq-or d i)
 
-      todo :
-          (d q : ℕ) → isDo ps d ≡ true → i + 1 ≤ d → d < q → q ≤ endOf ps d →
-          at limit′ (cell heights d q) ≡ backOf ps ds d q
-      todo d q h a l m = elsewhere d q h (λ z. omega arith) l m ∙ p .todo d q h (omega arith) l m
+        todo :
+            (d q : ℕ) → isDo ps d ≡ true → i + 1 ≤ d → d < q → q ≤ endOf ps d →
+            at limit′ (cell heights d q) ≡ backOf ps ds d q
+        todo d q h a l m = elsewhere d q h (λ z. omega arith) l m ∙ p .todo d q h (omega arith) l m

@@ -50,7 +50,8 @@ unfoldable pub lowestFrom : (ℕ → ℕ) → ℕ → ℕ → ℕ → ℕ
 lowestFrom f e zero q = e
 lowestFrom f e (suc k) q = min (f q) (lowestFrom f e k (suc q))
 
--- in xs′ each entry of d + 1 … e, counted from base, is the least from there to e, and at most e; the others are as in xs
+-- in xs′ each entry of d + 1 … e, counted from base, is the least from there to e, and at most e; the others are those
+-- of xs
 pub record Narrowed (xs : List ℕ) (base d e : ℕ) (xs′ : List ℕ) : Type 0 where
   pub inside
       : (q k : ℕ)

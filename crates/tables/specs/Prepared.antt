@@ -10,6 +10,7 @@ use Rattle.nests.specs.Loops.{isDo}
 use Rattle.planner.specs.Home.{reachOf, limitOf, hasAt}
 use Rattle.tables.specs.Charts.{at, Rows, Charted}
 
+-- the loops; in the row of each loop its reach and its limits; 1 for each loop that is some dependence's home, else 0
 pub record Prepared (ps : List ℕ) (ds : List Dep) (own ends heights reach limit has : List ℕ) : Type 0 where
   pub charted : Charted ps own ends heights
   pub reach-is : Rows ps heights reach (reachOf ps ds)

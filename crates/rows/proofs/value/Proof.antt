@@ -4,7 +4,7 @@ use Prim.Native.Nat.{min}
 use lib.ListN.{length-set, set}
 use Rattle.sweeps.specs.Listed.{at, SweepSays}
 use borrow.Author.Needs.{needs}
-use Rattle.rows.proofs.Values.{closed, opened, put-back}
+use Rattle.rows.proofs.Suffix.{closed, opened, put-back}
 use Rattle.rows.proofs.value.Statement.{statement}
 use Rattle.rows.proofs.value.Tie as tie
 use Rattle.rows.proofs.value.Reads as reads

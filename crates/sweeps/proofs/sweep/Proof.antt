@@ -2,8 +2,11 @@ use mathlib.Core.Path.{_≡_}
 use mathlib.Core.Bool.{Bool}
 use Prim.Native.Nat.{ℕ, _+_, _-_, _≤_}
 use native.Mathlib.Omega.{arith}
+use lib.Dec.{ltb}
 use lib.ListN.{getD}
-use Rattle.sweeps.proofs.Turns.{Turn, begin, on-put, on-skip, on-child, done}
+use Rattle.planner.specs.Sweep.{bare, only, also}
+use Rattle.sweeps.specs.Listed.{at, laid}
+use Rattle.sweeps.proofs.Turns.{Turn, begin, on-put, on-skip, on-child, done, swept}
 use Rattle.sweeps.proofs.sweep.Statement.{statement}
 use Rattle.sweeps.proofs.sweep.Tie as tie
 use Rattle.sweeps.proofs.sweep.Reads as reads
@@ -12,7 +15,7 @@ use Rattle.sweeps.proofs.step_child.Reads as step-child-reads
 
 abbrev Inv-loop : tie.InvT-loop
 Inv-loop points own need left kids d e c₀ f₀ p₀ c f p =
-    (p ≤ e) × (c + p ≤ e) × ((lay : ℕ → ℕ → ℕ → Bool) → Turn points own need left kids d e lay p c f)
+    (p ≤ e) × (c + p ≤ e) × ((lay : ℕ → ℕ → ℕ → Bool) → (w : ℕ → Bool) × Turn points own need left kids d e lay p c f w)
 
 abbrev μ-loop : tie.MeasureT-loop
 μ-loop points own need left kids d e c₀ f₀ p₀ c f p = p
@@ -23,7 +26,7 @@ add-f c = omega arith
 loop-holds : tie.Need-loop-holds Inv-loop μ-loop
 loop-holds c =
     let i = c .before .before .before .before .args in
-    (omega arith, omega arith, begin (i .points .now) (i .own .now) (i .need .now) (i .left .now) (i .kids) (i .d) (i .e))
+    (omega arith, omega arith, λ lay. (bare, begin (i .points .now) (i .own .now) (i .need .now) (i .left .now) (i .kids) (i .d) (i .e) lay))
 
 sub-before : tie.Need-sub-before Inv-loop μ-loop
 sub-before c = omega arith
@@ -54,7 +57,7 @@ loop-again c =
     let test : getD (i .points .now) (l .p - 1) 0 ≡ 2 = c .before .before .if1 .taken in (
       omega arith,
       omega (arith, s .ensures .grows),
-      λ lay. on-child (i .points .now) (i .own .now) (i .need .now) (i .left .now) (i .kids) (i .d) (i .e) lay (l .p) (l .c) (l .f) (s .result .c) (s .result .f) (s .result .ask) (omega arith) test low (s .ensures) (l .inv .2 lay),
+      λ lay. (laid (ltb (l .c) (s .result .c)) (l .p - 1) (lay (at (i .own .now) (l .p - 1)) (s .result .ask)) (l .inv .2 lay .0), on-child (i .points .now) (i .own .now) (i .need .now) (i .left .now) (i .kids) (i .d) (i .e) lay (l .p) (l .c) (l .f) (s .result .c) (s .result .f) (s .result .ask) (l .inv .2 lay .0) (omega arith) test low (s .ensures) (l .inv .2 lay .1)),
     )
 
 mul-if2 : tie.Need-mul-if2 Inv-loop μ-loop
@@ -75,7 +78,7 @@ loop-again-2 c =
     let l = c .before .before .before .before .before .loop in (
       omega arith,
       omega arith,
-      λ lay. on-put (i .points .now) (i .own .now) (i .need .now) (i .left .now) (i .kids) (i .d) (i .e) lay (l .p) (l .c) (l .f) (omega arith) (c .before .before .if1 .left) (c .if2 .taken) (l .inv .2 lay),
+      λ lay. (also (only (l .p)) (l .inv .2 lay .0), on-put (i .points .now) (i .own .now) (i .need .now) (i .left .now) (i .kids) (i .d) (i .e) lay (l .p) (l .c) (l .f) (l .inv .2 lay .0) (omega arith) (c .before .before .if1 .left) (c .if2 .taken) (l .inv .2 lay .1)),
     )
 
 loop-less-3 : tie.Need-loop-less-3 Inv-loop μ-loop
@@ -87,7 +90,7 @@ loop-again-3 c =
     let l = c .before .before .before .before .before .loop in (
       omega arith,
       omega arith,
-      λ lay. on-skip (i .points .now) (i .own .now) (i .need .now) (i .left .now) (i .kids) (i .d) (i .e) lay (l .p) (l .c) (l .f) (omega arith) (c .before .before .if1 .left) (c .if2 .left) (l .inv .2 lay),
+      λ lay. (l .inv .2 lay .0, on-skip (i .points .now) (i .own .now) (i .need .now) (i .left .now) (i .kids) (i .d) (i .e) lay (l .p) (l .c) (l .f) (l .inv .2 lay .0) (omega arith) (c .before .before .if1 .left) (c .if2 .left) (l .inv .2 lay .1)),
     )
 
 returns : tie.Need-returns Inv-loop μ-loop
@@ -95,7 +98,7 @@ returns c =
     let i = c .before .before .before .before .before .before .args in
     let l = c .before .loop in (
       omega arith,
-      λ lay. done (i .points .now) (i .own .now) (i .need .now) (i .left .now) (i .kids) (i .d) (i .e) lay (l .p) (l .c) (l .f) (omega arith) (l .inv .2 lay),
+      λ lay. swept (i .points .now) (i .own .now) (i .need .now) (i .left .now) (i .kids) (i .d) (i .e) lay (l .c) (l .f) (l .inv .2 lay .0) (done (i .points .now) (i .own .now) (i .need .now) (i .left .now) (i .kids) (i .d) (i .e) lay (l .p) (l .c) (l .f) (l .inv .2 lay .0) (omega arith) (l .inv .2 lay .1)),
     )
 
 pub sweep-spec : {M : Type 1} → statement M

@@ -21,12 +21,14 @@ fill-requires : tie.Need-fill-requires Inv-loop μ-loop
 fill-requires c κs = search needs
 
 loop-holds : tie.Need-loop-holds Inv-loop μ-loop
-loop-holds c = 
+loop-holds c =
     let a = c .before .before .before .before .before .before .before .before .args in
     let f = c .before .before .fill in
-    let room = c .before .before .before .before .before .before .before .before .pre .1 in
-    (chart-start (a .points .now) (f .last .0) (a .ends .now) (a .heights .now)
-    (all-zero (f .last .0) (length (a .own .now)) (omega arith) (f .ensures)) (search needs), (refl, (refl, refl)))
+    let room = c .before .before .before .before .before .before .before .before .pre .1 in (
+      chart-start (a .points .now) (f .last .0) (a .ends .now) (a .heights .now)
+          (all-zero (f .last .0) (length (a .own .now)) (omega arith) (f .ensures)) (search needs),
+      (refl, (refl, refl)),
+    )
 
 mul-own : tie.Need-mul-own Inv-loop μ-loop
 mul-own c = search needs
@@ -44,11 +46,12 @@ slice-write-heights : tie.Need-slice-write-heights Inv-loop μ-loop
 slice-write-heights c = search needs
 
 sub-h : tie.Need-sub-h Inv-loop μ-loop
-sub-h c = 
+sub-h c =
     let a = c .before .before .before .before .before .before .before .before .before .before .before .before .args in
     let w = c .before .before .before .before .before .before .before .before .before .before .before .before .pre .0 in
     let l = c .before .before .before .loop in
-    height-there (a .points .now) w (l .i) (l .o) (l .h) (l .own) (l .ends) (l .heights) (l .inv .0) (omega arith) (c .if1 .taken)
+    height-there (a .points .now) w (l .i) (l .o) (l .h) (l .own) (l .ends) (l .heights) (l .inv .0)
+    (omega arith) (c .if1 .taken)
 
 add-i : tie.Need-add-i Inv-loop μ-loop
 add-i c = search needs
@@ -57,11 +60,14 @@ loop-less : tie.Need-loop-less Inv-loop μ-loop
 loop-less c = search needs
 
 loop-again : tie.Need-loop-again Inv-loop μ-loop
-loop-again c = 
+loop-again c =
     let a = c .before .before .before .before .before .before .before .before .before .before .before .before .args in
     let w = c .before .before .before .before .before .before .before .before .before .before .before .before .pre .0 in
-    let l = c .before .before .before .loop in
-    (on-do (a .points .now) w (l .i) (l .o) (l .h) (l .own) (l .ends) (l .heights) (l .inv .0) (omega arith) (c .if1 .taken), simp length-set (omega arith))
+    let l = c .before .before .before .loop in (
+      on-do (a .points .now) w (l .i) (l .o) (l .h) (l .own) (l .ends) (l .heights) (l .inv .0)
+          (omega arith) (c .if1 .taken),
+      simp length-set (omega arith),
+    )
 
 mul-ends : tie.Need-mul-ends Inv-loop μ-loop
 mul-ends c = search needs
@@ -85,11 +91,14 @@ loop-less-2 : tie.Need-loop-less-2 Inv-loop μ-loop
 loop-less-2 c = search needs
 
 loop-again-2 : tie.Need-loop-again-2 Inv-loop μ-loop
-loop-again-2 c = 
+loop-again-2 c =
     let a = c .before .before .before .before .before .before .before .before .before .before .before .before .before .before .args in
     let w = c .before .before .before .before .before .before .before .before .before .before .before .before .before .before .pre .0 in
-    let l = c .before .before .before .before .before .loop in
-    (on-end (a .points .now) w (l .i) (l .o) (l .h) (l .own) (l .ends) (l .heights) (l .inv .0) (omega arith) (c .before .before .if1 .left) (c .before .if2 .taken), simp length-set (omega arith))
+    let l = c .before .before .before .before .before .loop in (
+      on-end (a .points .now) w (l .i) (l .o) (l .h) (l .own) (l .ends) (l .heights) (l .inv .0)
+          (omega arith) (c .before .before .if1 .left) (c .before .if2 .taken),
+      simp length-set (omega arith),
+    )
 
 add-i-3 : tie.Need-add-i-3 Inv-loop μ-loop
 add-i-3 c = search needs
@@ -98,11 +107,14 @@ loop-less-3 : tie.Need-loop-less-3 Inv-loop μ-loop
 loop-less-3 c = search needs
 
 loop-again-3 : tie.Need-loop-again-3 Inv-loop μ-loop
-loop-again-3 c = 
+loop-again-3 c =
     let a = c .before .before .before .before .before .before .before .before .before .before .before .before .before .args in
     let w = c .before .before .before .before .before .before .before .before .before .before .before .before .before .pre .0 in
-    let l = c .before .before .before .before .loop in
-    (on-plain (a .points .now) w (l .i) (l .o) (l .h) (l .own) (l .ends) (l .heights) (l .inv .0) (omega arith) (c .before .if1 .left) (c .if2 .left), simp length-set (omega arith))
+    let l = c .before .before .before .before .loop in (
+      on-plain (a .points .now) w (l .i) (l .o) (l .h) (l .own) (l .ends) (l .heights) (l .inv .0)
+          (omega arith) (c .before .if1 .left) (c .if2 .left),
+      simp length-set (omega arith),
+    )
 
 same-length : tie.Need-same-length Inv-loop μ-loop
 same-length c = search needs
@@ -114,11 +126,12 @@ same-length-3 : tie.Need-same-length-3 Inv-loop μ-loop
 same-length-3 c = search needs
 
 returns : tie.Need-returns Inv-loop μ-loop
-returns c = 
+returns c =
     let a = c .before .before .before .before .before .before .before .before .before .before .args in
     let w = c .before .before .before .before .before .before .before .before .before .before .pre .0 in
     let l = c .before .loop in
-    chart-done (a .points .now) w (l .i) (l .o) (l .h) (l .own) (l .ends) (l .heights) (c .loop-test .left) (l .inv .0)
+    chart-done (a .points .now) w (l .i) (l .o) (l .h) (l .own) (l .ends) (l .heights)
+    (c .loop-test .left) (l .inv .0)
 
 pub chart-spec : {M : Type 1} → statement M
 chart-spec =

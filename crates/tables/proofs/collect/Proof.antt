@@ -33,15 +33,16 @@ loop-holds c =
     let w = s .pre in
     let r = c .before .before .before .before .before .before .before .before .before .before .fill in
     let b = c .before .before .before .before .before .before .fill2 in
-    let h = c .before .before .fill3 in
-    (collect-start (a .points .now) (w .0) (a .heights .now) (w .1 .0 .heights-are)
-    (depsIn (a .t1 .many) (a .t1 .deps)) (a .t1 .many) (w .1 .1 .1 .1 .0 .many-is) (r .last .0) (b .last .0)
-    (h .last .0)
-    (room-kept (a .reach .now) (a .back .now) (a .has .now) (r .last .0) (b .last .0) (h .last .0) (w .1 .1 .1 .0)
-    (r .kept .0) (b .kept .0) (h .kept .0))
-    (λ k l. r .ensures k (omega (arith, r .kept .0))) (λ k l. b .ensures k (omega (arith, b .kept .0)))
-    (λ k l. h .ensures k (omega (arith, h .kept .0))),
-    (refl, (refl, refl)))
+    let h = c .before .before .fill3 in (
+      collect-start (a .points .now) (w .0) (a .heights .now) (w .1 .0 .heights-are)
+          (depsIn (a .t1 .many) (a .t1 .deps)) (a .t1 .many) (w .1 .1 .1 .1 .0 .many-is) (r .last .0) (b .last .0)
+          (h .last .0)
+          (room-kept (a .reach .now) (a .back .now) (a .has .now) (r .last .0) (b .last .0) (h .last .0) (w .1 .1 .1 .0)
+          (r .kept .0) (b .kept .0) (h .kept .0))
+          (λ k l. r .ensures k (omega (arith, r .kept .0))) (λ k l. b .ensures k (omega (arith, b .kept .0)))
+          (λ k l. h .ensures k (omega (arith, h .kept .0))),
+      (refl, (refl, refl)),
+    )
 
 sub-i : tie.Need-sub-i Inv-loop μ-loop
 sub-i c = search needs
@@ -57,13 +58,20 @@ enter-requires c κs =
     let l = c .before .before .before .before .before .loop in
     let s = c .before .before .before .before .before .before .before .before .before .before .before .before .before .before .before .before .before .before .before .before .before .before .before .before .before in
     let a = s .args in
-    let w = s .pre in
-    (w .0,
-    (w .1 .0,
-    (w .1 .1 .0,
-    (l .inv .0 .room,
-    fits-here (a .points .now) (a .t1 .many) (a .t1 .deps) (w .1 .1 .1 .1 .0 .many-is) (l .i) (c .before .before .before .before .loop-test .taken)
-    (l .inv .0 .here) (w .1 .1 .1 .1 .1)))))
+    let w = s .pre in (
+      w .0,
+      (
+        w .1 .0,
+        (
+          w .1 .1 .0,
+          (
+            l .inv .0 .room,
+            fits-here (a .points .now) (a .t1 .many) (a .t1 .deps) (w .1 .1 .1 .1 .0 .many-is) (l .i) (c .before .before .before .before .loop-test .taken)
+                (l .inv .0 .here) (w .1 .1 .1 .1 .1),
+          ),
+        ),
+      ),
+    )
 
 loop-less : tie.Need-loop-less Inv-loop μ-loop
 loop-less c = search needs
@@ -77,13 +85,14 @@ loop-again c =
     let reach = e .last .1 .1 .1 .1 .0 in
     let back = e .last .1 .1 .1 .1 .1 .0 in
     let has = e .last .1 .1 .1 .1 .1 .1 .0 in
-    let k = e .kept .1 .1 .1 .1 in
-    (collect-on (a .points .now) (a .t1 .many) (a .t1 .deps) (s .pre .1 .1 .1 .1 .0 .many-is) (l .i)
-    (c .before .before .before .before .before .before .before .before .before .before .before .loop-test .taken) (l .inv .0 .here) (a .heights .now) (l .reach) (l .back) (l .has) reach back has
-    (l .inv .0)
-    (room-kept (l .reach) (l .back) (l .has) reach back has (l .inv .0 .room) (k .0) (k .1 .0) (k .1 .1 .0))
-    (e .ensures),
-    (omega (arith, k .0, l .inv .1 .0), (omega (arith, k .1 .0, l .inv .1 .1 .0), omega (arith, k .1 .1 .0, l .inv .1 .1 .1))))
+    let k = e .kept .1 .1 .1 .1 in (
+      collect-on (a .points .now) (a .t1 .many) (a .t1 .deps) (s .pre .1 .1 .1 .1 .0 .many-is) (l .i)
+          (c .before .before .before .before .before .before .before .before .before .before .before .loop-test .taken) (l .inv .0 .here) (a .heights .now) (l .reach) (l .back) (l .has) reach back has
+          (l .inv .0)
+          (room-kept (l .reach) (l .back) (l .has) reach back has (l .inv .0 .room) (k .0) (k .1 .0) (k .1 .1 .0))
+          (e .ensures),
+      (omega (arith, k .0, l .inv .1 .0), (omega (arith, k .1 .0, l .inv .1 .1 .0), omega (arith, k .1 .1 .0, l .inv .1 .1 .1))),
+    )
 
 same-length : tie.Need-same-length Inv-loop μ-loop
 same-length c = search needs

@@ -48,10 +48,13 @@ cast-t c = search needs
 home-of-requires : tie.Need-home-of-requires
 home-of-requires c κs =
     let w = c .before .before .before .before .before .before .before .before .before .before .before .pre in
-    let f = line-at c in
-    (w .0,
-    (w .1 .0 .own-is,
-    (w .1 .0 .ends-are, (w .1 .1 .0 .own-room, (w .1 .1 .0 .ends-room, (f .forward, f .target-there))))))
+    let f = line-at c in (
+      w .0,
+      (
+        w .1 .0 .own-is,
+        (w .1 .0 .ends-are, (w .1 .1 .0 .own-room, (w .1 .1 .0 .ends-room, (f .forward, f .target-there)))),
+      ),
+    )
 
 mul-lower : tie.Need-mul-lower
 mul-lower c = omega (arith, home-at (c .before))

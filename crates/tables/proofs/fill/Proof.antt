@@ -34,9 +34,12 @@ loop-less c = search needs
 loop-again : tie.Need-loop-again Inv-loop μ-loop
 loop-again c =
     let l = c .before .loop in
-    let v = c .before .before .args .v in
-    (simp length-set (omega arith), simp length-set (omega arith), entries-more (l .xs) (l .i) v (λ k x. x ≡ v)
-    (omega arith) (l .inv .2) refl)
+    let v = c .before .before .args .v in (
+      simp length-set (omega arith),
+      simp length-set (omega arith),
+      entries-more (l .xs) (l .i) v (λ k x. x ≡ v)
+          (omega arith) (l .inv .2) refl,
+    )
 
 same-length : tie.Need-same-length Inv-loop μ-loop
 same-length c = search needs

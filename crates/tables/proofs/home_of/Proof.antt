@@ -21,12 +21,19 @@ shared-slice-read-if1 : tie.Need-shared-slice-read-if1 Inv-loop μ-loop
 shared-slice-read-if1 c = search needs
 
 loop-holds : tie.Need-loop-holds Inv-loop μ-loop
-loop-holds c = 
+loop-holds c =
     let a = c .before .before .before .args in
     let w = c .before .before .before .pre in
+    let u = w .1 .1 .1 .1 .1 in
     ⊎-elim
-    (λ x. rw (x .1) (climb-from-do (a .points .now) (w .0) (a .own .now) (a .ends .now) (w .1 .0) (w .1 .1 .0) (a .s) (a .t) (w .1 .1 .1 .1 .1 .0) (w .1 .1 .1 .1 .1 .1) (x .0 .taken)))
-    (λ x. rw (x .1) (climb-from-owner (a .points .now) (w .0) (a .own .now) (a .ends .now) (w .1 .0) (w .1 .1 .0) (a .s) (a .t) (w .1 .1 .1 .1 .1 .0) (w .1 .1 .1 .1 .1 .1) (x .0 .left)))
+    (λ x.
+    rw (x .1)
+    (climb-from-do (a .points .now) (w .0) (a .own .now) (a .ends .now) (w .1 .0) (w .1 .1 .0) (a .s) (a .t) (u .0) (u .1)
+    (x .0 .taken)))
+    (λ x.
+    rw (x .1)
+    (climb-from-owner (a .points .now) (w .0) (a .own .now) (a .ends .now) (w .1 .0) (w .1 .1 .0) (a .s) (a .t) (u .0) (u .1)
+    (x .0 .left)))
     (c .if1 .came)
 
 mul-if2 : tie.Need-mul-if2 Inv-loop μ-loop
@@ -42,25 +49,31 @@ shared-slice-read-l-2 : tie.Need-shared-slice-read-l-2 Inv-loop μ-loop
 shared-slice-read-l-2 c = search needs
 
 loop-less : tie.Need-loop-less Inv-loop μ-loop
-loop-less c = 
+loop-less c =
     let a = c .before .before .before .before .before .before .before .before .args in
     let w = c .before .before .before .before .before .before .before .before .pre in
+    let u = w .1 .1 .1 .1 .1 in
     let l = c .before .before .before .before .loop in
-    climb-falls (a .points .now) (w .0) (a .own .now) (a .ends .now) (w .1 .0) (w .1 .1 .0) (a .s) (a .t) (w .1 .1 .1 .1 .1 .0) (w .1 .1 .1 .1 .1 .1) (l .l) (l .inv) (c .before .before .if2 .taken)
+    climb-falls (a .points .now) (w .0) (a .own .now) (a .ends .now) (w .1 .0) (w .1 .1 .0) (a .s) (a .t) (u .0) (u .1)
+    (l .l) (l .inv) (c .before .before .if2 .taken)
 
 loop-again : tie.Need-loop-again Inv-loop μ-loop
-loop-again c = 
+loop-again c =
     let a = c .before .before .before .before .before .before .before .before .args in
     let w = c .before .before .before .before .before .before .before .before .pre in
+    let u = w .1 .1 .1 .1 .1 in
     let l = c .before .before .before .before .loop in
-    climb-on (a .points .now) (w .0) (a .own .now) (a .ends .now) (w .1 .0) (w .1 .1 .0) (a .s) (a .t) (w .1 .1 .1 .1 .1 .0) (w .1 .1 .1 .1 .1 .1) (l .l) (l .inv) (c .before .before .if2 .taken)
+    climb-on (a .points .now) (w .0) (a .own .now) (a .ends .now) (w .1 .0) (w .1 .1 .0) (a .s) (a .t) (u .0) (u .1)
+    (l .l) (l .inv) (c .before .before .if2 .taken)
 
 returns : tie.Need-returns Inv-loop μ-loop
-returns c = 
+returns c =
     let a = c .before .before .before .before .before .before .args in
     let w = c .before .before .before .before .before .before .pre in
+    let u = w .1 .1 .1 .1 .1 in
     let l = c .before .before .loop in
-    climb-done (a .points .now) (w .0) (a .own .now) (a .ends .now) (w .1 .0) (w .1 .1 .0) (a .s) (a .t) (w .1 .1 .1 .1 .1 .0) (w .1 .1 .1 .1 .1 .1) (l .l) (l .inv) (c .if2 .left)
+    climb-done (a .points .now) (w .0) (a .own .now) (a .ends .now) (w .1 .0) (w .1 .1 .0) (a .s) (a .t) (u .0) (u .1)
+    (l .l) (l .inv) (c .if2 .left)
 
 pub home-of-spec : {M : Type 1} → statement M
 home-of-spec =

@@ -25,7 +25,7 @@ abbrev μ-loop : tie.MeasureT-loop
 μ-loop points ends heights limit₀ d₀ limit d = length points - d
 
 loop-holds : tie.Need-loop-holds Inv-loop μ-loop
-loop-holds c = 
+loop-holds c =
     let a = c .before .before .before .before .args in
     (refl, λ ds f r. limits-start (a .points .now) ds (a .heights .now) (a .limit .now) r)
 
@@ -39,7 +39,7 @@ shared-slice-read-narrow-row : tie.Need-shared-slice-read-narrow-row Inv-loop μ
 shared-slice-read-narrow-row c = search needs
 
 mul-narrow-row-2 : tie.Need-mul-narrow-row-2 Inv-loop μ-loop
-mul-narrow-row-2 c = 
+mul-narrow-row-2 c =
     let a = c .before .before .before .before .before .before .before .before .before .before .args in
     let w = c .before .before .before .before .before .before .before .before .before .before .pre in
     let d = c .before .before .before .before .before .loop .d in
@@ -55,7 +55,7 @@ shared-slice-read-narrow-row-2 : tie.Need-shared-slice-read-narrow-row-2 Inv-loo
 shared-slice-read-narrow-row-2 c = search needs
 
 narrow-row-requires : tie.Need-narrow-row-requires Inv-loop μ-loop
-narrow-row-requires c κs = 
+narrow-row-requires c κs =
     let a = c .before .before .before .before .before .before .before .before .before .before .before .args in
     let w = c .before .before .before .before .before .before .before .before .before .before .before .pre in
     let d = c .before .before .before .before .before .before .loop .d in
@@ -71,7 +71,7 @@ loop-less : tie.Need-loop-less Inv-loop μ-loop
 loop-less c = search needs
 
 loop-again : tie.Need-loop-again Inv-loop μ-loop
-loop-again c = 
+loop-again c =
     let a = c .before .before .before .before .before .before .before .before .args in
     let w = c .before .before .before .before .before .before .before .before .pre in
     let l = c .before .before .before .loop in
@@ -79,23 +79,26 @@ loop-again c =
     (λ x.
     let n = x .4 in
     let k = x .0 .taken in
-    rw (x .7)
-    (omega (arith, n .kept .0, l .inv .0),
-    λ ds f r.
-    limits-on (a .points .now) (w .0) ds (a .heights .now) (l .d) (l .limit) (l .inv .1 ds f r) (w .1 .1 .0) f k
-    (getD (a .ends .now) (l .d) 0) (w .1 .0 (l .d) (eq-eqb (getD (a .points .now) (l .d) 0) 1 k)) (n .last .0) (n .ensures)))
+    let is-do = eq-eqb (getD (a .points .now) (l .d) 0) 1 k in
+    rw (x .7) (
+      omega (arith, n .kept .0, l .inv .0),
+      λ ds f r.
+          limits-on (a .points .now) (w .0) ds (a .heights .now) (l .d) (l .limit) (l .inv .1 ds f r) (w .1 .1 .0) f k
+          (getD (a .ends .now) (l .d) 0) (w .1 .0 (l .d) is-do) (n .last .0) (n .ensures),
+    ))
     (λ x.
-    rw (x .1)
-    (l .inv .0,
-    λ ds f r.
-    limits-skip (a .points .now) (w .0) ds (a .heights .now) (l .d) (l .limit) (l .inv .1 ds f r) (x .0 .left)))
+    rw (x .1) (
+      l .inv .0,
+      λ ds f r.
+          limits-skip (a .points .now) (w .0) ds (a .heights .now) (l .d) (l .limit) (l .inv .1 ds f r) (x .0 .left),
+    ))
     (c .if1 .came)
 
 same-length : tie.Need-same-length Inv-loop μ-loop
 same-length c = search needs
 
 returns : tie.Need-returns Inv-loop μ-loop
-returns c = 
+returns c =
     let a = c .before .before .before .before .before .before .args in
     let w = c .before .before .before .before .before .before .pre in
     let l = c .before .loop in

@@ -11,7 +11,7 @@ abbrev μ-loop : tie.MeasureT-loop
 μ-loop xs₀ base d e m₀ q₀ xs m q = q
 
 loop-holds : tie.Need-loop-holds Inv-loop μ-loop
-loop-holds c = 
+loop-holds c =
     let a = c .args in
     narrow-start (a .xs .now) (a .base) (a .d) (a .e) (c .pre .0)
 
@@ -31,10 +31,11 @@ loop-less : tie.Need-loop-less Inv-loop μ-loop
 loop-less c = search needs
 
 loop-again : tie.Need-loop-again Inv-loop μ-loop
-loop-again c = 
+loop-again c =
     let a = c .before .before .before .before .args in
     let l = c .before .before .before .loop in
-    narrow-lower (a .xs .now) (a .base) (a .d) (a .e) (l .m) (l .q) (l .xs) (l .inv) (c .before .before .loop-test .taken) (c .if1 .taken)
+    narrow-lower (a .xs .now) (a .base) (a .d) (a .e) (l .m) (l .q) (l .xs) (l .inv)
+    (c .before .before .loop-test .taken) (c .if1 .taken)
 
 mul-xs : tie.Need-mul-xs Inv-loop μ-loop
 mul-xs c = search needs
@@ -49,19 +50,21 @@ loop-less-2 : tie.Need-loop-less-2 Inv-loop μ-loop
 loop-less-2 c = search needs
 
 loop-again-2 : tie.Need-loop-again-2 Inv-loop μ-loop
-loop-again-2 c = 
+loop-again-2 c =
     let a = c .before .before .before .before .args in
     let l = c .before .before .before .loop in
-    narrow-store (a .xs .now) (a .base) (a .d) (a .e) (l .m) (l .q) (l .xs) (l .inv) (c .before .before .loop-test .taken) (c .if1 .left) (c .before .before .before .before .pre .1)
+    narrow-store (a .xs .now) (a .base) (a .d) (a .e) (l .m) (l .q) (l .xs) (l .inv)
+    (c .before .before .loop-test .taken) (c .if1 .left) (c .before .before .before .before .pre .1)
 
 same-length : tie.Need-same-length Inv-loop μ-loop
 same-length c = search needs
 
 returns : tie.Need-returns Inv-loop μ-loop
-returns c = 
+returns c =
     let a = c .before .before .args in
     let l = c .before .loop in
-    narrow-done (a .xs .now) (a .base) (a .d) (a .e) (l .m) (l .q) (l .xs) (l .inv) (c .loop-test .left)
+    narrow-done (a .xs .now) (a .base) (a .d) (a .e) (l .m) (l .q) (l .xs) (l .inv)
+    (c .loop-test .left)
 
 pub narrow-row-spec : {M : Type 1} → statement M
 narrow-row-spec =

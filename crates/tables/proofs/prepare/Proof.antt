@@ -7,7 +7,7 @@ use Rattle.tables.proofs.prepare.Statement.{statement}
 use Rattle.tables.proofs.prepare.Tie as tie
 
 array-share-prefix-points : tie.Need-array-share-prefix-points
-array-share-prefix-points c = 
+array-share-prefix-points c =
     let n = c .before .before .before .before .before .before .before .args .nest in
     count-there (n .count) (n .points) (c .before .before .before .before .before .before .before .pre .0 .count-is)
 
@@ -18,7 +18,7 @@ chart-requires : tie.Need-chart-requires
 chart-requires c κs = search needs
 
 array-share-prefix-points-2 : tie.Need-array-share-prefix-points-2
-array-share-prefix-points-2 c = 
+array-share-prefix-points-2 c =
     let n = c .before .before .before .before .before .before .before .before .before .before .before .before .before .before .before .before .before .before .args .nest in
     count-there (n .count) (n .points) (c .before .before .before .before .before .before .before .before .before .before .before .before .before .before .before .before .before .before .pre .0 .count-is)
 
@@ -26,18 +26,25 @@ slice-aggregate-collect : tie.Need-slice-aggregate-collect
 slice-aggregate-collect c = search needs
 
 collect-requires : tie.Need-collect-requires
-collect-requires c κs = 
+collect-requires c κs =
     let w = c .before .before .before .before .before .before .before .before .before .before .before .before .before .before .before .before .before .before .before .before .before .before .before .before .before .pre in
-    let h = c .before .before .before .before .before .before .before .before .before .before .before .before .before .chart in
-    (w .1 .0, (h .ensures,
-    (record {
-      own-room = omega (arith, h .kept .1 .0, w .1 .1 .1 .0 .own-room);
-      ends-room = omega (arith, h .kept .1 .1 .0, w .1 .1 .1 .0 .ends-room);
-      heights-room = omega (arith, h .kept .1 .1 .1 .0, w .1 .1 .1 .0 .heights-room);
-    }, (w .1 .1 .1 .1, (w .0, w .1 .1 .0)))))
+    let h = c .before .before .before .before .before .before .before .before .before .before .before .before .before .chart in (
+      w .1 .0,
+      (
+        h .ensures,
+        (
+          record {
+            own-room = omega (arith, h .kept .1 .0, w .1 .1 .1 .0 .own-room);
+            ends-room = omega (arith, h .kept .1 .1 .0, w .1 .1 .1 .0 .ends-room);
+            heights-room = omega (arith, h .kept .1 .1 .1 .0, w .1 .1 .1 .0 .heights-room);
+          },
+          (w .1 .1 .1 .1, (w .0, w .1 .1 .0)),
+        ),
+      ),
+    )
 
 array-share-prefix-points-3 : tie.Need-array-share-prefix-points-3
-array-share-prefix-points-3 c = 
+array-share-prefix-points-3 c =
     let n = c .before .before .before .before .before .before .before .before .before .before .before .before .before .before .before .before .before .before .before .before .before .before .before .before .before .before .before .before .before .before .before .before .args .nest in
     count-there (n .count) (n .points) (c .before .before .before .before .before .before .before .before .before .before .before .before .before .before .before .before .before .before .before .before .before .before .before .before .before .before .before .before .before .before .before .before .pre .0 .count-is)
 
@@ -45,14 +52,25 @@ slice-aggregate-narrow : tie.Need-slice-aggregate-narrow
 slice-aggregate-narrow c = search needs
 
 narrow-requires : tie.Need-narrow-requires
-narrow-requires c κs = 
+narrow-requires c κs =
     let w = c .before .before .before .before .before .before .before .before .before .before .before .before .before .before .before .before .before .before .before .before .before .before .before .before .before .before .before .before .before .before .before .before .before .before .before .before .pre in
     let h = c .before .before .before .before .before .before .before .before .before .before .before .before .before .before .before .before .before .before .before .before .before .before .before .before .chart in
-    let l = c .before .before .before .before .before .before .before .before .before .before .collect in
-    (w .1 .0, (h .ensures .ends-are, (h .ensures .heights-are,
-    (omega (arith, h .kept .1 .1 .0, w .1 .1 .1 .0 .ends-room),
-    (omega (arith, h .kept .1 .1 .1 .0, w .1 .1 .1 .0 .heights-room),
-    omega (arith, l .kept .1 .1 .1 .1 .1 .1 .0, w .1 .1 .1 .1 .limit-room))))))
+    let l = c .before .before .before .before .before .before .before .before .before .before .collect in (
+      w .1 .0,
+      (
+        h .ensures .ends-are,
+        (
+          h .ensures .heights-are,
+          (
+            omega (arith, h .kept .1 .1 .0, w .1 .1 .1 .0 .ends-room),
+            (
+              omega (arith, h .kept .1 .1 .1 .0, w .1 .1 .1 .0 .heights-room),
+              omega (arith, l .kept .1 .1 .1 .1 .1 .1 .0, w .1 .1 .1 .1 .limit-room),
+            ),
+          ),
+        ),
+      ),
+    )
 
 same-length : tie.Need-same-length
 same-length c = search needs
@@ -73,7 +91,7 @@ same-length-6 : tie.Need-same-length-6
 same-length-6 c = search needs
 
 returns : tie.Need-returns
-returns c = 
+returns c =
     let n = nestIn (c .before .before .before .before .before .before .before .before .before .before .before .before .before .before .before .before .before .before .before .before .before .before .before .before .before .before .before .before .before .before .before .before .before .before .before .before .before .before .before .args .nest) in
     let h = c .before .before .before .before .before .before .before .before .before .before .before .before .before .before .before .before .before .before .before .before .before .before .before .before .before .before .before .chart in
     let l = c .before .before .before .before .before .before .before .before .before .before .before .before .before .collect in

@@ -1,0 +1,132 @@
+-- The answer to an input, case by case: too long, refused, accepted. In each the key is the planner's (`keyOf`), which
+-- is a key wherever the text is accepted.
+-- Main statements: `planned-key`, `accepted-nest`, `answer-long`, `answer-refused`, `answer-key`.
+use mathlib.Core.Path.{_≡_, sym, _∙_, ap, subst}
+use mathlib.Core.Bool.{true}
+use mathlib.Core.List.{List}
+use Prim.Native.Nat.{ℕ, _≤_, _<_}
+use native.Mathlib.Omega.{arith}
+use lib.ListN.{length}
+use borrow.Author.Tests.{lt-ltb, le-ltb, eq-eqb}
+use Rattle.nests.specs.Nests.{Nest}
+use Rattle.nests.specs.Valid.{isValid}
+use Rattle.nests.specs.Stored.{nestIn}
+use Rattle.nests.proofs.Deps.{valid-is, deps-fit}
+use Rattle.lines.specs.Writing.{over}
+use Rattle.placements.specs.Placements.{areGaps}
+use Rattle.placements.specs.Words.{gapsIn}
+use Rattle.texts.specs.declared.Reading.{Reading}
+use Rattle.texts.specs.NestTexts.{Got, readNest}
+use Rattle.texts.specs.Program.{LONGEST, refusalText, programText}
+use Rattle.texts.specs.Reads.{IsRead}
+use Rattle.texts.proofs.Accepted.{accepted-valid}
+use Rattle.texts.proofs.Refusals.{place-within}
+use Rattle.texts.proofs.ProgramTexts.{program-refused}
+use Rattle.keys.specs.KeyOf.{keyOf}
+use Rattle.keys.proofs.KeyGaps.{key-gaps, words-of-key}
+use Rattle.keys.proofs.Demand3.{accepted-key}
+use Rattle.plan.specs.Planned.{PlanSays}
+use Rattle.answers.specs.Answers.{LINES, keyAndCounts, Answered}
+
+-- the planner's words hold the key, whose gaps are gaps of the nest
+module _ (n : Nest) (ws : List ℕ) (valid : isValid n ≡ true) (p : PlanSays n ws) where
+  pub planned-key : gapsIn ws ≡ keyOf n
+  planned-key =
+      let v = valid-is n valid in
+      words-of-key n (v .shape) (deps-fit (n .points) (n .deps) (v .all-deps)) ws (v .few-points) (λ g h. p g)
+
+  pub planned-gaps : areGaps n (gapsIn ws) ≡ true
+  planned-gaps =
+      let v = valid-is n valid in
+      subst
+      (λ (gs : List ℕ). areGaps n gs ≡ true)
+      (sym planned-key)
+      (key-gaps n (v .shape) (deps-fit (n .points) (n .deps) (v .all-deps)))
+
+-- of an accepted text the program's text is the key and the counts
+program-read
+    : (input key : List ℕ)
+    → length input ≤ LONGEST
+    → readNest input .number ≡ 0
+    → programText input key ≡ keyAndCounts (readNest input .nest-is) key
+unfolding programText
+program-read input key short h = rw (le-ltb LONGEST (length input) short, eq-eqb (readNest input .number) 0 h)
+
+-- an answer is the program's text for the planner's key
+by-text
+    : (input o out : List ℕ) (r : ℕ) (t : List ℕ)
+    → programText input (keyOf (readNest input .nest-is)) ≡ t
+    → r ≡ length t
+    → out ≡ over t o
+    → Answered input o out r
+by-text input o out r t e l w =
+    record {
+      key = keyOf (readNest input .nest-is);
+      is-key = λ h. accepted-key input h;
+      length-is = l ∙ ap length (sym e);
+      out-is = w ∙ ap (λ (x : List ℕ). over x o) (sym e);
+    }
+
+-- input above 8,192 bytes
+pub answer-long
+    : (input o out : List ℕ) (r : ℕ)
+    → LONGEST < length input
+    → r ≡ length (refusalText 5 0)
+    → out ≡ over (refusalText 5 0) o
+    → Answered input o out r
+unfolding programText
+answer-long input o out r long l w = by-text input o out r (refusalText 5 0) (rw (lt-ltb LONGEST (length input) long)) l w
+
+module _ (input o out : List ℕ) (r : ℕ) (short : length input ≤ LONGEST) (g : Reading) (read : IsRead input g) where
+  number-is : g .number ≡ readNest input .number
+  number-is = ap (λ (x : Got). x .number) (read .got-is)
+
+  place-is : g .line ≡ readNest input .place
+  place-is = ap (λ (x : Got). x .place) (read .got-is)
+
+  -- a refusal's line fits two bytes
+  pub line-fits : g .line < LINES
+  line-fits = omega (arith, place-is, place-within input)
+
+  -- a text that is not accepted
+  pub answer-refused
+      : (g .number ≡ 0 → ⊥)
+      → r ≡ length (refusalText (g .number) (g .line))
+      → out ≡ over (refusalText (g .number) (g .line)) o
+      → Answered input o out r
+  answer-refused h l w =
+      by-text input o out r (refusalText (g .number) (g .line))
+      (program-refused input (keyOf (readNest input .nest-is)) short (λ z. h (number-is ∙ z)) ∙
+      (rw (number-is, place-is)))
+      l w
+
+  -- an accepted text's nest is valid
+  pub accepted-nest : g .number ≡ 0 → isValid (nestIn (g .nest)) ≡ true
+  accepted-nest h =
+      ap (λ (x : Got). isValid (x .nest-is)) (read .got-is) ∙ accepted-valid input (sym number-is ∙ h)
+
+  -- and its key and counts are written
+  pub answer-key
+      : (ws : List ℕ)
+      → g .number ≡ 0
+      → PlanSays (nestIn (g .nest)) ws
+      → r ≡ length (keyAndCounts (nestIn (g .nest)) (gapsIn ws))
+      → out ≡ over (keyAndCounts (nestIn (g .nest)) (gapsIn ws)) o
+      → Answered input o out r
+  answer-key ws h p l w =
+      by-text input o out r (keyAndCounts (nestIn (g .nest)) (gapsIn ws)) text l w
+    where
+      nest-is : nestIn (g .nest) ≡ readNest input .nest-is
+      nest-is = ap (λ (x : Got). x .nest-is) (read .got-is)
+
+      written
+          : programText input (keyOf (readNest input .nest-is))
+          ≡ keyAndCounts (readNest input .nest-is) (keyOf (readNest input .nest-is))
+      written = program-read input (keyOf (readNest input .nest-is)) short (sym number-is ∙ h)
+
+      text : programText input (keyOf (readNest input .nest-is)) ≡ keyAndCounts (nestIn (g .nest)) (gapsIn ws)
+      text =
+          written ∙
+          ap (λ (x : Nest). keyAndCounts x (keyOf x)) (sym nest-is) ∙
+          ap (λ (x : List ℕ). keyAndCounts (nestIn (g .nest)) x)
+          (sym (planned-key (nestIn (g .nest)) ws (accepted-nest h) p))

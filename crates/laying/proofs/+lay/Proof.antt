@@ -1,0 +1,404 @@
+use mathlib.Core.Path.{_≡_, refl, sym, _∙_}
+use mathlib.Core.Bool.{true}
+use Prim.Native.Nat.{_+_, _-_, _*_, _≤_, min}
+use native.Mathlib.Omega.{arith}
+use lib.ListN.{length, getD, set, length-set}
+use borrow.Author.Needs.{needs}
+use Rattle.sweeps.specs.Listed.{at, row}
+use Rattle.laying.proofs.Sizes.{Sizes, sizes, picked}
+use Rattle.laying.proofs.Turns as turns
+use Rattle.laying.proofs.Turns.{Laying}
+use Rattle.laying.proofs.Whole.{blank, done}
+use Prim.Native.Nat.{ℕ, _<_}
+use borrow.Fn.Kinds.{In}
+use borrow.Fn.PlainCycle.{Measures, is, falls, and}
+use Rattle.laying.proofs.lay.Reads as lay
+use Rattle.laying.proofs.lay.Kinds as lay-kinds
+use Rattle.laying.proofs.+lay.Lts-lay as lay-lts
+use Rattle.laying.proofs.put_where.Reads as put-where-reads
+use Rattle.placements.proofs.Placement.put.Reads as put-reads
+use Rattle.rows.proofs.copy_row.Reads as copy-row-reads
+use Rattle.rows.proofs.smaller.Reads as smaller-reads
+use Rattle.sweeps.proofs.step_child.Reads as step-child-reads
+use Rattle.laying.proofs.+lay.{statement}
+use Rattle.laying.proofs.+lay.Tie.{close}
+
+abbrev μ-lay : Measures 7 lay-kinds.ps ℕ
+μ-lay κs a = a .1 .1 .1 .1 .1 .1 .1 .1 .1 .0
+
+abbrev lay-at : ℕ → In 7 lay-kinds.ps
+lay-at t = and 7 lay-kinds.ps (is 7 lay-kinds.ps μ-lay t) lay.Pre
+
+abbrev lay-below : ℕ → In 7 lay-kinds.ps
+lay-below t = and 7 lay-kinds.ps (falls 7 lay-kinds.ps _<_ μ-lay t) lay.Pre
+
+abbrev callees : ℕ → lay-lts.Claims
+callees t = (
+  copy-row-reads.Asked,
+  copy-row-reads.Learnt,
+  smaller-reads.Asked,
+  smaller-reads.Learnt,
+  step-child-reads.Asked,
+  step-child-reads.Learnt,
+  put-where-reads.Asked,
+  put-where-reads.Learnt,
+  lay-below t,
+  lay.Post,
+  put-reads.Asked,
+  put-reads.Learnt,
+)
+
+abbrev lay-Inv-loop : lay-lts.InvT-loop
+lay-Inv-loop points own ends reach limit left choice d q h base e last need k₀ c₀ f₀ p₀ k c f p =
+    Laying points own reach limit left choice need (h * 256 - 256) d e (k₀ .words) (k .words) c f p
+
+abbrev lay-μ-loop : lay-lts.MeasureT-loop
+lay-μ-loop points own ends reach limit left choice d q h base e last need k₀ c₀ f₀ p₀ k c f p = p
+
+-- the numbers that the call stays below
+facts :
+    (t : ℕ) (c : lay-lts.Start (callees t) (lay-at t) lay.Post lay-Inv-loop lay-μ-loop) →
+    Sizes
+    (c .args .points .now)
+    (c .args .own .now)
+    (c .args .ends .now)
+    (c .args .reach .now)
+    (c .args .limit .now)
+    (c .args .left .now)
+    (c .args .choice .now)
+    (c .args .d)
+    (c .args .q)
+    (c .args .h)
+facts t c = let i = c .args in sizes (i .points .now) (i .own .now) (i .ends .now) (i .reach .now) (i .limit .now) (i .left .now) (i .choice .now) (i .d) (i .q) (i .h) (c .pre .1)
+
+lay-mul-base : (t : ℕ) → lay-lts.Need-mul-base (callees t) (lay-at t) lay.Post lay-Inv-loop lay-μ-loop
+lay-mul-base t c =
+    let z = facts t (c .before .before .before .before .before .before .before) in
+    omega arith
+
+lay-add-if1 : (t : ℕ) → lay-lts.Need-add-if1 (callees t) (lay-at t) lay.Post lay-Inv-loop lay-μ-loop
+lay-add-if1 t c =
+    let z = facts t (c .before .before .before .before .before .before .before) in
+    omega arith
+
+lay-mul-if1 : (t : ℕ) → lay-lts.Need-mul-if1 (callees t) (lay-at t) lay.Post lay-Inv-loop lay-μ-loop
+lay-mul-if1 t c =
+    let z = facts t (c .before .before .before .before .before .before .before) in
+    omega arith
+
+lay-shared-slice-read-if1 : (t : ℕ) → lay-lts.Need-shared-slice-read-if1 (callees t) (lay-at t) lay.Post lay-Inv-loop lay-μ-loop
+lay-shared-slice-read-if1 t c =
+    let z = facts t (c .before .before .before .before .before .before .before .before) in
+    omega arith
+
+lay-returns : (t : ℕ) → lay-lts.Need-returns (callees t) (lay-at t) lay.Post lay-Inv-loop lay-μ-loop
+lay-returns t c =
+    let i = c .before .before .before .before .before .before .before .before .before .args in
+    let p = c .before .before .before .before .before .before .before .before .before .pre .1 in
+    blank (i .points .now) (i .own .now) (i .ends .now) (i .reach .now) (i .limit .now) (i .left .now) (i .choice .now) (p .0) (i .d) (i .q) (i .h) (p .1 .1 .0) (p .1 .1 .1 .0) (p .1 .1 .1 .1 .0) (p .1 .1 .1 .1 .1 .0) (i .key .words) (c .if1 .taken)
+
+lay-mul-e : (t : ℕ) → lay-lts.Need-mul-e (callees t) (lay-at t) lay.Post lay-Inv-loop lay-μ-loop
+lay-mul-e t c =
+    let z = facts t (c .before .before .before .before .before .before .before .before .before) in
+    omega arith
+
+lay-shared-slice-read-e : (t : ℕ) → lay-lts.Need-shared-slice-read-e (callees t) (lay-at t) lay.Post lay-Inv-loop lay-μ-loop
+lay-shared-slice-read-e t c =
+    let z = facts t (c .before .before .before .before .before .before .before .before .before .before) in
+    omega arith
+
+lay-add-last : (t : ℕ) → lay-lts.Need-add-last (callees t) (lay-at t) lay.Post lay-Inv-loop lay-μ-loop
+lay-add-last t c =
+    let z = facts t (c .before .before .before .before .before .before .before .before .before .before) in
+    omega arith
+
+lay-mul-last : (t : ℕ) → lay-lts.Need-mul-last (callees t) (lay-at t) lay.Post lay-Inv-loop lay-μ-loop
+lay-mul-last t c =
+    let z = facts t (c .before .before .before .before .before .before .before .before .before .before) in
+    omega arith
+
+lay-shared-slice-read-last : (t : ℕ) → lay-lts.Need-shared-slice-read-last (callees t) (lay-at t) lay.Post lay-Inv-loop lay-μ-loop
+lay-shared-slice-read-last t c =
+    let z = facts t (c .before .before .before .before .before .before .before .before .before .before .before) in
+    omega arith
+
+lay-slice-aggregate-copy-row : (t : ℕ) → lay-lts.Need-slice-aggregate-copy-row (callees t) (lay-at t) lay.Post lay-Inv-loop lay-μ-loop
+lay-slice-aggregate-copy-row t c = refl
+
+lay-copy-row-requires : (t : ℕ) → lay-lts.Need-copy-row-requires (callees t) (lay-at t) lay.Post lay-Inv-loop lay-μ-loop
+lay-copy-row-requires t c κs =
+    let i = c .before .before .before .before .before .before .before .before .before .before .before .before .args in
+    let p = c .before .before .before .before .before .before .before .before .before .before .before .before .pre .1 in
+    let z = facts t (c .before .before .before .before .before .before .before .before .before .before .before .before) in
+    (omega arith, (omega arith, z .long))
+
+lay-mul-smaller : (t : ℕ) → lay-lts.Need-mul-smaller (callees t) (lay-at t) lay.Post lay-Inv-loop lay-μ-loop
+lay-mul-smaller t c =
+    let i = c .before .before .before .before .before .before .before .before .before .before .before .before .before .before .args in
+    let p = c .before .before .before .before .before .before .before .before .before .before .before .before .before .before .pre .1 in
+    let z = facts t (c .before .before .before .before .before .before .before .before .before .before .before .before .before .before) in
+    let x = picked (i .points .now) (i .own .now) (i .ends .now) (i .reach .now) (i .limit .now) (i .left .now) (i .choice .now) (i .d) (i .q) (i .h) p (c .before .before .before .before .before .if1 .left) in
+    omega arith
+
+lay-array-read-smaller : (t : ℕ) → lay-lts.Need-array-read-smaller (callees t) (lay-at t) lay.Post lay-Inv-loop lay-μ-loop
+lay-array-read-smaller t c =
+    let i = c .before .before .before .before .before .before .before .before .before .before .before .before .before .before .args in
+    let p = c .before .before .before .before .before .before .before .before .before .before .before .before .before .before .pre .1 in
+    let z = facts t (c .before .before .before .before .before .before .before .before .before .before .before .before .before .before) in
+    let x = picked (i .points .now) (i .own .now) (i .ends .now) (i .reach .now) (i .limit .now) (i .left .now) (i .choice .now) (i .d) (i .q) (i .h) p (c .before .before .before .before .before .if1 .left) in
+    omega arith
+
+lay-smaller-requires : (t : ℕ) → lay-lts.Need-smaller-requires (callees t) (lay-at t) lay.Post lay-Inv-loop lay-μ-loop
+lay-smaller-requires t c κs = search needs
+
+lay-mul-need : (t : ℕ) → lay-lts.Need-mul-need (callees t) (lay-at t) lay.Post lay-Inv-loop lay-μ-loop
+lay-mul-need t c =
+    let i = c .before .before .before .before .before .before .before .before .before .before .before .before .before .before .before .args in
+    let p = c .before .before .before .before .before .before .before .before .before .before .before .before .before .before .before .pre .1 in
+    let z = facts t (c .before .before .before .before .before .before .before .before .before .before .before .before .before .before .before) in
+    let x = picked (i .points .now) (i .own .now) (i .ends .now) (i .reach .now) (i .limit .now) (i .left .now) (i .choice .now) (i .d) (i .q) (i .h) p (c .before .before .before .before .before .before .if1 .left) in
+    omega arith
+
+lay-array-write-need : (t : ℕ) → lay-lts.Need-array-write-need (callees t) (lay-at t) lay.Post lay-Inv-loop lay-μ-loop
+lay-array-write-need t c =
+    let i = c .before .before .before .before .before .before .before .before .before .before .before .before .before .before .before .args in
+    let p = c .before .before .before .before .before .before .before .before .before .before .before .before .before .before .before .pre .1 in
+    let z = facts t (c .before .before .before .before .before .before .before .before .before .before .before .before .before .before .before) in
+    let x = picked (i .points .now) (i .own .now) (i .ends .now) (i .reach .now) (i .limit .now) (i .left .now) (i .choice .now) (i .d) (i .q) (i .h) p (c .before .before .before .before .before .before .if1 .left) in
+    omega arith
+
+lay-add-f : (t : ℕ) → lay-lts.Need-add-f (callees t) (lay-at t) lay.Post lay-Inv-loop lay-μ-loop
+lay-add-f t c =
+    let z = facts t (c .before .before .before .before .before .before .before .before .before .before .before .before .before .before .before) in
+    omega arith
+
+lay-loop-holds : (t : ℕ) → lay-lts.Need-loop-holds (callees t) (lay-at t) lay.Post lay-Inv-loop lay-μ-loop
+lay-loop-holds t c =
+    let i = c .before .before .before .before .before .before .before .before .before .before .before .before .before .before .before .args in
+    let p = c .before .before .before .before .before .before .before .before .before .before .before .before .before .before .before .pre .1 in
+    let z = facts t (c .before .before .before .before .before .before .before .before .before .before .before .before .before .before .before) in
+    turns.begin (i .points .now) (i .own .now) (i .ends .now) (i .reach .now) (i .limit .now) (i .left .now) (i .choice .now) (p .0) (i .d) (i .h) (p .1 .1 .0) (p .1 .1 .1 .0) (at (i .ends .now) (i .d)) (z .e-is) (set (c .before .before .copy-row .last .1 .1 .1 .1 .0) (row (i .choice .now) (i .h * 256) (i .q)) (c .smaller .result)) (i .key .words) (i .h * 256 - 256)
+
+lay-sub-before : (t : ℕ) → lay-lts.Need-sub-before (callees t) (lay-at t) lay.Post lay-Inv-loop lay-μ-loop
+lay-sub-before t c = omega arith
+
+lay-shared-slice-read-if2 : (t : ℕ) → lay-lts.Need-shared-slice-read-if2 (callees t) (lay-at t) lay.Post lay-Inv-loop lay-μ-loop
+lay-shared-slice-read-if2 t c =
+    let z = facts t (c .before .before .before .before .before .before .before .before .before .before .before .before .before .before .before .before .before .before) in
+    omega arith
+
+lay-mul-l : (t : ℕ) → lay-lts.Need-mul-l (callees t) (lay-at t) lay.Post lay-Inv-loop lay-μ-loop
+lay-mul-l t c =
+    let z = facts t (c .before .before .before .before .before .before .before .before .before .before .before .before .before .before .before .before .before .before .before) in
+    omega arith
+
+lay-shared-slice-read-l : (t : ℕ) → lay-lts.Need-shared-slice-read-l (callees t) (lay-at t) lay.Post lay-Inv-loop lay-μ-loop
+lay-shared-slice-read-l t c =
+    let z = facts t (c .before .before .before .before .before .before .before .before .before .before .before .before .before .before .before .before .before .before .before .before) in
+    omega arith
+
+lay-slice-aggregate-step-child : (t : ℕ) → lay-lts.Need-slice-aggregate-step-child (callees t) (lay-at t) lay.Post lay-Inv-loop lay-μ-loop
+lay-slice-aggregate-step-child t c = search needs
+
+lay-sub-step-child : (t : ℕ) → lay-lts.Need-sub-step-child (callees t) (lay-at t) lay.Post lay-Inv-loop lay-μ-loop
+lay-sub-step-child t c =
+    let z = facts t (c .before .before .before .before .before .before .before .before .before .before .before .before .before .before .before .before .before .before .before .before .before) in
+    omega arith
+
+lay-step-child-requires : (t : ℕ) → lay-lts.Need-step-child-requires (callees t) (lay-at t) lay.Post lay-Inv-loop lay-μ-loop
+lay-step-child-requires t c κs =
+    let i = c .before .before .before .before .before .before .before .before .before .before .before .before .before .before .before .before .before .before .before .before .before .args in
+    let p = c .before .before .before .before .before .before .before .before .before .before .before .before .before .before .before .before .before .before .before .before .before .pre .1 in
+    let z = facts t (c .before .before .before .before .before .before .before .before .before .before .before .before .before .before .before .before .before .before .before .before .before) in
+    let l = c .before .before .before .before .before .loop in
+    let m = p .0 .own-low (l .p - 1) in
+    let n : length (set (c .before .before .before .before .before .before .before .before .copy-row .last .1 .1 .1 .1 .0) (row (i .choice .now) (i .h * 256) (i .q)) (c .before .before .before .before .before .before .smaller .result)) ≡ 256 = length-set (c .before .before .before .before .before .before .before .before .copy-row .last .1 .1 .1 .1 .0) (row (i .choice .now) (i .h * 256) (i .q)) (c .before .before .before .before .before .before .smaller .result) ∙ c .before .before .before .before .before .before .before .before .copy-row .kept .1 .1 .1 .1 .0 in
+    (omega arith, (omega arith, (m, omega (arith, l .inv .small))))
+
+lay-put-where-requires : (t : ℕ) → lay-lts.Need-put-where-requires (callees t) (lay-at t) lay.Post lay-Inv-loop lay-μ-loop
+lay-put-where-requires t c κs =
+    let z = facts t (c .before .before .before .before .before .before .before .before .before .before .before .before .before .before .before .before .before .before .before .before .before .before) in
+    omega arith
+
+lay-sub-lay : (t : ℕ) → lay-lts.Need-sub-lay (callees t) (lay-at t) lay.Post lay-Inv-loop lay-μ-loop
+lay-sub-lay t c =
+    let z = facts t (c .before .before .before .before .before .before .before .before .before .before .before .before .before .before .before .before .before .before .before .before .before .before .before) in
+    omega arith
+
+lay-lay-requires : (t : ℕ) → lay-lts.Need-lay-requires (callees t) (lay-at t) lay.Post lay-Inv-loop lay-μ-loop
+lay-lay-requires t c κs =
+    let i = c .before .before .before .before .before .before .before .before .before .before .before .before .before .before .before .before .before .before .before .before .before .before .before .args in
+    let p = c .before .before .before .before .before .before .before .before .before .before .before .before .before .before .before .before .before .before .before .before .before .before .before .pre .1 in
+    let z = facts t (c .before .before .before .before .before .before .before .before .before .before .before .before .before .before .before .before .before .before .before .before .before .before .before) in
+    let l = c .before .before .before .before .before .before .before .loop in
+    let more = c .before .before .before .before .before .before .loop-test .taken in
+    let ends = c .before .before .before .before .if2 .taken in
+    let s = c .before .step-child in
+    (omega (arith, c .before .before .before .before .before .before .before .before .before .before .before .before .before .before .before .before .before .before .before .before .before .before .before .pre .0), turns.child-asked (i .points .now) (i .own .now) (i .ends .now) (i .reach .now) (i .limit .now) (i .left .now) (i .choice .now) (p .0) (i .d) (i .h) (p .1 .1 .0) (p .1 .1 .1 .0) (at (i .ends .now) (i .d)) (z .e-is) (set (c .before .before .before .before .before .before .before .before .before .before .copy-row .last .1 .1 .1 .1 .0) (row (i .choice .now) (i .h * 256) (i .q)) (c .before .before .before .before .before .before .before .before .smaller .result)) (i .key .words) (i .h * 256 - 256) (l .k .words) (l .c) (l .f) (l .p) (l .inv) more ends (i .q) (s .result .c) (s .result .f) (s .result .ask) p (s .ensures))
+
+lay-loop-less : (t : ℕ) → lay-lts.Need-loop-less (callees t) (lay-at t) lay.Post lay-Inv-loop lay-μ-loop
+lay-loop-less t c =
+    let i = c .before .before .before .before .before .before .before .before .before .before .before .before .before .before .before .before .before .before .before .before .before .before .before .before .args in
+    let p = c .before .before .before .before .before .before .before .before .before .before .before .before .before .before .before .before .before .before .before .before .before .before .before .before .pre .1 in
+    let z = facts t (c .before .before .before .before .before .before .before .before .before .before .before .before .before .before .before .before .before .before .before .before .before .before .before .before) in
+    let l = c .before .before .before .before .before .before .before .before .loop in
+    let more = c .before .before .before .before .before .before .before .loop-test .taken in
+    let ends = c .before .before .before .before .before .if2 .taken in
+    omega (arith, turns.child-long (i .points .now) (i .own .now) (i .ends .now) (i .reach .now) (i .limit .now) (i .left .now) (i .choice .now) (p .0) (i .d) (i .h) (p .1 .1 .0) (p .1 .1 .1 .0) (at (i .ends .now) (i .d)) (z .e-is) (set (c .before .before .before .before .before .before .before .before .before .before .before .copy-row .last .1 .1 .1 .1 .0) (row (i .choice .now) (i .h * 256) (i .q)) (c .before .before .before .before .before .before .before .before .before .smaller .result)) (i .key .words) (i .h * 256 - 256) (l .k .words) (l .c) (l .f) (l .p) (l .inv) more ends)
+
+lay-loop-again : (t : ℕ) → lay-lts.Need-loop-again (callees t) (lay-at t) lay.Post lay-Inv-loop lay-μ-loop
+lay-loop-again t c =
+    let i = c .before .before .before .before .before .before .before .before .before .before .before .before .before .before .before .before .before .before .before .before .before .before .before .before .args in
+    let p = c .before .before .before .before .before .before .before .before .before .before .before .before .before .before .before .before .before .before .before .before .before .before .before .before .pre .1 in
+    let z = facts t (c .before .before .before .before .before .before .before .before .before .before .before .before .before .before .before .before .before .before .before .before .before .before .before .before) in
+    let l = c .before .before .before .before .before .before .before .before .loop in
+    let more = c .before .before .before .before .before .before .before .loop-test .taken in
+    let ends = c .before .before .before .before .before .if2 .taken in
+    let s = c .before .before .step-child in
+    let m = c .before .put-where in
+    turns.on-child (i .points .now) (i .own .now) (i .ends .now) (i .reach .now) (i .limit .now) (i .left .now) (i .choice .now) (p .0) (i .d) (i .h) (p .1 .1 .0) (p .1 .1 .1 .0) (at (i .ends .now) (i .d)) (z .e-is) (set (c .before .before .before .before .before .before .before .before .before .before .before .copy-row .last .1 .1 .1 .1 .0) (row (i .choice .now) (i .h * 256) (i .q)) (c .before .before .before .before .before .before .before .before .before .smaller .result)) (i .key .words) (i .h * 256 - 256) (l .k .words) (l .c) (l .f) (l .p) (l .inv) more ends (s .result .c) (s .result .f) (s .result .ask) (m .result .words) (c .lay .result .words) (s .ensures) (m .ensures) (c .lay .ensures)
+
+lay-mul-if3 : (t : ℕ) → lay-lts.Need-mul-if3 (callees t) (lay-at t) lay.Post lay-Inv-loop lay-μ-loop
+lay-mul-if3 t c =
+    let z = facts t (c .before .before .before .before .before .before .before .before .before .before .before .before .before .before .before .before .before .before .before) in
+    omega arith
+
+lay-array-read-if3 : (t : ℕ) → lay-lts.Need-array-read-if3 (callees t) (lay-at t) lay.Post lay-Inv-loop lay-μ-loop
+lay-array-read-if3 t c =
+    let z = facts t (c .before .before .before .before .before .before .before .before .before .before .before .before .before .before .before .before .before .before .before) in
+    omega arith
+
+lay-put-requires : (t : ℕ) → lay-lts.Need-put-requires (callees t) (lay-at t) lay.Post lay-Inv-loop lay-μ-loop
+lay-put-requires t c κs =
+    let z = facts t (c .before .before .before .before .before .before .before .before .before .before .before .before .before .before .before .before .before .before .before .before) in
+    omega arith
+
+lay-add-c : (t : ℕ) → lay-lts.Need-add-c (callees t) (lay-at t) lay.Post lay-Inv-loop lay-μ-loop
+lay-add-c t c =
+    let i = c .before .before .before .before .before .before .before .before .before .before .before .before .before .before .before .before .before .before .before .before .before .args in
+    let p = c .before .before .before .before .before .before .before .before .before .before .before .before .before .before .before .before .before .before .before .before .before .pre .1 in
+    let z = facts t (c .before .before .before .before .before .before .before .before .before .before .before .before .before .before .before .before .before .before .before .before .before) in
+    omega (arith, c .before .before .before .before .before .loop .inv .small)
+
+lay-loop-less-2 : (t : ℕ) → lay-lts.Need-loop-less-2 (callees t) (lay-at t) lay.Post lay-Inv-loop lay-μ-loop
+lay-loop-less-2 t c = omega arith
+
+lay-loop-again-2 : (t : ℕ) → lay-lts.Need-loop-again-2 (callees t) (lay-at t) lay.Post lay-Inv-loop lay-μ-loop
+lay-loop-again-2 t c =
+    let i = c .before .before .before .before .before .before .before .before .before .before .before .before .before .before .before .before .before .before .before .before .before .args in
+    let p = c .before .before .before .before .before .before .before .before .before .before .before .before .before .before .before .before .before .before .before .before .before .pre .1 in
+    let z = facts t (c .before .before .before .before .before .before .before .before .before .before .before .before .before .before .before .before .before .before .before .before .before) in
+    let l = c .before .before .before .before .before .loop in
+    let more = c .before .before .before .before .loop-test .taken in
+    turns.on-put (i .points .now) (i .own .now) (i .ends .now) (i .reach .now) (i .limit .now) (i .left .now) (i .choice .now) (p .0) (i .d) (i .h) (p .1 .1 .0) (p .1 .1 .1 .0) (at (i .ends .now) (i .d)) (z .e-is) (set (c .before .before .before .before .before .before .before .before .copy-row .last .1 .1 .1 .1 .0) (row (i .choice .now) (i .h * 256) (i .q)) (c .before .before .before .before .before .before .smaller .result)) (i .key .words) (i .h * 256 - 256) (l .k .words) (l .c) (l .f) (l .p) (l .inv) more (c .put .result .words) (c .before .before .if2 .left) (c .before .if3 .taken) (c .put .ensures)
+
+lay-loop-less-3 : (t : ℕ) → lay-lts.Need-loop-less-3 (callees t) (lay-at t) lay.Post lay-Inv-loop lay-μ-loop
+lay-loop-less-3 t c = omega arith
+
+lay-loop-again-3 : (t : ℕ) → lay-lts.Need-loop-again-3 (callees t) (lay-at t) lay.Post lay-Inv-loop lay-μ-loop
+lay-loop-again-3 t c =
+    let i = c .before .before .before .before .before .before .before .before .before .before .before .before .before .before .before .before .before .before .before .before .args in
+    let p = c .before .before .before .before .before .before .before .before .before .before .before .before .before .before .before .before .before .before .before .before .pre .1 in
+    let z = facts t (c .before .before .before .before .before .before .before .before .before .before .before .before .before .before .before .before .before .before .before .before) in
+    let l = c .before .before .before .before .loop in
+    let more = c .before .before .before .loop-test .taken in
+    turns.on-skip (i .points .now) (i .own .now) (i .ends .now) (i .reach .now) (i .limit .now) (i .left .now) (i .choice .now) (p .0) (i .d) (i .h) (p .1 .1 .0) (p .1 .1 .1 .0) (at (i .ends .now) (i .d)) (z .e-is) (set (c .before .before .before .before .before .before .before .copy-row .last .1 .1 .1 .1 .0) (row (i .choice .now) (i .h * 256) (i .q)) (c .before .before .before .before .before .smaller .result)) (i .key .words) (i .h * 256 - 256) (l .k .words) (l .c) (l .f) (l .p) (l .inv) more (c .before .if2 .left) (c .if3 .left)
+
+lay-add-put-where : (t : ℕ) → lay-lts.Need-add-put-where (callees t) (lay-at t) lay.Post lay-Inv-loop lay-μ-loop
+lay-add-put-where t c =
+    let i = c .before .before .before .before .before .before .before .before .before .before .before .before .before .before .before .before .before .args in
+    let p = c .before .before .before .before .before .before .before .before .before .before .before .before .before .before .before .before .before .pre .1 in
+    let z = facts t (c .before .before .before .before .before .before .before .before .before .before .before .before .before .before .before .before .before) in
+    let x = picked (i .points .now) (i .own .now) (i .ends .now) (i .reach .now) (i .limit .now) (i .left .now) (i .choice .now) (i .d) (i .q) (i .h) p (c .before .before .before .before .before .before .before .before .if1 .left) in
+    omega arith
+
+lay-mul-put-where : (t : ℕ) → lay-lts.Need-mul-put-where (callees t) (lay-at t) lay.Post lay-Inv-loop lay-μ-loop
+lay-mul-put-where t c =
+    let i = c .before .before .before .before .before .before .before .before .before .before .before .before .before .before .before .before .before .args in
+    let p = c .before .before .before .before .before .before .before .before .before .before .before .before .before .before .before .before .before .pre .1 in
+    let z = facts t (c .before .before .before .before .before .before .before .before .before .before .before .before .before .before .before .before .before) in
+    let x = picked (i .points .now) (i .own .now) (i .ends .now) (i .reach .now) (i .limit .now) (i .left .now) (i .choice .now) (i .d) (i .q) (i .h) p (c .before .before .before .before .before .before .before .before .if1 .left) in
+    omega arith
+
+lay-shared-slice-read-put-where : (t : ℕ) → lay-lts.Need-shared-slice-read-put-where (callees t) (lay-at t) lay.Post lay-Inv-loop lay-μ-loop
+lay-shared-slice-read-put-where t c =
+    let i = c .before .before .before .before .before .before .before .before .before .before .before .before .before .before .before .before .before .before .args in
+    let p = c .before .before .before .before .before .before .before .before .before .before .before .before .before .before .before .before .before .before .pre .1 in
+    let z = facts t (c .before .before .before .before .before .before .before .before .before .before .before .before .before .before .before .before .before .before) in
+    let x = picked (i .points .now) (i .own .now) (i .ends .now) (i .reach .now) (i .limit .now) (i .left .now) (i .choice .now) (i .d) (i .q) (i .h) p (c .before .before .before .before .before .before .before .before .before .if1 .left) in
+    omega arith
+
+lay-add-put-where-2 : (t : ℕ) → lay-lts.Need-add-put-where-2 (callees t) (lay-at t) lay.Post lay-Inv-loop lay-μ-loop
+lay-add-put-where-2 t c =
+    let z = facts t (c .before .before .before .before .before .before .before .before .before .before .before .before .before .before .before .before .before .before) in
+    omega arith
+
+lay-put-where-requires-2 : (t : ℕ) → lay-lts.Need-put-where-requires-2 (callees t) (lay-at t) lay.Post lay-Inv-loop lay-μ-loop
+lay-put-where-requires-2 t c κs =
+    let z = facts t (c .before .before .before .before .before .before .before .before .before .before .before .before .before .before .before .before .before .before) in
+    omega arith
+
+lay-returns-2 : (t : ℕ) → lay-lts.Need-returns-2 (callees t) (lay-at t) lay.Post lay-Inv-loop lay-μ-loop
+lay-returns-2 t c =
+    let i = c .before .before .before .before .before .before .before .before .before .before .before .before .before .before .before .before .before .before .before .args in
+    let p = c .before .before .before .before .before .before .before .before .before .before .before .before .before .before .before .before .before .before .before .pre .1 in
+    let z = facts t (c .before .before .before .before .before .before .before .before .before .before .before .before .before .before .before .before .before .before .before) in
+    let l = c .before .before .before .loop in
+    let x = picked (i .points .now) (i .own .now) (i .ends .now) (i .reach .now) (i .limit .now) (i .left .now) (i .choice .now) (i .d) (i .q) (i .h) p (c .before .before .before .before .before .before .before .before .before .before .if1 .left) in
+    let r = c .before .before .before .before .before .before .copy-row in
+    let last = row (i .choice .now) (i .h * 256) (i .q) in
+    let need = r .last .1 .1 .1 .1 .0 in
+    let low : c .before .before .before .before .smaller .result ≡ min (at need last) (at (i .ends .now) (i .d)) = c .before .before .before .before .smaller .ensures in
+    done (i .points .now) (i .own .now) (i .ends .now) (i .reach .now) (i .limit .now) (i .left .now) (i .choice .now) (p .0) (i .d) (i .q) (i .h) (p .1 .1 .0) (p .1 .1 .1 .0) (p .1 .1 .1 .1 .0) (p .1 .1 .1 .1 .1 .0) (i .key .words) (at (i .ends .now) (i .d)) last need (l .k .words) (c .put-where2 .result .words) (l .c) (l .f) (l .p) (z .e-is) refl (c .before .before .before .before .before .before .before .before .before .before .if1 .left) (x .0) (x .1) (omega (arith, r .kept .1 .1 .1 .1 .0)) (r .ensures) (rw low at (l .inv)) (omega (arith, c .before .before .loop-test)) (c .put-where2 .ensures)
+
+pub +lay-spec : {M : Type 1} → statement M
++lay-spec = close μ-lay λ t. lay-lts.spec (callees t)
+    (lay-at t)
+    lay.Post
+    lay-Inv-loop
+    lay-μ-loop
+    (lay-mul-base t)
+    (lay-add-if1 t)
+    (lay-mul-if1 t)
+    (lay-shared-slice-read-if1 t)
+    (lay-returns t)
+    (lay-mul-e t)
+    (lay-shared-slice-read-e t)
+    (lay-add-last t)
+    (lay-mul-last t)
+    (lay-shared-slice-read-last t)
+    (lay-slice-aggregate-copy-row t)
+    (lay-copy-row-requires t)
+    (lay-mul-smaller t)
+    (lay-array-read-smaller t)
+    (lay-smaller-requires t)
+    (lay-mul-need t)
+    (lay-array-write-need t)
+    (lay-add-f t)
+    (lay-loop-holds t)
+    (lay-sub-before t)
+    (lay-shared-slice-read-if2 t)
+    (lay-mul-l t)
+    (lay-shared-slice-read-l t)
+    (lay-slice-aggregate-step-child t)
+    (lay-sub-step-child t)
+    (lay-step-child-requires t)
+    (lay-put-where-requires t)
+    (lay-sub-lay t)
+    (lay-lay-requires t)
+    (lay-loop-less t)
+    (lay-loop-again t)
+    (lay-mul-if3 t)
+    (lay-array-read-if3 t)
+    (lay-put-requires t)
+    (lay-add-c t)
+    (lay-loop-less-2 t)
+    (lay-loop-again-2 t)
+    (lay-loop-less-3 t)
+    (lay-loop-again-3 t)
+    (lay-add-put-where t)
+    (lay-mul-put-where t)
+    (lay-shared-slice-read-put-where t)
+    (lay-add-put-where-2 t)
+    (lay-put-where-requires-2 t)
+    (lay-returns-2 t)

@@ -1,0 +1,4 @@
+-- Laws of laying.
+pub mod Sizes
+pub mod Turns
+pub mod Whole

@@ -1,0 +1,2 @@
+-- What a loop lays, as words.
+pub mod Laid

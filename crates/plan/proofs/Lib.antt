@@ -1,0 +1,2 @@
+-- Laws of the planner's code as a whole.
+pub mod Planning

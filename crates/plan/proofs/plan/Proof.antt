@@ -1,0 +1,186 @@
+use mathlib.Core.Path.{_≡_, refl, sym, _∙_}
+use Prim.Native.Nat.{_≤_}
+use native.Mathlib.Omega.{arith}
+use Rattle.nests.specs.Stored.{nestIn}
+use Rattle.nests.proofs.Levels.{starts-with-do}
+use Rattle.nests.proofs.Loops.{end-after}
+use Rattle.tables.specs.Charts.{Points, ChartRoom}
+use Rattle.tables.specs.Collected.{LinesRoom}
+use Rattle.tables.proofs.Preparing.{count-there, points-of, fits-of}
+use Rattle.settling.specs.Settled.{Room}
+use Rattle.laying.specs.Laid.{LayRoom}
+use Rattle.plan.proofs.Planning.{charts, choices, key, top-height}
+use borrow.Author.Needs.{needs}
+use Rattle.plan.proofs.plan.Statement.{statement}
+use Rattle.plan.proofs.plan.Tie as tie
+use Rattle.plan.proofs.plan.Reads as reads
+use Rattle.plan.proofs.plan.Lts as lts
+use Rattle.laying.proofs.lay.Reads as lay-reads
+use Rattle.placements.proofs.Placement.empty.Reads as empty-reads
+use Rattle.settling.proofs.settle.Reads as settle-reads
+use Rattle.tables.proofs.prepare.Reads as prepare-reads
+
+slice-aggregate-prepare : tie.Need-slice-aggregate-prepare
+slice-aggregate-prepare c = search needs
+
+slice-aggregate-prepare-2 : tie.Need-slice-aggregate-prepare-2
+slice-aggregate-prepare-2 c = search needs
+
+slice-aggregate-prepare-3 : tie.Need-slice-aggregate-prepare-3
+slice-aggregate-prepare-3 c = search needs
+
+slice-aggregate-prepare-4 : tie.Need-slice-aggregate-prepare-4
+slice-aggregate-prepare-4 c = search needs
+
+slice-aggregate-prepare-5 : tie.Need-slice-aggregate-prepare-5
+slice-aggregate-prepare-5 c = search needs
+
+slice-aggregate-prepare-6 : tie.Need-slice-aggregate-prepare-6
+slice-aggregate-prepare-6 c = search needs
+
+prepare-requires : tie.Need-prepare-requires
+prepare-requires c κs =
+    let n = c .before .before .before .before .before .before .args .nest in
+    let p = c .before .before .before .before .before .before .pre in
+    (p .0, (points-of (nestIn n) (p .1), (fits-of (nestIn n) (p .1), (record { own-room = omega arith; ends-room = omega arith; heights-room = omega arith }, record { reach-room = omega arith; limit-room = omega arith; has-room = omega arith }))))
+
+array-share-prefix-points : tie.Need-array-share-prefix-points
+array-share-prefix-points c = count-there (c .before .before .before .before .before .before .before .before .before .before .before .before .before .before .args .nest .count) (c .before .before .before .before .before .before .before .before .before .before .before .before .before .before .args .nest .points) (c .before .before .before .before .before .before .before .before .before .before .before .before .before .before .pre .0 .count-is)
+
+slice-aggregate-settle : tie.Need-slice-aggregate-settle
+slice-aggregate-settle c = search needs
+
+slice-aggregate-settle-2 : tie.Need-slice-aggregate-settle-2
+slice-aggregate-settle-2 c = search needs
+
+slice-aggregate-settle-3 : tie.Need-slice-aggregate-settle-3
+slice-aggregate-settle-3 c = search needs
+
+slice-aggregate-settle-4 : tie.Need-slice-aggregate-settle-4
+slice-aggregate-settle-4 c = search needs
+
+slice-aggregate-settle-5 : tie.Need-slice-aggregate-settle-5
+slice-aggregate-settle-5 c = search needs
+
+slice-aggregate-settle-6 : tie.Need-slice-aggregate-settle-6
+slice-aggregate-settle-6 c = search needs
+
+slice-aggregate-settle-7 : tie.Need-slice-aggregate-settle-7
+slice-aggregate-settle-7 c = search needs
+
+slice-aggregate-settle-8 : tie.Need-slice-aggregate-settle-8
+slice-aggregate-settle-8 c = search needs
+
+settle-requires : tie.Need-settle-requires
+settle-requires c κs =
+    let n = c .before .before .before .before .before .before .before .before .before .before .before .before .before .before .before .before .before .before .before .before .before .before .args .nest in
+    let p = c .before .before .before .before .before .before .before .before .before .before .before .before .before .before .before .before .before .before .before .before .before .before .pre in
+    let r = c .before .before .before .before .before .before .before .before .before .before .before .before .before .before .before .prepare in
+    let ps = nestIn n .points in
+    let ds = nestIn n .deps in
+    let w = points-of (nestIn n) (p .1) in
+    let own = r .last .1 .0 in
+    let ends = r .last .1 .1 .0 in
+    let heights = r .last .1 .1 .1 .0 in
+    let reach = r .last .1 .1 .1 .1 .0 in
+    let limit = r .last .1 .1 .1 .1 .1 .0 in
+    let has = r .last .1 .1 .1 .1 .1 .1 .0 in
+    (charts ps ds own ends heights reach limit has w (r .ensures) (omega (arith, r .kept .1 .0)) (omega (arith, r .kept .1 .1 .0)), (record { reach-room = omega (arith, r .kept .1 .1 .1 .1 .0); limit-room = omega (arith, r .kept .1 .1 .1 .1 .1 .0); has-room = omega (arith, r .kept .1 .1 .1 .1 .1 .1 .0); left-room = omega arith; choice-room = omega arith }, (starts-with-do ps (w .shape), top-height ps)))
+
+empty-requires : tie.Need-empty-requires
+empty-requires c κs = search needs
+
+array-share-prefix-points-2 : tie.Need-array-share-prefix-points-2
+array-share-prefix-points-2 c = count-there (c .before .before .before .before .before .before .before .before .before .before .before .before .before .before .before .before .before .before .before .before .before .before .before .before .before .before .args .nest .count) (c .before .before .before .before .before .before .before .before .before .before .before .before .before .before .before .before .before .before .before .before .before .before .before .before .before .before .args .nest .points) (c .before .before .before .before .before .before .before .before .before .before .before .before .before .before .before .before .before .before .before .before .before .before .before .before .before .before .pre .0 .count-is)
+
+slice-aggregate-lay : tie.Need-slice-aggregate-lay
+slice-aggregate-lay c = search needs
+
+slice-aggregate-lay-2 : tie.Need-slice-aggregate-lay-2
+slice-aggregate-lay-2 c = search needs
+
+slice-aggregate-lay-3 : tie.Need-slice-aggregate-lay-3
+slice-aggregate-lay-3 c = search needs
+
+slice-aggregate-lay-4 : tie.Need-slice-aggregate-lay-4
+slice-aggregate-lay-4 c = search needs
+
+slice-aggregate-lay-5 : tie.Need-slice-aggregate-lay-5
+slice-aggregate-lay-5 c = search needs
+
+slice-aggregate-lay-6 : tie.Need-slice-aggregate-lay-6
+slice-aggregate-lay-6 c = search needs
+
+slice-aggregate-lay-7 : tie.Need-slice-aggregate-lay-7
+slice-aggregate-lay-7 c = search needs
+
+lay-requires : tie.Need-lay-requires
+lay-requires c κs =
+    let n = c .before .before .before .before .before .before .before .before .before .before .before .before .before .before .before .before .before .before .before .before .before .before .before .before .before .before .before .before .before .before .before .before .before .args .nest in
+    let p = c .before .before .before .before .before .before .before .before .before .before .before .before .before .before .before .before .before .before .before .before .before .before .before .before .before .before .before .before .before .before .before .before .before .pre in
+    let r = c .before .before .before .before .before .before .before .before .before .before .before .before .before .before .before .before .before .before .before .before .before .before .before .before .before .before .prepare in
+    let ps = nestIn n .points in
+    let ds = nestIn n .deps in
+    let w = points-of (nestIn n) (p .1) in
+    let own = r .last .1 .0 in
+    let ends = r .last .1 .1 .0 in
+    let heights = r .last .1 .1 .1 .0 in
+    let reach = r .last .1 .1 .1 .1 .0 in
+    let limit = r .last .1 .1 .1 .1 .1 .0 in
+    let has = r .last .1 .1 .1 .1 .1 .1 .0 in
+    let s = c .before .before .before .before .before .before .before .before .before .before .settle in
+    let left = s .last .1 .1 .1 .1 .1 .1 .0 in
+    let choice = s .last .1 .1 .1 .1 .1 .1 .1 .0 in
+    (charts ps ds own ends heights reach limit has w (r .ensures) (omega (arith, r .kept .1 .0)) (omega (arith, r .kept .1 .1 .0)), (record { reach-room = omega (arith, r .kept .1 .1 .1 .1 .0); limit-room = omega (arith, r .kept .1 .1 .1 .1 .1 .0); left-room = omega (arith, s .kept .1 .1 .1 .1 .1 .1 .0); choice-room = omega (arith, s .kept .1 .1 .1 .1 .1 .1 .1 .0) }, (starts-with-do ps (w .shape), (top-height ps, (omega arith, (end-after ps (w .shape) 0 (starts-with-do ps (w .shape)), choices ps ds own ends heights reach limit has w (r .ensures) left choice (s .ensures .rows)))))))
+
+returns : tie.Need-returns
+returns c =
+    let n = c .before .before .before .before .before .before .before .before .before .before .before .before .before .before .before .before .before .before .before .before .before .before .before .before .before .before .before .before .before .before .before .before .before .before .args .nest in
+    let p = c .before .before .before .before .before .before .before .before .before .before .before .before .before .before .before .before .before .before .before .before .before .before .before .before .before .before .before .before .before .before .before .before .before .before .pre in
+    let r = c .before .before .before .before .before .before .before .before .before .before .before .before .before .before .before .before .before .before .before .before .before .before .before .before .before .before .before .prepare in
+    let ps = nestIn n .points in
+    let ds = nestIn n .deps in
+    let w = points-of (nestIn n) (p .1) in
+    let own = r .last .1 .0 in
+    let ends = r .last .1 .1 .0 in
+    let heights = r .last .1 .1 .1 .0 in
+    let reach = r .last .1 .1 .1 .1 .0 in
+    let limit = r .last .1 .1 .1 .1 .1 .0 in
+    let has = r .last .1 .1 .1 .1 .1 .1 .0 in
+    let s = c .before .before .before .before .before .before .before .before .before .before .before .settle in
+    let left = s .last .1 .1 .1 .1 .1 .1 .0 in
+    let choice = s .last .1 .1 .1 .1 .1 .1 .1 .0 in
+    key ps ds own ends heights reach limit has w (r .ensures) left choice (s .ensures .rows) (c .before .before .before .before .before .before .before .before .empty .result .words) (c .lay .result .words) (c .before .before .before .before .before .before .before .before .empty .ensures) (c .lay .ensures)
+
+pub plan-spec : {M : Type 1} → statement M
+plan-spec =
+    tie.close
+    (tie.spec
+    slice-aggregate-prepare
+    slice-aggregate-prepare-2
+    slice-aggregate-prepare-3
+    slice-aggregate-prepare-4
+    slice-aggregate-prepare-5
+    slice-aggregate-prepare-6
+    prepare-requires
+    array-share-prefix-points
+    slice-aggregate-settle
+    slice-aggregate-settle-2
+    slice-aggregate-settle-3
+    slice-aggregate-settle-4
+    slice-aggregate-settle-5
+    slice-aggregate-settle-6
+    slice-aggregate-settle-7
+    slice-aggregate-settle-8
+    settle-requires
+    empty-requires
+    array-share-prefix-points-2
+    slice-aggregate-lay
+    slice-aggregate-lay-2
+    slice-aggregate-lay-3
+    slice-aggregate-lay-4
+    slice-aggregate-lay-5
+    slice-aggregate-lay-6
+    slice-aggregate-lay-7
+    lay-requires
+    returns)

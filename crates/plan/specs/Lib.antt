@@ -1,0 +1,2 @@
+-- The key of a nest, as words.
+pub mod Planned

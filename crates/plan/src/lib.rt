@@ -1,0 +1,65 @@
+// The planner: the key of a nest.
+use nests::Nest;
+use placements::Placement;
+use rows::ROW;
+ghost use mathlib.Core.Path.{_≡_};
+ghost use mathlib.Core.Bool.{true};
+ghost use Rattle.nests.specs.Valid.{isValid};
+ghost use Rattle.nests.specs.Stored.{nestIn, IsCounted};
+ghost use Rattle.plan.specs.Planned.{PlanSays};
+
+// A table has a row for each height, and one that is spare.
+pub const TABLE: usize = 2304;
+
+// The tables of the nest, the rows of all loops, and what the outermost loop lays.
+pub fn plan(nest: Nest) -> Placement
+    requires { ⌜ IsCounted nest ⌝ }
+    requires { ⌜ isValid (nestIn nest) ≡ true ⌝ }
+    ensures { λ r. ⌜ PlanSays (nestIn nest) (r .words) ⌝ }
+{
+    let mut own = [0; ROW];
+    let mut ends = [0; ROW];
+    let mut heights = [0; ROW];
+    let mut has = [0; ROW];
+    let mut reach = [0; TABLE];
+    let mut limit = [0; TABLE];
+    tables::prepare(
+        nest,
+        &mut own,
+        &mut ends,
+        &mut heights,
+        &mut reach,
+        &mut limit,
+        &mut has,
+    );
+    let n = nest.count;
+    let points = nest.points;
+    let mut left = [0; TABLE];
+    let mut choice = [0; TABLE];
+    settling::settle(
+        &points[..n],
+        &own,
+        &ends,
+        &reach,
+        &limit,
+        &has,
+        &mut left,
+        &mut choice,
+        0,
+        Nest::DEPTH,
+    );
+    let none = Placement::empty();
+    laying::lay(
+        &points[..n],
+        &own,
+        &ends,
+        &reach,
+        &limit,
+        &left,
+        &choice,
+        0,
+        1,
+        Nest::DEPTH,
+        none,
+    )
+}

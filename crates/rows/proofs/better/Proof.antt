@@ -1,0 +1,28 @@
+use Rattle.rows.proofs.Choosing.{better-other, better-first, better-lower, better-higher}
+use Rattle.rows.proofs.better.Statement.{statement}
+use Rattle.rows.proofs.better.Tie as tie
+use Rattle.rows.proofs.better.Reads as reads
+use Rattle.rows.proofs.better.Lts as lts
+
+returns : tie.Need-returns
+returns c =
+    let i = c .before .before .args in
+    better-first (i .f) (i .at) (i .m) (i .q) (i .c) (i .here) (c .before .if1 .taken) (c .if2 .taken)
+
+returns-2 : tie.Need-returns-2
+returns-2 c =
+    let i = c .before .before .before .args in
+    better-lower (i .f) (i .at) (i .m) (i .q) (i .c) (i .here) (c .before .before .if1 .taken) (c .if3 .taken)
+
+returns-3 : tie.Need-returns-3
+returns-3 c =
+    let i = c .before .before .before .args in
+    better-higher (i .f) (i .at) (i .m) (i .q) (i .c) (i .here) (c .before .before .if1 .taken) (c .before .if2 .left) (c .if3 .left)
+
+returns-4 : tie.Need-returns-4
+returns-4 c =
+    let i = c .before .args in
+    better-other (i .f) (i .at) (i .m) (i .q) (i .c) (i .here) (c .if1 .left)
+
+pub better-spec : {M : Type 1} → statement M
+better-spec = tie.close (tie.spec returns returns-2 returns-3 returns-4)

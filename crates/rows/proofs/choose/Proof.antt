@@ -1,0 +1,103 @@
+use mathlib.Core.Path.{_≡_}
+use native.Mathlib.Omega.{arith}
+use borrow.Author.Needs.{needs}
+use Rattle.rows.proofs.Choosing.{Choosing, choosing-none, choosing-more, choosing-all}
+use Rattle.rows.proofs.choose.Statement.{statement}
+use Rattle.rows.proofs.choose.Tie as tie
+use Rattle.rows.proofs.choose.Reads as reads
+use Rattle.rows.proofs.choose.Lts as lts
+use Rattle.rows.proofs.better.Reads as better-reads
+
+abbrev Inv-loop : tie.InvT-loop
+Inv-loop cs fs m left₀ choice₀ base d e f₀ at₀ q₀ left choice f at q = Choosing cs fs m left₀ choice₀ base d e left choice f at q
+
+abbrev μ-loop : tie.MeasureT-loop
+μ-loop cs fs m left₀ choice₀ base d e f₀ at₀ q₀ left choice f at q = q
+
+loop-holds : tie.Need-loop-holds Inv-loop μ-loop
+loop-holds c =
+    let i = c .before .before .before .before .args in
+    choosing-none (i .cs .now) (i .fs .now) (i .m) (i .left .now) (i .choice .now) (i .base) (i .d) (i .e) (omega (arith, c .before .before .before .before .pre))
+
+mul-better : tie.Need-mul-better Inv-loop μ-loop
+mul-better c = omega arith
+
+shared-slice-read-better : tie.Need-shared-slice-read-better Inv-loop μ-loop
+shared-slice-read-better c = omega arith
+
+mul-better-2 : tie.Need-mul-better-2 Inv-loop μ-loop
+mul-better-2 c = omega arith
+
+shared-slice-read-better-2 : tie.Need-shared-slice-read-better-2 Inv-loop μ-loop
+shared-slice-read-better-2 c = omega arith
+
+better-requires : tie.Need-better-requires Inv-loop μ-loop
+better-requires c κs = search needs
+
+add-left : tie.Need-add-left Inv-loop μ-loop
+add-left c = omega arith
+
+mul-left : tie.Need-mul-left Inv-loop μ-loop
+mul-left c = omega arith
+
+slice-write-left : tie.Need-slice-write-left Inv-loop μ-loop
+slice-write-left c = omega arith
+
+add-choice : tie.Need-add-choice Inv-loop μ-loop
+add-choice c = omega arith
+
+mul-choice : tie.Need-mul-choice Inv-loop μ-loop
+mul-choice c = omega arith
+
+slice-write-choice : tie.Need-slice-write-choice Inv-loop μ-loop
+slice-write-choice c = omega arith
+
+sub-q : tie.Need-sub-q Inv-loop μ-loop
+sub-q c = omega arith
+
+loop-less : tie.Need-loop-less Inv-loop μ-loop
+loop-less c = omega arith
+
+loop-again : tie.Need-loop-again Inv-loop μ-loop
+loop-again c =
+    let i = c .before .before .before .before .before .before .before .before .before .args in
+    let l = c .before .before .before .before .loop in
+    choosing-more (i .cs .now) (i .fs .now) (i .m) (i .left .now) (i .choice .now) (i .base) (i .d) (i .e) (omega (arith, c .before .before .before .before .before .before .before .before .before .pre)) (l .left) (l .choice) (l .f) (l .at) (l .q) (l .inv) (c .better .result .f) (c .better .result .at) (omega arith) (omega (arith, c .before .before .before .before .before .before .before .before .before .pre)) (omega (arith, c .before .before .before .before .before .before .before .before .before .pre)) (c .better .ensures)
+
+same-length : tie.Need-same-length Inv-loop μ-loop
+same-length c = c .before .loop .inv .left-length
+
+same-length-2 : tie.Need-same-length-2 Inv-loop μ-loop
+same-length-2 c = c .before .loop .inv .choice-length
+
+returns : tie.Need-returns Inv-loop μ-loop
+returns c =
+    let i = c .before .before .before .before .before .before .args in
+    let l = c .before .loop in
+    let r = choosing-all (i .cs .now) (i .fs .now) (i .m) (i .left .now) (i .choice .now) (i .base) (i .d) (i .e) (omega (arith, c .before .before .before .before .before .before .pre)) (l .left) (l .choice) (l .f) (l .at) (l .q) (l .inv) (omega arith) in
+    (r .chosen, (r .left-kept, r .choice-kept))
+
+pub choose-spec : {M : Type 1} → statement M
+choose-spec =
+    tie.close
+    (tie.spec
+    Inv-loop
+    μ-loop
+    loop-holds
+    mul-better
+    shared-slice-read-better
+    mul-better-2
+    shared-slice-read-better-2
+    better-requires
+    add-left
+    mul-left
+    slice-write-left
+    add-choice
+    mul-choice
+    slice-write-choice
+    sub-q
+    loop-less
+    loop-again
+    same-length
+    same-length-2
+    returns)

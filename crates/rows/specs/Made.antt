@@ -1,0 +1,61 @@
+-- The row of one loop, made from the values of its suffixes: what is written, and that nothing else is.
+-- Main definitions: `Kept`, `Copied`, `Cleared`, `Chosen`, `RowMade`.
+use mathlib.Core.Path.{_≡_}
+use mathlib.Core.Bool.{Bool}
+use mathlib.Core.List.{List}
+use Prim.Native.Nat.{ℕ, suc, _+_, _-_, _≤_, _<_}
+use lib.Dec.{ltb}
+use Rattle.planner.specs.Sweep.{State, Front, front, better, best, someOf, leftOf, choiceOf}
+use Rattle.sweeps.specs.Listed.{at, row, listed, tabled}
+use Rattle.rows.specs.Valued.{lined}
+
+-- every entry is as before, but for those from low + 1 to high
+abbrev pub Kept : List ℕ → List ℕ → ℕ → ℕ → Type 0
+Kept xs xs′ low high = (i : ℕ) → (low < i → high < i) → at xs′ i ≡ at xs i
+
+-- the entries from low + 1 to high of the row that starts at base stand in a list
+abbrev pub Copied : List ℕ → ℕ → ℕ → ℕ → List ℕ → Type 0
+Copied from base low high xs = (a : ℕ) → low < a → a ≤ high → at xs a ≡ row from base a
+
+-- they are 0, and the others as before
+pub record Cleared (xs xs′ : List ℕ) (base low high : ℕ) : Type 0 where
+  pub zero-at : (q : ℕ) → low < q → q ≤ high → row xs′ base q ≡ 0
+  pub kept : Kept xs xs′ (base + low) (base + high)
+
+-- the better of two fronts
+abbrev pub BetterSays : ℕ → ℕ → ℕ → ℕ → ℕ → ℕ → ℕ → ℕ → Type 0
+BetterSays f at m q c here f′ at′ = (v : State) → c ≡ v .c → here ≡ v .f → front f′ at′ ≡ better m q v (front f at)
+
+-- the fronts with c barriers of the suffixes above d up to e, and where they come from
+pub record Chosen (v : ℕ → State) (c : ℕ) (left choice : List ℕ) (base d e : ℕ) : Type 0 where
+  pub left-is : (q : ℕ) → d < q → q ≤ e → row left base q ≡ best v c e (suc e) q .f
+  pub choice-is : (q : ℕ) → d < q → q ≤ e → row choice base q ≡ best v c e (suc e) q .at
+
+-- of all values that two lists hold
+abbrev pub ChooseSays : List ℕ → List ℕ → ℕ → List ℕ → List ℕ → ℕ → ℕ → ℕ → Type 0
+ChooseSays cs fs c left choice base d e =
+    (v : ℕ → State) →
+    ((q : ℕ) → d < q → q ≤ e → at cs q ≡ v q .c) →
+    ((q : ℕ) → d < q → q ≤ e → at fs q ≡ v q .f) →
+    Chosen v c left choice base d e
+
+-- the row of the loop d with its ENDDO e, by some list of needs that agrees with its row of reach on its range
+pub record RowMade (ps own reach limit left choice left′ choice′ : List ℕ) (base d e some : ℕ) : Type 0 where
+  pub need : List ℕ
+  pub need-is : Copied reach base d e need
+  pub left-is
+      : (has : Bool) (lay : ℕ → ℕ → ℕ → Bool)
+      → someOf (listed ps own e) (lined has need limit base) (tabled left (base - 256) lay) d ≡ ltb 0 some
+      → (q : ℕ)
+      → d < q
+      → q ≤ e
+      → row left′ base q ≡ leftOf (listed ps own e) (lined has need limit base) (tabled left (base - 256) lay) d q
+  pub choice-is
+      : (has : Bool) (lay : ℕ → ℕ → ℕ → Bool)
+      → someOf (listed ps own e) (lined has need limit base) (tabled left (base - 256) lay) d ≡ ltb 0 some
+      → (q : ℕ)
+      → d < q
+      → q ≤ e
+      → row choice′ base q ≡ choiceOf (listed ps own e) (lined has need limit base) (tabled left (base - 256) lay) d q
+  pub left-kept : Kept left left′ (base + d) (base + e)
+  pub choice-kept : Kept choice choice′ (base + d) (base + e)

@@ -1,0 +1,6 @@
+-- Laws of settling: the loops inside a loop one after the other, then the loop.
+pub mod Heights
+pub mod Some
+pub mod Turns
+pub mod Own
+pub mod Sizes
