@@ -8,48 +8,47 @@ use native.Mathlib.Omega.{arith}
 use lib.Dec.{eqb, ltb, leb}
 use borrow.Author.Tests.{ltb-true, ltb-false, leb-true, eqb-false}
 use Rattle.laws.specs.Choice.{pick}
-use Rattle.laws.proofs.Tests.{never, and-true}
+use Rattle.laws.proofs.Choices.{pick-same}
+use Rattle.laws.proofs.Tests.{and-true}
 use Rattle.planner.specs.Sweep.{Loops, Lines, Tables, State, needOf, put, stepPlain, seek, free, inner, outer}
 use Rattle.planner.specs.Sweep.{childAt, stepChild, next, step, walk, start, sweep, close, value}
 use Rattle.planner.proofs.World.{Child, LoopLaws}
-use Rattle.planner.proofs.Walk.{seek-is, AtPlain, AtChild, Boundary, stop-bound, after-child, after-plain}
-use Rattle.planner.proofs.Walk.{child-bound, plain-bound}
+use Rattle.planner.proofs.Walk.{plain-cases, close-cases, seek-is, AtPlain, AtChild, Boundary, stop-bound}
+use Rattle.planner.proofs.Walk.{after-child, after-plain, child-bound, plain-bound}
 
 pub record Same (s t : State) : Type 0 where
   pub c-is : s .c ≡ t .c
   pub f-is : s .f ≡ t .f
   pub w-is : (g : ℕ) → s .w g ≡ t .w g
 
--- the same choice between things that are the same
-pub pick-same : {A : Type 0} (R : A → A → Type 0) (t u : Bool) {a b c d : A} → t ≡ u → (t ≡ true → R a c) →
-    (t ≡ false → R b d) → R (pick t a b) (pick u c d)
-pick-same R true true e f g = f refl
-pick-same R true false e f g = never (sym e)
-pick-same R false true e f g = never e
-pick-same R false false e f g = g refl
-
 put-same : (p : ℕ) (s t : State) → Same s t → Same (put p s) (put p t)
 unfolding put
 put-same p s t e =
     record {
-      c-is = ap suc (e .c-is);
+      c-is = rw (e .c-is, put);
       f-is = refl;
       w-is = λ g. ap (λ (b : Bool). eqb g (suc p) || b) (e .w-is g);
     }
 
 plain-same : (need need′ : ℕ → ℕ) (p : ℕ) (s t : State) → need (suc p) ≡ need′ (suc p) → Same s t →
     Same (stepPlain need p s) (stepPlain need′ p t)
-unfolding stepPlain
 plain-same need need′ p s t n e =
-    pick-same Same (ltb (need (suc p)) (s .f)) (ltb (need′ (suc p)) (t .f)) (rw (n, e .f-is))
-    (λ _. put-same p s t e) (λ _. e)
+    plain-cases (λ u. Same u (stepPlain need′ p t)) need p s
+    (λ i. plain-cases (Same (put p s)) need′ p t (λ j. put-same p s t e) (λ j. absurd (omega (arith, e .f-is))))
+    (λ i. plain-cases (Same s) need′ p t (λ j. absurd (omega (arith, e .f-is))) (λ j. e))
+
+close-same : (d u v : ℕ) (s t : State) → u ≡ v → Same s t → Same (close d u s) (close d v t)
+close-same d u v s t h e =
+    close-cases (λ r. Same r (close d v t)) d u s
+    (λ i. close-cases (Same s) d v t (λ j. e) (λ j. absurd (omega (arith, e .f-is))))
+    (λ i. close-cases (Same (put d s)) d v t (λ j. absurd (omega (arith, e .f-is))) (λ j. put-same d s t e))
 
 seek-same : (need need′ : ℕ → ℕ) (f L p : ℕ) → ((a : ℕ) → L < a → a ≤ p → need a ≡ need′ a) →
     seek need f L p ≡ seek need′ f L p
 unfolding seek
 seek-same need need′ f L zero n = refl
 seek-same need need′ f L (suc p) n =
-    pick-same _≡_ (ltb L (suc p)) (ltb L (suc p)) refl
+    pick-same _≡_ refl
     (here (seek-same need need′ f L p (λ a i j. n a i (omega arith)))) (λ _. refl)
   where
     here : seek need f L p ≡ seek need′ f L p → ltb L (suc p) ≡ true →
@@ -86,8 +85,8 @@ module _
   child-at-same : (b : ℕ) → (0 < b → L < b) → Same (childAt left lay L p s b) (childAt left′ lay′ L p t b)
   unfolding childAt
   child-at-same b h =
-      pick-same Same (eqb b 0) (eqb b 0) refl (λ _. free-same)
-      (λ z. more (h (omega (arith, eqb-false b 0 z))))
+      pick-same Same refl (λ _. free-same)
+      (λ (z : eqb b 0 ≡ false). more (h (omega (arith, eqb-false b 0 z))))
     where
       tests : L < b → (v : Bool) → leb b p ≡ v → (v && ltb 0 (left b)) ≡ (v && ltb 0 (left′ b))
       tests i true y = rw (same-left b i (leb-true b p y))
@@ -97,7 +96,7 @@ module _
           Same (pick (leb b p && ltb 0 (left b)) (inner left lay b s) (outer left lay L p s))
           (pick (leb b p && ltb 0 (left′ b)) (inner left′ lay′ b t) (outer left′ lay′ L p t))
       more i =
-          pick-same Same (leb b p && ltb 0 (left b)) (leb b p && ltb 0 (left′ b)) (tests i (leb b p) refl)
+          pick-same Same (tests i (leb b p) refl)
           (λ y. inner-same b i (leb-true b p (and-true (leb b p) (ltb 0 (left b)) y .0))) (λ _. outer-same)
 
   child-same : (need need′ : ℕ → ℕ) → ((a : ℕ) → L < a → a ≤ suc p → need a ≡ need′ a) →
@@ -176,7 +175,7 @@ module _
     walk-alike zero p s t b e = e
     walk-alike (suc k) zero s t b e = e
     walk-alike (suc k) (suc p) s t b e =
-        pick-same Same (ltb p d) (ltb p d) refl (λ _. e)
+        pick-same Same refl (λ _. e)
         (λ y. on (step-alike p s t (ltb-false p d y) b e) (walk-alike k))
       where
         on : Stepped p s t →
@@ -195,10 +194,10 @@ module _
         record { c-is = refl; f-is = refl; w-is = λ g. refl })
 
   pub value-alike : (q : ℕ) → d < q → q ≤ B .stop d → Same (value B N T d q) (value B′ N′ T′ d q)
-  unfolding value close needOf
+  unfolding value needOf
   value-alike q a b =
-      pick-same Same (leb (s .f) (N .limit d q)) (leb (t .f) (N′ .limit d q)) (rw (e .f-is, alike .limit-is q a b))
-      (λ _. e) (λ _. put-same d s t e)
+      close-same d (N .limit d q) (N′ .limit d q) s t (alike .limit-is q a b)
+      (sweep-alike need need′ (λ a i j. rw (alike .reach-is a i j, alike .stop-is)))
     where
       need : ℕ → ℕ
       need = needOf (N .reach d) q (B .stop d)
@@ -211,6 +210,3 @@ module _
 
       t : State
       t = sweep B′ T′ need′ d
-
-      e : Same s t
-      e = sweep-alike need need′ (λ a i j. rw (alike .reach-is a i j, alike .stop-is))

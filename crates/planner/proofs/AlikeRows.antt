@@ -8,13 +8,14 @@ use native.Mathlib.Omega.{arith}
 use lib.Dec.{eqb, ltb, leb}
 use borrow.Author.Tests.{ltb-true, ltb-false, eqb-true, le-leb}
 use Rattle.laws.specs.Choice.{pick}
+use Rattle.laws.proofs.Choices.{pick-by, pick-same}
 use Rattle.laws.proofs.Tests.{le-or}
-use Rattle.planner.specs.Sweep.{Loops, Lines, Tables, State, bare, value, least, Front, front, better, best}
+use Rattle.planner.specs.Sweep.{Loops, Lines, Tables, State, value, least, Front, front, better, best}
 use Rattle.planner.specs.Sweep.{childSome, someOf, costOf, frontOf, leftOf, choiceOf, layOf}
 use Rattle.planner.proofs.World.{Child, LoopLaws}
 use Rattle.planner.proofs.Choices.{Fronts, best-is}
 use Rattle.planner.proofs.Rows.{value-front, holdsAt}
-use Rattle.planner.proofs.Alike.{Same, pick-same, Alike, value-alike}
+use Rattle.planner.proofs.Alike.{Same, Alike, value-alike}
 
 least-same : (v u : ℕ → ℕ) (d e : ℕ) → d < e → ((q : ℕ) → d < q → q ≤ e → v q ≡ u q) → least v d e ≡ least u d e
 unfolding least
@@ -35,7 +36,7 @@ best-same : (v u : ℕ → State) (c e k q : ℕ) → ((a : ℕ) → q ≤ a →
 unfolding best better
 best-same v u c e zero q n = refl
 best-same v u c e (suc k) q n =
-    pick-same _≡_ (ltb e q) (ltb e q) refl (λ _. refl)
+    pick-same _≡_ refl (λ _. refl)
     (here (best-same v u c e k (suc q) (λ a i j. n a (omega arith) j)))
   where
     here : best v c e k (suc q) ≡ best u c e k (suc q) → ltb e q ≡ false →
@@ -118,7 +119,7 @@ module _
   -- the suffix that is chosen lies in the range
   chosen : (q : ℕ) → d < q → 0 < leftOf B N T d q → (d < choiceOf B N T d q) × (choiceOf B N T d q ≤ e)
   unfolding leftOf choiceOf frontOf
-  chosen q a h = go (someOf B N T d) h
+  chosen q a = go (someOf B N T d)
     where
       r : Front
       r = best (value B N T d) (costOf B N T d) e (suc e) q
@@ -134,14 +135,14 @@ module _
 
   pub lay-alike : (q g : ℕ) → d < q → q ≤ e → layOf B N T d q g ≡ layOf B′ N′ T′ d q g
   unfolding layOf
-  lay-alike q g a b = rw (← left-alike q a b, ← choice-alike q a b) (go (ltb 0 (leftOf B N T d q)) refl)
+  lay-alike q g a b =
+      rw (← left-alike q a b, ← choice-alike q a b)
+      (pick-same (λ (x y : ℕ → Bool). x g ≡ y g) refl here (λ _. refl))
     where
       at : ℕ
       at = choiceOf B N T d q
 
-      go : (t : Bool) → ltb 0 (leftOf B N T d q) ≡ t →
-          pick t (value B N T d at .w) bare g ≡ pick t (value B′ N′ T′ d at .w) bare g
-      go true z =
+      here : ltb 0 (leftOf B N T d q) ≡ true → value B N T d at .w g ≡ value B′ N′ T′ d at .w g
+      here z =
           let c = chosen q a (ltb-true 0 (leftOf B N T d q) z) in
           same-value at (c .0) (c .1) .w-is g
-      go false z = refl

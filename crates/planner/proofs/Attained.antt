@@ -3,20 +3,17 @@
 -- is 0, nothing is laid.
 -- Main statements: `attained`, `blank`.
 use mathlib.Core.Path.{_≡_, refl, _∙_, fun-ext, subst⁻¹}
-use mathlib.Core.Bool.{Bool, true, false}
+use mathlib.Core.Bool.{true}
 use mathlib.Core.Logic.{_⊎_, inl}
 use Prim.Native.Nat.{ℕ, suc, _≤_, _<_}
 use native.Mathlib.Omega.{arith}
-use lib.Dec.{leb}
-use borrow.Author.Tests.{leb-true, leb-false}
-use Rattle.laws.specs.Choice.{pick}
 use Rattle.laws.proofs.Tests.{never-both}
 use Rattle.planner.specs.Sweep.{Lines, Tables, State, put, sweep, close, needOf, value}
 use Rattle.planner.specs.Sweep.{front, IsTable}
 use Rattle.planner.proofs.World.{World, Inside, Lawful}
 use Rattle.planner.proofs.Inside.{self-or-inside, first-own}
 use Rattle.planner.proofs.Claim.{Hit, Sound, Settled, Laid}
-use Rattle.planner.proofs.Walk.{AtPlain}
+use Rattle.planner.proofs.Walk.{close-cases, AtPlain}
 use Rattle.planner.proofs.Choices.{Fronts}
 use Rattle.planner.proofs.Rows.{row-there, row-lay, row-blank}
 use Rattle.planner.proofs.Hits.{hit-wider}
@@ -75,19 +72,17 @@ module _
 
     -- the prefix closed
     closed : (s : State) → Swept W T need d d s → Within W T need d (N .limit d q) (close d (N .limit d q) s)
-    unfolding close put
-    closed s k = go (leb (s .f) (N .limit d q)) refl
+    unfolding put
+    closed s k =
+        close-cases (Within W T need d (N .limit d q)) d (N .limit d q) s
+        (λ z. record { laid = k; within = z }) (λ z. record { laid = more z; within = above })
       where
         above : d < N .limit d q
         above = limit-low W N laws d is-do q low high
 
-        go : (t : Bool) → leb (s .f) (N .limit d q) ≡ t → Within W T need d (N .limit d q) (pick t s (put d s))
-        go true z = record { laid = k; within = leb-true (s .f) (N .limit d q) z }
-        go false z =
-            let f : suc d < s .f = omega (arith, leb-false (s .f) (N .limit d q) z, above) in
-            let p : Swept W T need d d (put d s) =
-            put-swept W (laws .of-loops) T d kids need needs d s at-first (raised need s f k) in
-            record { laid = p; within = above }
+        more : N .limit d q < s .f → Swept W T need d d (put d s)
+        more z =
+            put-swept W (laws .of-loops) T d kids need needs d s at-first (raised need s (omega (arith, above)) k)
 
     valued : Within W T need d (N .limit d q) v
     unfolding value

@@ -7,9 +7,6 @@ use mathlib.Core.Bool.{Bool, true, false}
 use mathlib.Core.Logic.{⊎-elim}
 use Prim.Native.Nat.{ℕ, suc, _≤_, _<_}
 use native.Mathlib.Omega.{arith}
-use lib.Dec.{leb}
-use borrow.Author.Tests.{leb-false}
-use Rattle.laws.specs.Choice.{pick}
 use Rattle.laws.proofs.Tests.{test, lt-by}
 use Rattle.planner.specs.Sweep.{Loops, Lines, Tables, State, put, sweep, close, needOf, value}
 use Rattle.planner.specs.Sweep.{someOf, front, IsTable}
@@ -20,6 +17,7 @@ use Rattle.planner.proofs.Counts.{cnt-some}
 use Rattle.planner.proofs.Claim.{Hit, mineOf, count, Settled, Best, Leads, Idle, Claim}
 use Rattle.planner.proofs.Hits.{hit-wider, Last, last-gap, last-late}
 use Rattle.planner.proofs.Needs.{need-cases, Cuts}
+use Rattle.planner.proofs.Walk.{close-cases}
 use Rattle.planner.proofs.Ring.{limit-high, ring-gap}
 use Rattle.planner.proofs.Choices.{Fronts, least-le}
 use Rattle.planner.proofs.Rows.{Holder, some-home, row-cost, row-fronts, row-idle, row-busy}
@@ -36,17 +34,14 @@ inv-bound B x d s i = record { le = omega (arith, i .le); tight = λ z. i .tight
 -- closing the prefix keeps it, if x has a gap at or before the limit
 close-bound : (B : Loops) (x : ℕ → Bool) (d t : ℕ) (s : State) → Bound B x d s → t ≤ B .stop d → Hit x (suc d) t →
     Bound B x d (close d t s)
-unfolding close put
-close-bound B x d t s b high h = go (leb (s .f) t) refl
+unfolding put
+close-bound B x d t s b high h =
+    close-cases (Bound B x d) d t s (λ e. b) (λ e. record { le = fewer e; tight = λ z g i j k. i })
   where
     fewer : t < s .f → s .c < count B x d
     fewer z = lt-by (λ y. (
         let i : h .gap ≤ B .stop d = omega (arith, h .high) in
         omega (arith, b .tight (omega (arith, b .le)) (h .gap) (h .low) i (h .holds), h .high)))
-
-    go : (u : Bool) → leb (s .f) t ≡ u → Bound B x d (pick u s (put d s))
-    go true e = b
-    go false e = record { le = fewer (leb-false (s .f) t e); tight = λ z g i j k. i }
 
 module _
     (W : World) (N : Lines) (laws : Lawful W N) (T : Tables) (table : IsTable (W .loops) N T)

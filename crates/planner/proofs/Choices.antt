@@ -5,9 +5,9 @@ use mathlib.Core.Bool.{Bool, true, false, _&&_, _||_}
 use mathlib.Core.Logic.{_⊎_, inl, inr, ⊎-elim}
 use Prim.Native.Nat.{ℕ, zero, suc, _+_, _≤_, _<_}
 use native.Mathlib.Omega.{arith}
-use lib.Dec.{eqb, ltb, leb}
+use lib.Dec.{eqb, leb}
 use borrow.Author.Tests.{ltb-true, ltb-false, leb-true, leb-false, eqb-true, eqb-false}
-use Rattle.laws.specs.Choice.{pick}
+use Rattle.laws.proofs.Choices.{pick-by}
 use Rattle.laws.proofs.Tests.{le-or, and-true, and-false, or-true, or-false}
 use Rattle.planner.specs.Sweep.{State, least, Front, front, better, best}
 
@@ -15,7 +15,8 @@ use Rattle.planner.specs.Sweep.{State, least, Front, front, better, best
 pub least-le : (v : ℕ → ℕ) (d e q : ℕ) → d < q → q ≤ e → least v d e ≤ v q
 unfolding least
 least-le v d zero q a b = absurd (omega arith)
-least-le v d (suc e) q a b = go (leb e d || leb (v (suc e)) (least v d e)) refl (least-le v d e q a)
+least-le v d (suc e) q a b =
+    pick-by (λ r. r ≤ v q) (here (least-le v d e q a)) (λ h. at-end (least v d e) (later h) (least-le v d e q a))
   where
     -- the first is it: it is at most the second
     first-le : (leb e d || leb (v (suc e)) (least v d e)) ≡ true → q ≤ e → v (suc e) ≤ least v d e
@@ -34,12 +35,12 @@ least-le v d (suc e) q a b = go (leb e d || leb (v (suc e)) (least v d e)) refl 
         rw y h))
         (le-or q e)
 
-    go : (t : Bool) → (leb e d || leb (v (suc e)) (least v d e)) ≡ t → (q ≤ e → least v d e ≤ v q) →
-        pick t (v (suc e)) (least v d e) ≤ v q
-    go true h i = at-end (v (suc e)) (omega arith) (λ j. omega (arith, first-le h j, i j))
-    go false h i =
-        let k = or-false (leb e d) (leb (v (suc e)) (least v d e)) h in
-        at-end (least v d e) (omega (arith, leb-false (v (suc e)) (least v d e) (k .1))) i
+    here : (q ≤ e → least v d e ≤ v q) → (leb e d || leb (v (suc e)) (least v d e)) ≡ true → v (suc e) ≤ v q
+    here r h = at-end (v (suc e)) (omega arith) (λ j. omega (arith, first-le h j, r j))
+
+    later : (leb e d || leb (v (suc e)) (least v d e)) ≡ false → least v d e ≤ v (suc e)
+    later h =
+        omega (arith, leb-false (v (suc e)) (least v d e) (or-false (leb e d) (leb (v (suc e)) (least v d e)) h .1))
 
 -- and is one of them
 pub record Attains (v : ℕ → ℕ) (d e r : ℕ) : Type 0 where
@@ -51,15 +52,12 @@ pub record Attains (v : ℕ → ℕ) (d e r : ℕ) : Type 0 where
 pub least-at : (v : ℕ → ℕ) (d e : ℕ) → d < e → Attains v d e (least v d e)
 unfolding least
 least-at v d zero a = absurd (omega arith)
-least-at v d (suc e) a = go (leb e d || leb (v (suc e)) (least v d e)) refl (least-at v d e)
+least-at v d (suc e) a =
+    pick-by (Attains v d (suc e)) (λ h. record { at = suc e; low = a; high = omega arith; is = refl })
+    (λ h. later (least-at v d e (leb-false e d (or-false (leb e d) (leb (v (suc e)) (least v d e)) h .0))))
   where
-    go : (t : Bool) → (leb e d || leb (v (suc e)) (least v d e)) ≡ t → (d < e → Attains v d e (least v d e)) →
-        Attains v d (suc e) (pick t (v (suc e)) (least v d e))
-    go true h i = record { at = suc e; low = a; high = omega arith; is = refl }
-    go false h i =
-        let l : d < e = leb-false e d (or-false (leb e d) (leb (v (suc e)) (least v d e)) h .0) in
-        let k : Attains v d e (least v d e) = i l in
-        record { at = k .at; low = k .low; high = omega (arith, k .high); is = k .is }
+    later : Attains v d e (least v d e) → Attains v d (suc e) (least v d e)
+    later k = record { at = k .at; low = k .low; high = omega (arith, k .high); is = k .is }
 
 -- the best front among the values from q to e with c barriers
 pub record Fronts (v : ℕ → State) (c e q : ℕ) (r : Front) : Type 0 where
@@ -126,36 +124,38 @@ module _ (v : ℕ → State) (c e q : ℕ) (fits : q ≤ e) (pos : 0 < v q .f) (
 
   better-is : Fronts v c e q (better c q (v q) r)
   unfolding better
-  better-is = go (eqb (v q .c) c && (eqb (r .f) 0 || leb (v q .f) (r .f))) refl
+  better-is = pick-by (Fronts v c e q) here later
     where
-      go : (t : Bool) → (eqb (v q .c) c && (eqb (r .f) 0 || leb (v q .f) (r .f))) ≡ t →
-          Fronts v c e q (pick t (front (v q .f) q) r)
-      go true h =
-          let k = and-true (eqb (v q .c) c) (eqb (r .f) 0 || leb (v q .f) (r .f)) h in
+      sooner : Bool
+      sooner = eqb (r .f) 0 || leb (v q .f) (r .f)
+
+      here : (eqb (v q .c) c && sooner) ≡ true → Fronts v c e q (front (v q .f) q)
+      here h =
+          let k = and-true (eqb (v q .c) c) sooner h in
           take-here (eqb-true (v q .c) c (k .0)) (⊎-elim
           (λ (z : eqb (r .f) 0 ≡ true). inl (eqb-true (r .f) 0 z))
           (λ (z : leb (v q .f) (r .f) ≡ true). inr (leb-true (v q .f) (r .f) z))
           (or-true (eqb (r .f) 0) (leb (v q .f) (r .f)) (k .1)))
-      go false h =
+
+      later : (eqb (v q .c) c && sooner) ≡ false → Fronts v c e q r
+      later h =
           keep-later
           (λ (m : v q .c ≡ c). ⊎-elim
           (λ (z : eqb (v q .c) c ≡ false). absurd (eqb-false (v q .c) c z m))
-          (λ (z : (eqb (r .f) 0 || leb (v q .f) (r .f)) ≡ false). (
+          (λ (z : sooner ≡ false). (
           let k = or-false (eqb (r .f) 0) (leb (v q .f) (r .f)) z in
           let y : r .f ≡ 0 → ⊥ = eqb-false (r .f) 0 (k .0) in
           (omega (arith, y), leb-false (v q .f) (r .f) (k .1))))
-          (and-false (eqb (v q .c) c) (eqb (r .f) 0 || leb (v q .f) (r .f)) h))
+          (and-false (eqb (v q .c) c) sooner h))
 
 pub best-is : (v : ℕ → State) (c e k q : ℕ) → e < q + k → ((a : ℕ) → q ≤ a → a ≤ e → 0 < v a .f) →
     Fronts v c e q (best v c e k q)
 unfolding best
 best-is v c e zero q h pos = none-fronts v c e q (omega arith)
 best-is v c e (suc k) q h pos =
-    go (ltb e q) refl (best-is v c e k (suc q) (omega arith) (λ a i j. pos a (omega arith) j))
+    pick-by (Fronts v c e q) (λ z. none-fronts v c e q (ltb-true e q z))
+    (λ z. later (ltb-false e q z) (best-is v c e k (suc q) (omega arith) (λ a i j. pos a (omega arith) j)))
   where
-    go : (t : Bool) → ltb e q ≡ t → Fronts v c e (suc q) (best v c e k (suc q)) →
-        Fronts v c e q (pick t (front 0 0) (better c q (v q) (best v c e k (suc q))))
-    go true z i = none-fronts v c e q (ltb-true e q z)
-    go false z i =
-        let h : q ≤ e = ltb-false e q z in
-        better-is v c e q h (pos q (omega arith) h) (best v c e k (suc q)) i
+    later : q ≤ e → Fronts v c e (suc q) (best v c e k (suc q)) →
+        Fronts v c e q (better c q (v q) (best v c e k (suc q)))
+    later l = better-is v c e q l (pos q (omega arith) l) (best v c e k (suc q))

@@ -2,21 +2,19 @@
 -- have a gap from q on; by induction from the inside. So what is laid for a loop is first among all that are sound
 -- there with the same counts.
 -- Main statements: `first`, `laid-first`, `computed-first`.
-use mathlib.Core.Path.{_≡_, refl, sym, _∙_}
+use mathlib.Core.Path.{_≡_, sym, _∙_}
 use mathlib.Core.Bool.{Bool, true, false}
 use mathlib.Core.Logic.{_⊎_, inl, inr}
 use Prim.Native.Nat.{ℕ, zero, suc, _≤_, _<_}
 use native.Mathlib.Omega.{arith}
-use lib.Dec.{leb}
-use borrow.Author.Tests.{leb-false}
-use Rattle.laws.specs.Choice.{pick}
 use Rattle.laws.proofs.Tests.{le-or}
-use Rattle.planner.specs.Sweep.{Loops, Lines, Tables, State, put, sweep, close, needOf, value, IsTable}
+use Rattle.planner.specs.Sweep.{Loops, Lines, Tables, State, put, sweep, needOf, value, IsTable}
 use Rattle.planner.specs.Plan.{tableOf, keyOf}
 use Rattle.planner.proofs.World.{World, Inside, EachInside, LoopLaws, Lawful}
 use Rattle.planner.proofs.Inside.{inside-self, from-inside, first-own}
 use Rattle.planner.proofs.Counts.{cnt, cnt-none}
 use Rattle.planner.proofs.Claim.{Hit, mineOf, count, Sound, Settled, Best, Laid, Leads, Claim}
+use Rattle.planner.proofs.Walk.{close-cases}
 use Rattle.planner.proofs.Rows.{row-lay, row-there}
 use Rattle.planner.proofs.Exchange.{mine-other}
 use Rattle.planner.proofs.Needs.{Cuts}
@@ -50,8 +48,12 @@ module _ (W : World) (N : Lines) (laws : Lawful W N) (T : Tables) (table : IsTab
     -- the value for a suffix that x cuts with as many own gaps: a gap right after the DO closes the prefix, or none
     value-first : (x : ℕ → Bool) (q : ℕ) → Settled W (T .cost) x d → d < q → q ≤ e → Hit x q e →
         value (W .loops) N T d q .c ≡ count (W .loops) x d → NotAfter (value (W .loops) N T d q .w) x d e
-    unfolding value close put
-    value-first x q settled low high hit = go (leb (s .f) (N .limit d q)) refl
+    unfolding value put
+    value-first x q settled low high hit =
+        close-cases (λ v. v .c ≡ count (W .loops) x d → NotAfter (v .w) x d e) d (N .limit d q) s
+        (λ z c. runs W (laws .of-loops) T d is-do kids firsts need x settled hits .first (omega (arith, none)))
+        (λ z c. put-first W x d d s (first-own (W .loops) (laws .of-loops) d is-do)
+        (stands z) (omega (arith, none)))
       where
         need : ℕ → ℕ
         need = needOf (N .reach d) q e
@@ -65,16 +67,10 @@ module _ (W : World) (N : Lines) (laws : Lawful W N) (T : Tables) (table : IsTab
         none : cnt (mineOf (W .loops) x d) d ≡ 0
         none = none-before (W .loops) (laws .of-loops) x d
 
-        go : (t : Bool) → leb (s .f) (N .limit d q) ≡ t → pick t s (put d s) .c ≡ count (W .loops) x d →
-            NotAfter (pick t s (put d s) .w) x d e
-        go true z c =
-            runs W (laws .of-loops) T d is-do kids firsts need x settled hits .first (omega (arith, none))
-        go false z c =
-            let f : suc d < s .f =
-            omega (arith, leb-false (s .f) (N .limit d q) z, limit-low W N laws d is-do q low high) in
-            let r : Runs W x d (suc d) s =
-            runs-above W (laws .of-loops) T d is-do kids firsts need x settled hits f in
-            put-first W x d d s (first-own (W .loops) (laws .of-loops) d is-do) r (omega (arith, none))
+        stands : N .limit d q < s .f → Runs W x d (suc d) s
+        stands z =
+            runs-above W (laws .of-loops) T d is-do kids firsts need x settled hits
+            (omega (arith, limit-low W N laws d is-do q low high))
 
     module _ (x : ℕ → Bool) (q : ℕ) (best : Best W (T .cost) x d) (low : d < q) (hit : Hit x q e) where
       inside : q ≤ e

@@ -2,13 +2,13 @@
 -- own lines, and the suffix. A line ends no earlier than it starts, and one that starts in a child ends behind it.
 -- Main definitions: `NeedLaws`, `Cuts`. Main statements: `need-cases`, `need-laws`, `more-cuts`.
 use mathlib.Core.Path.{_≡_, refl}
-use mathlib.Core.Bool.{Bool, true, false, _&&_}
+use mathlib.Core.Bool.{Bool, true, false}
 use mathlib.Core.Logic.{⊎-elim}
 use Prim.Native.Nat.{ℕ, _≤_, _<_}
 use native.Mathlib.Omega.{arith}
 use lib.Dec.{eqb, ltb}
 use borrow.Author.Tests.{ltb-true, ltb-false, eqb-true, eqb-false}
-use Rattle.laws.specs.Choice.{pick}
+use Rattle.laws.proofs.Choices.{pick-by}
 use Rattle.laws.proofs.Tests.{le-or, and-true, and-false}
 use Rattle.planner.specs.Sweep.{Loops, Lines, bare, needOf}
 use Rattle.planner.proofs.World.{World, Child, Lawful}
@@ -44,28 +44,22 @@ pub record NeedLaws (B : Loops) (d : ℕ) (need : ℕ → ℕ) : Type 0 where
 module _ (reach : ℕ → ℕ) (q e : ℕ) where
   pub need-cases : (P : ℕ → Type 0) (a : ℕ) → P (reach a) → (a ≡ q → e < reach a → P e) → P (needOf reach q e a)
   unfolding needOf
-  need-cases P a line suffix = go (eqb a q && ltb e (reach a)) refl
-    where
-      go : (t : Bool) → (eqb a q && ltb e (reach a)) ≡ t → P (pick t e (reach a))
-      go true h =
-          let j = and-true (eqb a q) (ltb e (reach a)) h in
-          suffix (eqb-true a q (j .0)) (ltb-true e (reach a) (j .1))
-      go false h = line
+  need-cases P a line suffix =
+      pick-by P (λ h. (
+      let j = and-true (eqb a q) (ltb e (reach a)) h in
+      suffix (eqb-true a q (j .0)) (ltb-true e (reach a) (j .1))))
+      (λ h. line)
 
   pub need-least : (a : ℕ) → needOf reach q e a ≤ reach a
   need-least a = need-cases (λ n. n ≤ reach a) a (omega arith) (λ h i. omega arith)
 
   pub need-suffix : needOf reach q e q ≤ e
   unfolding needOf
-  need-suffix = go (eqb q q && ltb e (reach q)) refl
-    where
-      go : (t : Bool) → (eqb q q && ltb e (reach q)) ≡ t → pick t e (reach q) ≤ e
-      go true h = omega arith
-      go false h =
-          ⊎-elim
-          (λ (z : eqb q q ≡ false). absurd (eqb-false q q z refl))
-          (λ (z : ltb e (reach q) ≡ false). ltb-false e (reach q) z)
-          (and-false (eqb q q) (ltb e (reach q)) h)
+  need-suffix =
+      pick-by (λ n. n ≤ e) (λ h. omega arith) (λ h. ⊎-elim
+      (λ (z : eqb q q ≡ false). absurd (eqb-false q q z refl))
+      (λ (z : ltb e (reach q) ≡ false). ltb-false e (reach q) z)
+      (and-false (eqb q q) (ltb e (reach q)) h))
 
 module _ (W : World) (N : Lines) (laws : Lawful W N) (d : ℕ) (is-do : W .loops .isDo d ≡ true) where
   abbrev e : ℕ

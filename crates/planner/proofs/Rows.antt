@@ -6,15 +6,15 @@ use mathlib.Core.Bool.{Bool, true, false, _&&_}
 use mathlib.Core.Logic.{_⊎_, inl, inr, ⊎-elim}
 use Prim.Native.Nat.{ℕ, zero, suc, _≤_, _<_}
 use native.Mathlib.Omega.{arith}
-use lib.Dec.{eqb, ltb, leb}
+use lib.Dec.{eqb, ltb}
 use borrow.Author.Tests.{ltb-true, eqb-true, eq-eqb, lt-ltb, le-ltb}
-use Rattle.laws.specs.Choice.{pick, firstOf}
+use Rattle.laws.specs.Choice.{firstOf}
 use Rattle.laws.proofs.Tests.{never, never-both, eq-or, eq-by, true-by, and-true, and-intro, or-true, or-false}
-use Rattle.planner.specs.Sweep.{Loops, Lines, Tables, put, free, inner, outer}
-use Rattle.planner.specs.Sweep.{sweep, close, needOf, value, least, front, best, childSome, someOf}
+use Rattle.planner.specs.Sweep.{Loops, Lines, Tables, State, put, free, inner, outer}
+use Rattle.planner.specs.Sweep.{sweep, needOf, value, least, front, best, childSome, someOf}
 use Rattle.planner.specs.Sweep.{costOf, frontOf, leftOf, choiceOf, layOf, IsTable}
 use Rattle.planner.proofs.World.{LoopLaws}
-use Rattle.planner.proofs.Walk.{plain-cases, child-cases, along}
+use Rattle.planner.proofs.Walk.{plain-cases, child-cases, close-cases, along}
 use Rattle.planner.proofs.Choices.{Fronts, best-is}
 
 -- loop l lies directly inside d and holds barriers, as a test
@@ -94,29 +94,31 @@ first-pos : (l f : ℕ) → 0 < f → 0 < firstOf l f
 first-pos zero f h = h
 first-pos (suc l) f h = omega arith
 
+put-pos : (p : ℕ) (s : State) → 0 < put p s .f
+unfolding put
+put-pos p s = omega arith
+
 pub sweep-front : (B : Loops) → LoopLaws B → (T : Tables) (need : ℕ → ℕ) (d : ℕ) → B .isDo d ≡ true →
     0 < sweep B T need d .f
-unfolding put free inner outer
+unfolding free inner outer
 sweep-front B laws T need d is-do =
     along B laws T need d is-do (λ p s. 0 < s .f)
-    (λ p s at i. plain-cases (λ s. 0 < s .f) need p s (λ h. omega arith) (λ h. i))
+    (λ p s at i. plain-cases (λ s. 0 < s .f) need p s (λ h. put-pos p s) (λ h. i))
     (λ p l s at i. child-cases (λ s. 0 < s .f) need (T .left l) (T .lay l) l p s
     (λ k. first-pos (T .left l (suc l)) (s .f) i)
     (λ b k. k .there)
     (λ b k. first-pos (T .left l (suc l)) (suc p) (omega arith)))
-    (omega arith)
+    (omega (arith, laws .long d is-do))
 
 pub value-front : (B : Loops) → LoopLaws B → (N : Lines) (T : Tables) (d q : ℕ) → B .isDo d ≡ true →
     0 < value B N T d q .f
-unfolding value close put
-value-front B laws N T d q is-do = go (leb (sweep B T need d .f) (N .limit d q))
+unfolding value
+value-front B laws N T d q is-do =
+    close-cases (λ s. 0 < s .f) d (N .limit d q) (sweep B T need d)
+    (λ h. sweep-front B laws T need d is-do) (λ h. put-pos d (sweep B T need d))
   where
     need : ℕ → ℕ
     need = needOf (N .reach d) q (B .stop d)
-
-    go : (t : Bool) → 0 < pick t (sweep B T need d) (put d (sweep B T need d)) .f
-    go true = sweep-front B laws T need d is-do
-    go false = omega arith
 
 -- the row of d
 module _
