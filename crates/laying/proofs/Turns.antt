@@ -1,19 +1,19 @@
 -- The turns of laying: at each boundary of the sweep the placement holds what the sweep has laid so far.
 -- Main definitions: `Held`, `Laying`. Main statements: `begin`, `on-put`, `on-skip`, `child-asked`, `on-child`.
-use mathlib.Core.Path.{_≡_, refl, sym, _∙_, ap}
+use mathlib.Core.Path.{_≡_, refl, _∙_, ap}
 use mathlib.Core.Bool.{Bool, true, false, _||_}
 use mathlib.Core.List.{List}
-use mathlib.Core.Logic.{_⊎_, inl, inr, ⊎-elim}
-use Prim.Native.Nat.{ℕ, suc, _+_, _-_, _*_, _≤_, _<_}
+use mathlib.Core.Logic.{_⊎_, ⊎-elim}
+use Prim.Native.Nat.{ℕ, suc, _+_, _-_, _≤_, _<_}
 use native.Mathlib.Omega.{arith}
 use lib.Dec.{eqb, ltb}
 use lib.ListN.{length, getD}
 use borrow.Author.Tests.{eq-eqb, ne-eqb}
 use Rattle.laws.specs.Choice.{pick}
 use Rattle.laws.proofs.Ors.{or-assoc}
-use Rattle.nests.specs.Loops.{isDo, isEnd, endOf, ownerOf}
+use Rattle.nests.specs.Loops.{isDo, endOf, ownerOf}
 use Rattle.nests.proofs.Loops.{end-after, end-there, owner-of-end}
-use Rattle.nests.proofs.Gaps.{Child, child-law, plain-law, child-ends-inside}
+use Rattle.nests.proofs.Gaps.{Child, child-law, plain-law}
 use Rattle.placements.specs.Words.{holds}
 use Rattle.planner.specs.Sweep.{Lines, Tables, bare, only, also, IsTable}
 use Rattle.planner.specs.Home.{loopsIn}

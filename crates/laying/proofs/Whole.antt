@@ -1,13 +1,13 @@
 -- What the whole sweep lays, with the barrier after the DO where the front lies beyond the limit, is what the loop lays.
 -- Main statements: `blank`, `done`.
 use mathlib.Core.Path.{_≡_, refl, sym, _∙_, ap}
-use mathlib.Core.Bool.{Bool, true, false, _||_}
+use mathlib.Core.Bool.{Bool, true, _||_}
 use mathlib.Core.List.{List}
-use mathlib.Core.Logic.{_⊎_, inl, inr, ⊎-elim}
+use mathlib.Core.Logic.{_⊎_, ⊎-elim}
 use Prim.Native.Nat.{ℕ, suc, _+_, _-_, _*_, _≤_, _<_, min}
 use native.Mathlib.Numerals.{add-one}
 use native.Mathlib.Omega.{arith}
-use lib.Dec.{eqb, ltb, leb}
+use lib.Dec.{eqb, leb}
 use lib.ListN.{length, set}
 use borrow.Author.Tests.{lt-ltb, le-ltb, le-leb, lt-leb}
 use Rattle.laws.specs.Choice.{pick}
@@ -16,7 +16,7 @@ use Rattle.laws.proofs.Tests.{le-or}
 use Rattle.nests.specs.Loops.{isDo, endOf}
 use Rattle.nests.proofs.Loops.{end-after}
 use Rattle.placements.specs.Words.{holds}
-use Rattle.planner.specs.Sweep.{Loops, Lines, Tables, State, st, needOf, put, sweep, close, value, IsTable}
+use Rattle.planner.specs.Sweep.{Loops, Lines, Tables, State, st, needOf, put, sweep, close, value}
 use Rattle.planner.specs.Home.{loopsIn}
 use Rattle.planner.proofs.Instance.{loop-laws}
 use Rattle.planner.proofs.Alike.{Alike, value-alike}
@@ -26,7 +26,7 @@ use Rattle.sweeps.proofs.Turns as sweeps
 use Rattle.rows.specs.Valued.{lined}
 use Rattle.rows.specs.Made.{Copied}
 use Rattle.rows.proofs.Suffix.{lowered}
-use Rattle.settling.specs.Settled.{HasHeight, Charts, LinesAt, Rows}
+use Rattle.settling.specs.Settled.{HasHeight, Charts, Rows}
 use Rattle.settling.proofs.Own.{agree}
 use Rattle.laying.specs.Laid.{PutSays, LaySays}
 use Rattle.laying.proofs.Turns.{Held, Laying}

@@ -1,10 +1,10 @@
 -- The tables of a nest are what settling and laying ask, and what the outermost loop lays is the key.
 -- Main statements: `charts`, `lines`, `choices`, `key`, `top-height`.
-use mathlib.Core.Path.{_≡_, refl, sym, _∙_, ap}
-use mathlib.Core.Bool.{Bool, true, false, _||_}
+use mathlib.Core.Path.{_≡_, refl, _∙_}
+use mathlib.Core.Bool.{true, false}
 use mathlib.Core.List.{List}
-use mathlib.Core.Logic.{_⊎_, inl, inr, ⊎-elim}
-use Prim.Native.Nat.{ℕ, suc, _+_, _-_, _*_, _≤_, _<_}
+use mathlib.Core.Logic.{_⊎_, ⊎-elim}
+use Prim.Native.Nat.{ℕ, _-_, _≤_, _<_}
 use native.Mathlib.Omega.{arith}
 use lib.ListN.{length}
 use Rattle.laws.proofs.Ors.{or-none}
@@ -12,9 +12,7 @@ use Rattle.laws.proofs.Tests.{test}
 use Rattle.nests.specs.Kinds.{POINTS}
 use Rattle.nests.specs.Nests.{Dep}
 use Rattle.nests.specs.Loops.{isDo, endOf}
-use Rattle.nests.specs.Valid.{isShape}
-use Rattle.nests.proofs.Levels.{point-in, starts-with-do}
-use Rattle.nests.proofs.Loops.{end-after}
+use Rattle.nests.proofs.Levels.{point-in}
 use Rattle.placements.specs.Words.{holds}
 use Rattle.planner.specs.Sweep.{Loops, Lines, Tables, someOf, IsTable}
 use Rattle.planner.specs.Plan.{tableOf, keyOf}
@@ -23,9 +21,9 @@ use Rattle.planner.proofs.World.{LoopLaws}
 use Rattle.planner.proofs.Instance.{loop-laws}
 use Rattle.planner.proofs.Rows.{row-fronts, row-idle}
 use Rattle.planner.proofs.Tables.{table-is}
-use Rattle.tables.specs.Charts.{Points, Charted}
+use Rattle.tables.specs.Charts.{Points}
 use Rattle.tables.specs.Prepared.{Prepared}
-use Rattle.sweeps.specs.Listed.{at, row}
+use Rattle.sweeps.specs.Listed.{at}
 use Rattle.settling.specs.Settled.{HasHeight, Charts, LinesAt, Rows}
 use Rattle.laying.specs.Laid.{Choices, LaySays}
 

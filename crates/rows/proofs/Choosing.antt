@@ -1,20 +1,19 @@
 -- The fronts of a row, chosen from the last suffix to the first.
 -- Main definition: `Choosing`. Main statements: `choosing-none`, `choosing-more`, `choosing-all`.
 use mathlib.Core.Path.{_≡_, refl, sym, _∙_, ap}
-use mathlib.Core.Bool.{Bool, true, false, _&&_, _||_}
+use mathlib.Core.Bool.{Bool, true, false, _||_}
 use mathlib.Core.List.{List}
 use Prim.Native.Nat.{ℕ, zero, suc, _+_, _-_, _≤_, _<_}
-use native.Mathlib.Numerals.{add-one}
 use native.Mathlib.Omega.{arith}
-use lib.Dec.{eqb, ltb, leb}
-use lib.ListN.{length, getD, set, length-set}
+use lib.Dec.{eqb}
+use lib.ListN.{length, set, length-set}
 use lib.Seq.{getD-set-other}
 use borrow.Author.Tests.{lt-ltb, le-ltb, le-leb, lt-leb, eq-eqb, ne-eqb}
 use Rattle.laws.specs.Choice.{pick}
 use Rattle.laws.proofs.Tests.{lt-by}
 use Rattle.laws.proofs.Stores.{stored}
 use Rattle.planner.specs.Sweep.{State, Front, front, better, best}
-use Rattle.sweeps.specs.Listed.{at, row}
+use Rattle.sweeps.specs.Listed.{at}
 use Rattle.rows.specs.Made.{Kept, BetterSays, Chosen}
 
 -- the better of two fronts, by cases

@@ -1,6 +1,6 @@
 -- Part of a row copied, and part of a row cleared.
 -- Main statements: `copied-none`, `copied-more`, `cleared-none`, `cleared-more`.
-use mathlib.Core.Path.{_≡_, refl, sym, _∙_}
+use mathlib.Core.Path.{_≡_, refl, _∙_}
 use mathlib.Core.List.{List}
 use Prim.Native.Nat.{ℕ, _+_, _≤_, _<_}
 use native.Mathlib.Omega.{arith}
@@ -8,8 +8,8 @@ use lib.ListN.{length, set}
 use lib.Seq.{getD-set-other}
 use Rattle.laws.proofs.Tests.{le-by}
 use Rattle.laws.proofs.Stores.{stored}
-use Rattle.sweeps.specs.Listed.{at, row}
-use Rattle.rows.specs.Made.{Kept, Copied, Cleared}
+use Rattle.sweeps.specs.Listed.{row}
+use Rattle.rows.specs.Made.{Copied, Cleared}
 
 pub copied-none : (from : List ℕ) (base d : ℕ) (xs : List ℕ) → Copied from base d d xs
 copied-none from base d xs a i j = absurd (omega arith)

@@ -3,16 +3,16 @@
 use mathlib.Core.Path.{_≡_, refl, sym, _∙_, ap}
 use mathlib.Core.Bool.{Bool, true, false}
 use mathlib.Core.List.{List}
-use Prim.Native.Nat.{ℕ, suc, _+_, _-_, _≤_, _<_}
+use Prim.Native.Nat.{ℕ, suc, _+_, _-_, _<_}
 use native.Mathlib.Omega.{arith}
 use lib.Dec.{ltb}
 use lib.ListN.{drop}
 use lib.Seq.{getD-drop}
 use borrow.Author.Tests.{lt-ltb, le-ltb}
-use Rattle.planner.specs.Sweep.{Loops, Lines, Tables, State, Front, front, best, value, least, someOf, costOf}
+use Rattle.planner.specs.Sweep.{Loops, Lines, Tables, Front, front, best, value, least, someOf, costOf}
 use Rattle.planner.specs.Sweep.{frontOf, leftOf, choiceOf}
-use Rattle.sweeps.specs.Listed.{at, row, listed, tabled}
-use Rattle.rows.specs.Valued.{lined, valueOf, Listing, ValuesSay}
+use Rattle.sweeps.specs.Listed.{at, listed, tabled}
+use Rattle.rows.specs.Valued.{lined, valueOf, ValuesSay}
 use Rattle.rows.specs.Made.{Kept, Copied, Cleared, ChooseSays, Chosen, RowMade}
 
 front-some

@@ -1,11 +1,10 @@
 -- The value of a suffix: one sweep with the suffix's place in `need` lowered, then the prefix.
 -- Main statements: `lowered`, `closed`, `opened`, `put-back`.
-use mathlib.Core.Path.{_≡_, refl, sym, _∙_, ap, fun-ext}
+use mathlib.Core.Path.{_≡_, refl, _∙_, fun-ext}
 use mathlib.Core.Bool.{Bool, true, false, _&&_}
 use mathlib.Core.List.{List}
-use mathlib.Core.Logic.{_⊎_, inl, inr, ⊎-elim}
-use Prim.Native.Nat.{ℕ, zero, suc, _+_, _≤_, _<_, min}
-use native.Mathlib.Numerals.{add-one}
+use mathlib.Core.Logic.{_⊎_, ⊎-elim}
+use Prim.Native.Nat.{ℕ, _+_, _≤_, _<_, min}
 use native.Mathlib.Omega.{arith}
 use lib.Dec.{eqb, ltb, leb}
 use lib.ListN.{length, getD, set}
@@ -14,8 +13,8 @@ use borrow.Author.Tests.{ltb-true, ltb-false, eq-eqb, ne-eqb, le-leb, lt-leb}
 use Rattle.laws.specs.Choice.{pick}
 use Rattle.laws.proofs.Tests.{eq-or}
 use Rattle.planner.specs.Sweep.{State, needOf, put, close, value, sweep}
-use Rattle.sweeps.specs.Listed.{at, row, listed, tabled, sweepOf, Swept, SweepSays}
-use Rattle.rows.specs.Valued.{lined, valueOf, Valued, ValueSays}
+use Rattle.sweeps.specs.Listed.{at, row, listed, tabled, SweepSays}
+use Rattle.rows.specs.Valued.{Valued, ValueSays}
 
 lower : (need : List ℕ) (q e a : ℕ) → q < length need → getD (set need q (min (at need q) e)) a 0 ≡
     needOf (at need) q e a

@@ -6,7 +6,7 @@ use mathlib.Core.List.{List}
 use Prim.Native.Nat.{ℕ, suc, _+_, _-_, _≤_, _<_}
 use lib.Dec.{ltb}
 use lib.ListN.{length}
-use Rattle.planner.specs.Sweep.{State, Front, front, better, best, someOf, leftOf, choiceOf}
+use Rattle.planner.specs.Sweep.{State, front, better, best, someOf, leftOf, choiceOf}
 use Rattle.sweeps.specs.Listed.{at, row, listed, tabled, Low}
 use Rattle.rows.specs.Valued.{lined}
 

@@ -1,9 +1,9 @@
 -- Heights of loops, and cells of tables: a loop inside another has a lower height, and so another row.
 -- Main statements: `height-low`, `height-high`, `child-height`, `inner-height`, `kept-columns`, `kept-row`.
-use mathlib.Core.Path.{_≡_, refl, sym, _∙_, ap}
+use mathlib.Core.Path.{_≡_, ap}
 use mathlib.Core.Bool.{true}
 use mathlib.Core.List.{List}
-use mathlib.Core.Logic.{_⊎_, inl, inr, ⊎-elim}
+use mathlib.Core.Logic.{_⊎_, ⊎-elim}
 use Prim.Native.Nat.{ℕ, suc, _+_, _-_, _*_, _≤_, _<_}
 use native.Mathlib.Omega.{arith}
 use Rattle.laws.proofs.Tests.{le-or, eq-or}

@@ -1,19 +1,18 @@
 -- The loop's own row, made when all loops inside it are settled: the code's lists agree with the nest on the loop's
 -- range, so that the row is the one of the planner's tables.
 -- Main statements: `agree`, `done`.
-use mathlib.Core.Path.{_≡_, refl, sym, _∙_, ap}
-use mathlib.Core.Bool.{Bool, true, false, _||_}
+use mathlib.Core.Path.{_≡_, refl, sym, _∙_}
+use mathlib.Core.Bool.{true, _||_}
 use mathlib.Core.List.{List}
-use mathlib.Core.Logic.{_⊎_, inl, inr, ⊎-elim}
-use Prim.Native.Nat.{ℕ, zero, suc, _+_, _-_, _*_, _≤_, _<_}
+use mathlib.Core.Logic.{_⊎_, ⊎-elim}
+use Prim.Native.Nat.{ℕ, suc, _-_, _*_, _≤_, _<_}
 use native.Mathlib.Omega.{arith}
 use lib.Dec.{ltb}
 use Rattle.laws.proofs.Tests.{le-or}
 use Rattle.nests.specs.Kinds.{POINTS}
-use Rattle.nests.specs.Loops.{isDo, endOf, ownerOf}
-use Rattle.nests.proofs.Levels.{point-in}
-use Rattle.nests.proofs.Loops.{end-after, end-there}
-use Rattle.planner.specs.Sweep.{Loops, Lines, Tables, someOf, childSome, leftOf, choiceOf, IsTable}
+use Rattle.nests.specs.Loops.{isDo, endOf}
+use Rattle.nests.proofs.Loops.{end-there}
+use Rattle.planner.specs.Sweep.{Loops, Lines, Tables, someOf, childSome, IsTable}
 use Rattle.planner.specs.Home.{loopsIn}
 use Rattle.planner.proofs.World.{Child, LoopLaws}
 use Rattle.planner.proofs.Instance.{loop-laws}
@@ -22,7 +21,7 @@ use Rattle.planner.proofs.AlikeRows.{some-alike, left-alike, choice-alike}
 use Rattle.sweeps.specs.Listed.{at, row, listed, tabled}
 use Rattle.rows.specs.Valued.{lined}
 use Rattle.rows.specs.Made.{Copied, RowMade}
-use Rattle.settling.specs.Settled.{HasHeight, Charts, LinesAt, Rows, KeptColumns, SettleSays}
+use Rattle.settling.specs.Settled.{HasHeight, Charts, LinesAt, Rows, SettleSays}
 use Rattle.settling.proofs.Heights.{height-low, child-height, inner-height, kept-columns, kept-row}
 use Rattle.settling.proofs.Turns.{Sofar, Settling}
 

@@ -3,21 +3,20 @@
 use mathlib.Core.Path.{_≡_, refl, sym, _∙_, ap}
 use mathlib.Core.Bool.{Bool, true, false, _||_}
 use mathlib.Core.List.{List}
-use mathlib.Core.Logic.{_⊎_, inl, inr, ⊎-elim}
+use mathlib.Core.Logic.{_⊎_, ⊎-elim}
 use Prim.Native.Nat.{ℕ, zero, suc, _+_, _-_, _*_, _≤_, _<_}
 use native.Mathlib.Numerals.{add-one}
 use native.Mathlib.Omega.{arith}
-use lib.Dec.{eqb, ltb}
+use lib.Dec.{ltb}
 use lib.ListN.{length, getD}
-use borrow.Author.Tests.{lt-ltb, le-ltb, eqb-true, ne-eqb}
+use borrow.Author.Tests.{lt-ltb, eqb-true, ne-eqb}
 use Rattle.laws.specs.Bits.{one}
 use Rattle.laws.specs.Choice.{firstOf}
 use Rattle.laws.proofs.Ors.{or-swap, or-none}
-use Rattle.laws.proofs.Tests.{le-or, le-by, lt-by, never-both, test}
+use Rattle.laws.proofs.Tests.{le-or, lt-by, never-both, test}
 use Rattle.nests.specs.Kinds.{POINTS}
 use Rattle.nests.specs.Loops.{isDo, isEnd, endOf, ownerOf}
-use Rattle.nests.proofs.Levels.{point-in}
-use Rattle.nests.proofs.Loops.{end-after, end-there, end-is-end, nested, owner-inside, end-has-do}
+use Rattle.nests.proofs.Loops.{end-after, end-there, end-is-end, owner-inside, end-has-do}
 use Rattle.nests.proofs.Gaps.{Child, owner-after-do, owner-after-plain, owner-after-child, child-ends-inside}
 use Rattle.planner.specs.Sweep.{Lines, Tables, childSome, IsTable}
 use Rattle.planner.specs.Home.{loopsIn}

@@ -1,12 +1,9 @@
 -- The search for the last open line, step by step.
 -- Main statements: `seek-here`, `seek-on`, `seek-none`.
-use mathlib.Core.Path.{_≡_, refl, sym, _∙_}
-use mathlib.Core.Bool.{Bool, true, false}
+use mathlib.Core.Path.{_≡_, refl}
 use Prim.Native.Nat.{ℕ, zero, suc, _-_, _≤_, _<_}
 use native.Mathlib.Omega.{arith}
-use lib.Dec.{ltb}
 use borrow.Author.Tests.{lt-ltb, le-ltb}
-use Rattle.laws.specs.Choice.{pick}
 use Rattle.planner.specs.Sweep.{seek}
 
 pub seek-here : (need : ℕ → ℕ) (f low a : ℕ) → low < a → need a < f → seek need f low a ≡ a

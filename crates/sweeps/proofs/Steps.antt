@@ -1,16 +1,15 @@
 -- A step over a child, case by case, and a turn of the sweep.
 -- Main statements: `step-free`, `step-inner`, `step-outer`.
-use mathlib.Core.Path.{_≡_, refl, sym, _∙_, ap}
+use mathlib.Core.Path.{_≡_, refl, _∙_}
 use mathlib.Core.Bool.{Bool, true, false, _&&_}
 use mathlib.Core.List.{List}
-use mathlib.Core.Logic.{_⊎_, ⊎-elim}
 use Prim.Native.Nat.{ℕ, zero, suc, _+_, _≤_, _<_}
 use native.Mathlib.Numerals.{add-one}
 use native.Mathlib.Omega.{arith}
-use lib.Dec.{eqb, ltb, leb}
-use borrow.Author.Tests.{lt-ltb, le-ltb, le-leb, lt-leb, eq-eqb, ne-eqb}
+use lib.Dec.{ltb, leb}
+use borrow.Author.Tests.{lt-ltb, le-ltb, le-leb, eq-eqb, ne-eqb}
 use Rattle.laws.specs.Choice.{pick, firstOf}
-use Rattle.planner.specs.Sweep.{State, st, also, only, seek, free, inner, outer, childAt, stepChild}
+use Rattle.planner.specs.Sweep.{st, seek, free, inner, outer, childAt, stepChild}
 use Rattle.sweeps.specs.Listed.{at, row, laid, Stepped}
 
 -- what `seek` finds lies above l and not above p

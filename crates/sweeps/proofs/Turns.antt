@@ -9,7 +9,6 @@ use native.Mathlib.Omega.{arith}
 use lib.Dec.{eqb, ltb}
 use lib.ListN.{getD}
 use borrow.Author.Tests.{lt-ltb, le-ltb, eq-eqb, ne-eqb}
-use Rattle.laws.specs.Choice.{pick}
 use Rattle.planner.specs.Sweep.{State, st, bare, only, also, put, stepPlain, stepChild, next, step, walk, sweep}
 use Rattle.sweeps.specs.Listed.{at, row, listed, tabled, laid, Stepped, sweepOf, Swept}
 

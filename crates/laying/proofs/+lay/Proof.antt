@@ -1,17 +1,15 @@
 -- `lay` meets its contract; the height falls at each call. The invariant of its loop: the placement holds what the sweep
 -- has laid so far (`Laying`). At its end that is what the loop lays (`done`).
-use mathlib.Core.Path.{_≡_, refl, sym, _∙_}
-use mathlib.Core.Bool.{true}
-use Prim.Native.Nat.{_+_, _-_, _*_, _≤_, min}
+use mathlib.Core.Path.{_≡_, refl, _∙_}
+use Prim.Native.Nat.{_+_, _-_, _*_, min, ℕ, _<_}
 use native.Mathlib.Omega.{arith}
-use lib.ListN.{length, getD, set, length-set}
+use lib.ListN.{length, set, length-set}
 use borrow.Author.Needs.{needs}
 use Rattle.sweeps.specs.Listed.{at, row}
 use Rattle.laying.proofs.Sizes.{Sizes, sizes, picked}
 use Rattle.laying.proofs.Turns as turns
 use Rattle.laying.proofs.Turns.{Laying}
 use Rattle.laying.proofs.Whole.{blank, done}
-use Prim.Native.Nat.{ℕ, _<_}
 use borrow.Fn.Kinds.{In}
 use borrow.Fn.PlainCycle.{Measures, is, falls, and}
 use Rattle.laying.proofs.lay.Reads as lay

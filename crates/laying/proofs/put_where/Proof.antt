@@ -1,12 +1,9 @@
 -- `put_where` meets its contract.
-use mathlib.Core.Path.{refl, _∙_}
+use mathlib.Core.Path.{refl}
 use borrow.Author.Needs.{needs}
 use borrow.Author.Tests.{lt-ltb, le-ltb}
 use Rattle.laying.proofs.put_where.Statement.{statement}
 use Rattle.laying.proofs.put_where.Tie as tie
-use Rattle.laying.proofs.put_where.Reads as reads
-use Rattle.laying.proofs.put_where.Lts as lts
-use Rattle.placements.proofs.Placement.put.Reads as put-reads
 
 put-requires : tie.Need-put-requires
 put-requires c κs = search needs

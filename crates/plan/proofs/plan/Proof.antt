@@ -1,25 +1,13 @@
 -- `plan` meets its contract: the tables are what settling and laying ask, and what loop 0 lays is the key (Planning).
-use mathlib.Core.Path.{_≡_, refl, sym, _∙_}
-use Prim.Native.Nat.{_≤_}
 use native.Mathlib.Omega.{arith}
 use Rattle.nests.specs.Stored.{nestIn}
 use Rattle.nests.proofs.Levels.{starts-with-do}
 use Rattle.nests.proofs.Loops.{end-after}
-use Rattle.tables.specs.Charts.{Points, ChartRoom}
-use Rattle.tables.specs.Collected.{LinesRoom}
 use Rattle.tables.proofs.Preparing.{count-there, points-of, fits-of}
-use Rattle.settling.specs.Settled.{Room}
-use Rattle.laying.specs.Laid.{LayRoom}
 use Rattle.plan.proofs.Planning.{charts, choices, key, top-height}
 use borrow.Author.Needs.{needs}
 use Rattle.plan.proofs.plan.Statement.{statement}
 use Rattle.plan.proofs.plan.Tie as tie
-use Rattle.plan.proofs.plan.Reads as reads
-use Rattle.plan.proofs.plan.Lts as lts
-use Rattle.laying.proofs.lay.Reads as lay-reads
-use Rattle.placements.proofs.Placement.empty.Reads as empty-reads
-use Rattle.settling.proofs.settle.Reads as settle-reads
-use Rattle.tables.proofs.prepare.Reads as prepare-reads
 
 slice-aggregate-prepare : tie.Need-slice-aggregate-prepare
 slice-aggregate-prepare c = search needs

@@ -2,8 +2,6 @@
 use Rattle.rows.proofs.Choosing.{better-other, better-first, better-lower, better-higher}
 use Rattle.rows.proofs.better.Statement.{statement}
 use Rattle.rows.proofs.better.Tie as tie
-use Rattle.rows.proofs.better.Reads as reads
-use Rattle.rows.proofs.better.Lts as lts
 
 returns : tie.Need-returns
 returns c =

@@ -1,13 +1,9 @@
 -- `choose` meets its contract. The invariant: the suffixes after q are chosen from (`Choosing`).
-use mathlib.Core.Path.{_≡_}
 use native.Mathlib.Omega.{arith}
 use borrow.Author.Needs.{needs}
 use Rattle.rows.proofs.Choosing.{Choosing, choosing-none, choosing-more, choosing-all}
 use Rattle.rows.proofs.choose.Statement.{statement}
 use Rattle.rows.proofs.choose.Tie as tie
-use Rattle.rows.proofs.choose.Reads as reads
-use Rattle.rows.proofs.choose.Lts as lts
-use Rattle.rows.proofs.better.Reads as better-reads
 
 abbrev Inv-loop : tie.InvT-loop
 Inv-loop cs fs m left₀ choice₀ base d e f₀ at₀ q₀ left choice f at q =

@@ -7,8 +7,6 @@ use Rattle.rows.specs.Made.{Cleared}
 use Rattle.rows.proofs.Copying.{cleared-none, cleared-more}
 use Rattle.rows.proofs.clear.Statement.{statement}
 use Rattle.rows.proofs.clear.Tie as tie
-use Rattle.rows.proofs.clear.Reads as reads
-use Rattle.rows.proofs.clear.Lts as lts
 
 abbrev Inv-loop : tie.InvT-loop
 Inv-loop xs₀ base d e p₀ xs p = (d ≤ p) × (p ≤ e) × (length xs ≡ length xs₀) × Cleared xs₀ xs base d p

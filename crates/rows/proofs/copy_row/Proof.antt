@@ -8,8 +8,6 @@ use Rattle.rows.specs.Made.{Copied}
 use Rattle.rows.proofs.Copying.{copied-none, copied-more}
 use Rattle.rows.proofs.copy_row.Statement.{statement}
 use Rattle.rows.proofs.copy_row.Tie as tie
-use Rattle.rows.proofs.copy_row.Reads as reads
-use Rattle.rows.proofs.copy_row.Lts as lts
 
 abbrev Inv-loop : tie.InvT-loop
 Inv-loop from base d e xs₀ p₀ xs p = (p ≤ e) × (length xs ≡ length xs₀) × Copied from base d p xs

@@ -3,8 +3,6 @@ use mathlib.Core.Path.{refl}
 use borrow.Author.Tests.{le-leb, lt-leb}
 use Rattle.rows.proofs.lesser.Statement.{statement}
 use Rattle.rows.proofs.lesser.Tie as tie
-use Rattle.rows.proofs.lesser.Reads as reads
-use Rattle.rows.proofs.lesser.Lts as lts
 
 returns : tie.Need-returns
 returns c = rw (le-leb (c .before .args .p) (c .before .args .d) (c .if1 .taken)) refl

@@ -1,20 +1,11 @@
 -- `make_row` meets its contract: the values, then the choice among them; or zeros where nothing is to cut (Making).
-use mathlib.Core.Path.{_≡_, refl, sym, _∙_}
-use Prim.Native.Nat.{_+_, _-_, _≤_, _<_}
+use Prim.Native.Nat.{_-_}
 use native.Mathlib.Omega.{arith}
-use lib.ListN.{length}
 use Rattle.sweeps.specs.Listed.{SweepRoom}
-use Rattle.rows.specs.Valued.{ValuesSay}
 use Rattle.rows.proofs.Making.{made-some, made-none}
 use borrow.Author.Needs.{needs}
 use Rattle.rows.proofs.make_row.Statement.{statement}
 use Rattle.rows.proofs.make_row.Tie as tie
-use Rattle.rows.proofs.make_row.Reads as reads
-use Rattle.rows.proofs.make_row.Lts as lts
-use Rattle.rows.proofs.choose.Reads as choose-reads
-use Rattle.rows.proofs.clear.Reads as clear-reads
-use Rattle.rows.proofs.copy_row.Reads as copy-row-reads
-use Rattle.rows.proofs.values.Reads as values-reads
 
 clear-requires : tie.Need-clear-requires
 clear-requires c κs = search needs

@@ -1,5 +1,4 @@
 -- `value` meets its contract: one sweep with the place of the suffix lowered, and put back (Suffix).
-use mathlib.Core.Path.{_≡_, refl, sym, _∙_}
 use native.Mathlib.Omega.{arith}
 use Prim.Native.Nat.{min}
 use lib.ListN.{length-set, set}
@@ -8,10 +7,6 @@ use borrow.Author.Needs.{needs}
 use Rattle.rows.proofs.Suffix.{closed, opened, put-back}
 use Rattle.rows.proofs.value.Statement.{statement}
 use Rattle.rows.proofs.value.Tie as tie
-use Rattle.rows.proofs.value.Reads as reads
-use Rattle.rows.proofs.value.Lts as lts
-use Rattle.rows.proofs.smaller.Reads as smaller-reads
-use Rattle.sweeps.proofs.sweep.Reads as sweep-reads
 
 mul-old : tie.Need-mul-old
 mul-old c = search needs

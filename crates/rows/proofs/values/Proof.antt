@@ -1,7 +1,7 @@
 -- `values` meets its contract. The invariant: the values up to p are listed, m is the least (`Listing`), `need` is as before.
-use mathlib.Core.Path.{_≡_, refl, sym, _∙_}
+use mathlib.Core.Path.{_≡_, refl, _∙_}
 use mathlib.Core.Bool.{Bool}
-use Prim.Native.Nat.{ℕ, _+_, _-_, _≤_, _<_}
+use Prim.Native.Nat.{ℕ, _+_, _-_, _≤_}
 use native.Mathlib.Omega.{arith}
 use lib.ListN.{length, length-set}
 use borrow.Author.Needs.{needs}
@@ -9,10 +9,6 @@ use Rattle.rows.specs.Valued.{Listing, valueOf}
 use Rattle.rows.proofs.Listings.{listing-none, listing-more}
 use Rattle.rows.proofs.values.Statement.{statement}
 use Rattle.rows.proofs.values.Tie as tie
-use Rattle.rows.proofs.values.Reads as reads
-use Rattle.rows.proofs.values.Lts as lts
-use Rattle.rows.proofs.lesser.Reads as lesser-reads
-use Rattle.rows.proofs.value.Reads as value-reads
 
 abbrev Inv-loop : tie.InvT-loop
 Inv-loop points own need₀ left kids limit base d e cs₀ fs₀ m₀ p₀ need cs fs m p =

@@ -1,22 +1,20 @@
 -- `settle` meets its contract; the height falls at each call. The invariant of its loop: the loops inside d that lie
 -- before i are settled (`Settling`). At its end the loop's own row is made (`done`).
-use mathlib.Core.Path.{_≡_, refl, sym, _∙_}
+use mathlib.Core.Path.{_≡_, _∙_}
 use mathlib.Core.Bool.{true}
-use Prim.Native.Nat.{_+_, _-_, _*_, _≤_}
+use Prim.Native.Nat.{_+_, _-_, ℕ, _<_}
 use native.Mathlib.Omega.{arith}
-use lib.ListN.{length, getD}
+use lib.ListN.{getD}
 use borrow.Author.Tests.{eq-eqb}
 use borrow.Author.Needs.{needs}
 use Rattle.nests.specs.Loops.{isDo, endOf}
-use Rattle.nests.proofs.Levels.{point-in}
 use Rattle.nests.proofs.Loops.{end-after, end-there}
 use Rattle.sweeps.specs.Listed.{at}
 use Rattle.settling.specs.Settled.{Room}
-use Rattle.settling.proofs.Heights.{height-low, height-high, child-height}
+use Rattle.settling.proofs.Heights.{child-height}
 use Rattle.settling.proofs.Turns.{Settling, begin, on-plain, on-child}
 use Rattle.settling.proofs.Own.{done}
 use Rattle.settling.proofs.Sizes.{Sizes, sizes}
-use Prim.Native.Nat.{ℕ, _<_}
 use borrow.Fn.Kinds.{In}
 use borrow.Fn.PlainCycle.{Measures, is, falls, and}
 use Rattle.settling.proofs.settle.Reads as settle

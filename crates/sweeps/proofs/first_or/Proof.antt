@@ -4,8 +4,6 @@ use borrow.Author.Needs.{needs}
 use Rattle.sweeps.proofs.Steps.{first-of}
 use Rattle.sweeps.proofs.first_or.Statement.{statement}
 use Rattle.sweeps.proofs.first_or.Tie as tie
-use Rattle.sweeps.proofs.first_or.Reads as reads
-use Rattle.sweeps.proofs.first_or.Lts as lts
 
 returns : tie.Need-returns
 returns c = search needs

@@ -1,6 +1,6 @@
 -- `last_need` meets its contract. The invariant: what is sought from p is still sought from a.
 use mathlib.Core.Path.{_≡_, refl, sym, _∙_}
-use Prim.Native.Nat.{ℕ, _≤_}
+use Prim.Native.Nat.{_≤_}
 use native.Mathlib.Omega.{arith}
 use borrow.Author.Needs.{needs}
 use Rattle.planner.specs.Sweep.{seek}
@@ -8,8 +8,6 @@ use Rattle.sweeps.specs.Listed.{at}
 use Rattle.sweeps.proofs.Seek.{seek-here, seek-on, seek-none}
 use Rattle.sweeps.proofs.last_need.Statement.{statement}
 use Rattle.sweeps.proofs.last_need.Tie as tie
-use Rattle.sweeps.proofs.last_need.Reads as reads
-use Rattle.sweeps.proofs.last_need.Lts as lts
 
 abbrev Inv-loop : tie.InvT-loop
 Inv-loop need f low p a₀ a = (a ≤ p) × (seek (at need) f low a ≡ seek (at need) f low p)

@@ -1,16 +1,10 @@
 -- `step_child` meets its contract, in each of the three cases of a step over a child (Steps).
-use mathlib.Core.Path.{_≡_, refl, sym, _∙_}
 use Prim.Native.Nat.{_≤_}
 use native.Mathlib.Omega.{arith}
 use borrow.Author.Needs.{needs}
-use Rattle.sweeps.specs.Listed.{row}
 use Rattle.sweeps.proofs.Steps.{step-free, step-inner, step-outer}
 use Rattle.sweeps.proofs.step_child.Statement.{statement}
 use Rattle.sweeps.proofs.step_child.Tie as tie
-use Rattle.sweeps.proofs.step_child.Reads as reads
-use Rattle.sweeps.proofs.step_child.Lts as lts
-use Rattle.sweeps.proofs.first_or.Reads as first-or-reads
-use Rattle.sweeps.proofs.last_need.Reads as last-need-reads
 
 add-last-need : tie.Need-add-last-need
 add-last-need c = search needs

@@ -11,9 +11,6 @@ use Rattle.sweeps.specs.Listed.{at, laid}
 use Rattle.sweeps.proofs.Turns.{Turn, begin, on-put, on-skip, on-child, done, swept}
 use Rattle.sweeps.proofs.sweep.Statement.{statement}
 use Rattle.sweeps.proofs.sweep.Tie as tie
-use Rattle.sweeps.proofs.sweep.Reads as reads
-use Rattle.sweeps.proofs.sweep.Lts as lts
-use Rattle.sweeps.proofs.step_child.Reads as step-child-reads
 
 abbrev Inv-loop : tie.InvT-loop
 Inv-loop points own need left kids d e c₀ f₀ p₀ c f p =
