@@ -3,6 +3,7 @@ ghost use mathlib.Core.Path.{_≡_};
 ghost use Prim.Native.Nat.{_≤_};
 ghost use lib.ListN.{length};
 ghost use Rattle.desk.specs.Desks.{IsMade};
+ghost use Rattle.io.specs.Counts.{Counts};
 use desk::Desk;
 use desk::Marked;
 use desk::Verdict;
@@ -23,7 +24,7 @@ fn main() {
     report(10, case_10());
     report(11, is_refused(b"", 4, 1));
     report(12, case_12());
-    report(13, case_13(p));
+    report(13, case_13());
 }
 
 // Writes a case's line.
@@ -90,7 +91,10 @@ fn case_8() -> bool {
 // A statement that depends on itself a turn before: gaps 1 and 2, count 1.
 fn case_9() -> bool {
     let desk = planned(b"01\n03\n02\n12000101\n");
-    has_count(desk, 0, 1) && is_uncut(desk, b"", 0) && is_best(desk, b"2101\n") && is_best(desk, b"2102\n")
+    has_count(desk, 0, 1)
+        && is_uncut(desk, b"", 0)
+        && is_best(desk, b"2101\n")
+        && is_best(desk, b"2102\n")
 }
 
 // The least nest: an empty key.
@@ -110,9 +114,8 @@ fn case_12() -> bool {
 }
 
 // P: gap 13 is accepted, 14 gets number 8; the key needs 10 bytes, and 9 get number 9.
-fn case_13(p: Desk) -> bool
-    requires { ⌜ IsMade p ⌝ }
-{
+fn case_13() -> bool {
+    let p = paper_p();
     let mut ten = [0u8; 10];
     let mut nine = [0u8; 9];
     let a = desk::write_key(p, &mut ten);
@@ -149,7 +152,10 @@ fn has_key(desk: Desk, text: &[u8]) -> bool {
     let mut out = io::buffer();
     let written = desk::write_key(desk, &mut out);
     let length = written.value;
-    written.number == 0 && length <= out.len() && check::same(&out[..length], text)
+    if length <= out.len() {
+        return written.number == 0 && check::same(&out[..length], text);
+    }
+    false
 }
 
 // The count of the loop of DO `point` is this.
@@ -234,7 +240,7 @@ fn is_deep(loops: usize, number: u8, line: usize) -> bool {
 // Puts a line so many times into the text from a place on, as far as there is room; gives the place behind them.
 fn repeat(text: &mut [u8], at: usize, line: &[u8], times: usize) -> usize
     requires { ⌜ at ≤ length (now text) ⌝ }
-    ensures { λ r. ⌜ r ≤ length (now (text .exit)) ⌝ }
+    ensures { λ r. ⌜ Counts r (now (text .exit)) ⌝ }
 {
     let mut n = at;
     let mut i = 0;
@@ -245,6 +251,7 @@ fn repeat(text: &mut [u8], at: usize, line: &[u8], times: usize) -> usize
     n
 }
 
+// Puts a line into the text from a place on, as far as there is room; gives the place behind it.
 fn put(text: &mut [u8], at: usize, line: &[u8]) -> usize
     requires { ⌜ at ≤ length (now text) ⌝ }
     ensures { λ r. ⌜ r ≤ length (now (text .exit)) ⌝ }
