@@ -218,7 +218,7 @@ fn judge(nest: Nest, key: Placement, placement: Placement) -> Verdict
 }
 
 // The number of a call that wants a key: 10 without a nest, 11 without a key, or 0.
-fn key_fault(loaded: bool, planned: bool) -> u8
+pub fn key_fault(loaded: bool, planned: bool) -> u8
     ensures { λ r. ⌜ r ≡ firstOf (when (not loaded) 10) (when (not planned) 11) ⌝ }
 {
     if loaded {
@@ -228,7 +228,7 @@ fn key_fault(loaded: bool, planned: bool) -> u8
     }
 }
 
-fn refused(number: u8) -> Answer
+pub fn refused(number: u8) -> Answer
     ensures { λ r. ⌜ RefusedAs number r ⌝ }
 {
     Answer {

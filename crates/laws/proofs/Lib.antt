@@ -7,3 +7,4 @@ pub mod Members
 pub mod Stores
 pub mod Implies
 pub mod Connectives
+pub mod Ors

@@ -35,7 +35,8 @@ Asked ps own ends reach limit left choice d q h =
     ((isDo ps d ≡ true) ×
     (HasHeight ps d h × ((d < q) × ((q ≤ endOf ps d) × Choices ps left choice d (endOf ps d))))))
 
-module _ (ps own ends reach limit left choice : List ℕ) (d q h : ℕ) (p : Asked ps own ends reach limit left choice d q h) where
+module _ (ps own ends reach limit left choice : List ℕ) (d q h : ℕ)
+    (p : Asked ps own ends reach limit left choice d q h) where
   pub sizes : Sizes ps own ends reach limit left choice d q h
   sizes =
       let w = p .0 in
@@ -57,5 +58,7 @@ module _ (ps own ends reach limit left choice : List ℕ) (d q h : ℕ) (p : Ask
   -- the suffix that is chosen
   pub picked : (row left (h * 256) q ≡ 0 → ⊥) → (d < row choice (h * 256) q) × (row choice (h * 256) q ≤ at ends d)
   picked n =
-      let z = p .1 .1 .1 .1 .1 .1 d h q (p .1 .1 .0) (omega arith) (omega (arith, end-after ps (p .0 .shape) d (p .1 .1 .0))) (p .1 .1 .1 .0) (p .1 .1 .1 .1 .0) (p .1 .1 .1 .1 .1 .0) (omega (arith, n)) in
+      let z = p .1 .1 .1 .1 .1 .1 d h q (p .1 .1 .0) (omega arith)
+      (omega (arith, end-after ps (p .0 .shape) d (p .1 .1 .0))) (p .1 .1 .1 .0) (p .1 .1 .1 .1 .0)
+      (p .1 .1 .1 .1 .1 .0) (omega (arith, n)) in
       (z .0, omega (arith, z .1, sizes .e-is))

@@ -10,6 +10,7 @@ use lib.Dec.{eqb, ltb}
 use lib.ListN.{length, getD}
 use borrow.Author.Tests.{eq-eqb, ne-eqb}
 use Rattle.laws.specs.Choice.{pick}
+use Rattle.laws.proofs.Ors.{or-assoc}
 use Rattle.nests.specs.Loops.{isDo, isEnd, endOf, ownerOf}
 use Rattle.nests.proofs.Loops.{end-after, end-there, owner-of-end}
 use Rattle.nests.proofs.Gaps.{Child, child-law, plain-law, child-ends-inside}
@@ -52,12 +53,9 @@ pub record Laying
       → Rows ps T left choice d (endOf ps d)
       → Held ps own need left kids d e (T .lay) key k c f p
 
-or-assoc : (a b c : Bool) → (a || (b || c)) ≡ ((a || b) || c)
-or-assoc true b c = refl
-or-assoc false b c = refl
-
 -- what a placement holds after a barrier, and after a child
-held-put : (w : ℕ → Bool) (key k k′ : List ℕ) (p : ℕ) → ((g : ℕ) → holds k g ≡ (w g || holds key g)) → ((g : ℕ) → holds k′ g ≡ (eqb g p || holds k g)) → (g : ℕ) → holds k′ g ≡ (also (only p) w g || holds key g)
+held-put : (w : ℕ → Bool) (key k k′ : List ℕ) (p : ℕ) → ((g : ℕ) → holds k g ≡ (w g || holds key g)) →
+    ((g : ℕ) → holds k′ g ≡ (eqb g p || holds k g)) → (g : ℕ) → holds k′ g ≡ (also (only p) w g || holds key g)
 held-put w key k k′ p h n g = n g ∙ ap (λ (b : Bool). eqb g p || b) (h g) ∙ or-assoc (eqb g p) (w g) (holds key g)
 
 held-child
@@ -67,18 +65,22 @@ held-child
     → ((g : ℕ) → holds k′ g ≡ (x g || holds more g))
     → (g : ℕ)
     → holds k′ g ≡ (laid grew p x w g || holds key g)
-held-child w x key k more k′ true p h m n g = n g ∙ rw (m g, h g, or-assoc (eqb g (suc p)) (w g) (holds key g)) (or-assoc (x g) (eqb g (suc p) || w g) (holds key g))
+held-child w x key k more k′ true p h m n g = n g ∙
+    rw (m g, h g, or-assoc (eqb g (suc p)) (w g) (holds key g)) (or-assoc (x g) (eqb g (suc p) || w g) (holds key g))
 held-child w x key k more k′ false p h m n g = n g ∙ rw (m g, h g) (or-assoc (x g) (w g) (holds key g))
 
 -- tables of a loop are tables of the loops inside it
-rows-inside : (ps : List ℕ) (T : Tables) (left choice : List ℕ) (d l : ℕ) → d ≤ l → endOf ps l ≤ endOf ps d → Rows ps T left choice d (endOf ps d) → Rows ps T left choice l (endOf ps l)
+rows-inside : (ps : List ℕ) (T : Tables) (left choice : List ℕ) (d l : ℕ) → d ≤ l → endOf ps l ≤ endOf ps d →
+    Rows ps T left choice d (endOf ps d) → Rows ps T left choice l (endOf ps l)
 rows-inside ps T left choice d l a b r =
     record {
       left-is = λ x h q i m n. r .left-is x h q i (omega arith) (omega arith);
       choice-is = λ x h q i m n. r .choice-is x h q i (omega arith) (omega arith);
     }
 
-module _ (ps own ends reach limit left choice : List ℕ) (w : Charts ps own ends) (d h : ℕ) (is-do : isDo ps d ≡ true) (height : HasHeight ps d h) (e : ℕ) (e-is : e ≡ endOf ps d) (need key : List ℕ) (kids : ℕ) where
+module _ (ps own ends reach limit left choice : List ℕ) (w : Charts ps own ends) (d h : ℕ)
+    (is-do : isDo ps d ≡ true) (height : HasHeight ps d h) (e : ℕ) (e-is : e ≡ endOf ps d) (need key : List ℕ)
+    (kids : ℕ) where
   pub begin : Laying ps own reach limit left choice need kids d e key key 0 (e + 1) e
   begin =
       record {
@@ -90,7 +92,8 @@ module _ (ps own ends reach limit left choice : List ℕ) (w : Charts ps own end
             record { w = bare; turn = sweep.begin ps own need left kids d e (T .lay); held = λ g. refl };
       }
 
-  module _ (k : List ℕ) (c f p : ℕ) (s : Laying ps own reach limit left choice need kids d e key k c f p) (more : d < p) where
+  module _ (k : List ℕ) (c f p : ℕ) (s : Laying ps own reach limit left choice need kids d e key k c f p)
+      (more : d < p) where
     step-back : suc (p - 1) ≡ p
     step-back = omega arith
 
@@ -153,7 +156,8 @@ module _ (ps own ends reach limit left choice : List ℕ) (w : Charts ps own end
       own-is = w .own-is (p - 1) (omega (arith, there))
 
       child : Child ps d (p - 1) (at own (p - 1))
-      child = rw own-is (child-law ps (w .shape) d (p - 1) (omega (arith, there)) owned (eq-eqb (getD ps (p - 1) 0) 2 ends-there))
+      child = rw own-is (child-law ps (w .shape) d (p - 1) (omega (arith, there)) owned
+          (eq-eqb (getD ps (p - 1) 0) 2 ends-there))
 
       child-end : endOf ps (at own (p - 1)) ≡ p - 1
       child-end = child .ends
@@ -163,18 +167,35 @@ module _ (ps own ends reach limit left choice : List ℕ) (w : Charts ps own end
       child-long = omega (arith, child-end, end-after ps (w .shape) (at own (p - 1)) (child .loop))
 
       child-low : HasHeight ps (at own (p - 1)) (h - 1)
-      child-low = child-height ps (w .shape) d (at own (p - 1)) h is-do (child .loop) (child .inside) (child .owned) height
+      child-low = child-height ps (w .shape) d (at own (p - 1)) h is-do (child .loop) (child .inside) (child .owned)
+          height
 
-      child-choices : Choices ps left choice d (endOf ps d) → Choices ps left choice (at own (p - 1)) (endOf ps (at own (p - 1)))
-      child-choices r l k q i a b = r l k q i (omega (arith, child .inside)) (omega (arith, child-end, there, s .high))
+      child-choices : Choices ps left choice d (endOf ps d) →
+          Choices ps left choice (at own (p - 1)) (endOf ps (at own (p - 1)))
+      child-choices r l k q i a b = r l k q i (omega (arith, child .inside))
+          (omega (arith, child-end, there, s .high))
 
       pub child-asked
           : (q c′ f′ ask : ℕ)
           → Asked ps own ends reach limit left choice d q h
           → Stepped need left kids (at own (p - 1)) (p - 1) c f c′ f′ ask
           → Asked ps own ends reach limit left choice (at own (p - 1)) ask (h - 1)
-      child-asked q c′ f′ ask a step =
-          (w, (a .1 .0, (child .loop, (child-low, (step .low, (omega (arith, step .high child-long, child-end), child-choices (a .1 .1 .1 .1 .1 .1)))))))
+      child-asked q c′ f′ ask a step = (
+        w,
+        (
+          a .1 .0,
+          (
+            child .loop,
+            (
+              child-low,
+              (
+                step .low,
+                (omega (arith, step .high child-long, child-end), child-choices (a .1 .1 .1 .1 .1 .1)),
+              ),
+            ),
+          ),
+        ),
+      )
 
       pub on-child
           : (c′ f′ ask : ℕ) (mid k′ : List ℕ)
@@ -191,10 +212,14 @@ module _ (ps own ends reach limit left choice : List ℕ) (w : Charts ps own end
             held = λ N T has t v r.
                 let x : Held ps own need left kids d e (T .lay) key k c f p = s .held N T has t v r in
                 let l = at own (p - 1) in
-                let inside : Rows ps T left choice l (endOf ps l) = rows-inside ps T left choice d l (omega (arith, child .inside)) (omega (arith, child-end, s .high)) r in
+                let inside : Rows ps T left choice l (endOf ps l) =
+                rows-inside ps T left choice d l (omega (arith, child .inside))
+                (omega (arith, child-end, s .high)) r in
                 record {
                   w = laid (ltb c c′) (p - 1) (T .lay l ask) (x .w);
-                  turn = sweep.on-child ps own need left kids d e (T .lay) p c f c′ f′ ask (x .w) more ends-there (omega (arith, child-long)) step (x .turn);
-                  held = held-child (x .w) (T .lay l ask) key k mid k′ (ltb c c′) (p - 1) (x .held) (λ g. put g ∙ rw step-back refl) (deeper N T has t v inside);
+                  turn = sweep.on-child ps own need left kids d e (T .lay) p c f c′ f′ ask (x .w) more ends-there
+                      (omega (arith, child-long)) step (x .turn);
+                  held = held-child (x .w) (T .lay l ask) key k mid k′ (ltb c c′) (p - 1) (x .held)
+                      (λ g. put g ∙ rw step-back refl) (deeper N T has t v inside);
                 };
           }

@@ -7,6 +7,7 @@ use mathlib.Core.Logic.{_⊎_, inl, inr, ⊎-elim}
 use Prim.Native.Nat.{ℕ, suc, _+_, _-_, _*_, _≤_, _<_}
 use native.Mathlib.Omega.{arith}
 use lib.ListN.{length}
+use Rattle.laws.proofs.Ors.{or-none}
 use Rattle.laws.proofs.Tests.{test}
 use Rattle.nests.specs.Kinds.{POINTS}
 use Rattle.nests.specs.Nests.{Dep}
@@ -30,7 +31,8 @@ use Rattle.laying.specs.Laid.{Choices, LaySays}
 
 -- a front comes from a suffix of the loop's range
 chosen-in-range
-    : (B : Loops) → LoopLaws B → (N : Lines) (T : Tables) → IsTable B N T → (d : ℕ) → B .isDo d ≡ true → (q : ℕ) → d < q → q ≤ B .stop d
+    : (B : Loops) → LoopLaws B → (N : Lines) (T : Tables) → IsTable B N T → (d : ℕ) → B .isDo d ≡ true → (q : ℕ) →
+    d < q → q ≤ B .stop d
     → 0 < T .left d q → (d < T .choice d q) × (T .choice d q ≤ B .stop d)
 chosen-in-range B laws N T t d i q a b h = ⊎-elim
     (λ (z : someOf B N T d ≡ true).
@@ -39,7 +41,8 @@ chosen-in-range B laws N T t d i q a b h = ⊎-elim
     (λ (z : someOf B N T d ≡ false). absurd (omega (arith, row-idle B laws N T t d i q a b z .1)))
     (test (someOf B N T d))
 
-module _ (ps : List ℕ) (ds : List Dep) (own ends heights reach limit has : List ℕ) (w : Points ps) (p : Prepared ps ds own ends heights reach limit has) where
+module _ (ps : List ℕ) (ds : List Dep) (own ends heights reach limit has : List ℕ) (w : Points ps)
+    (p : Prepared ps ds own ends heights reach limit has) where
   -- the planner's tables
   abbrev table : Tables
   table = tableOf (loopsIn ps) (linesIn ps ds) (length ps)
@@ -70,22 +73,22 @@ module _ (ps : List ℕ) (ds : List Dep) (own ends heights reach limit has : Lis
       same : (d h : ℕ) → isDo ps d ≡ true → HasHeight ps d h → h ≡ at heights d
       same d h i e = omega (arith, p .charted .heights-are d i)
 
-  module _ (left choice : List ℕ) (settled : (N : Lines) (T : Tables) → IsTable (loopsIn ps) N T → LinesAt ps N reach limit has → Rows ps T left choice 0 (endOf ps 0)) where
+  module _ (left choice : List ℕ)
+      (settled : (N : Lines) (T : Tables) → IsTable (loopsIn ps) N T → LinesAt ps N reach limit has →
+      Rows ps T left choice 0 (endOf ps 0)) where
     rows : Rows ps table left choice 0 (endOf ps 0)
     rows = settled (linesIn ps ds) table tabled lines
 
     pub choices : Choices ps left choice 0 (endOf ps 0)
     choices l h q i a b e c f g =
-        let r = chosen-in-range (loopsIn ps) (loop-laws ps (w .shape)) (linesIn ps ds) table tabled l i q c f (rw (rows .left-is l h q i a b e c f) at g) in
+        let r = chosen-in-range (loopsIn ps) (loop-laws ps (w .shape)) (linesIn ps ds) table tabled l i q c f
+        (rw (rows .left-is l h q i a b e c f) at g) in
         rw (rows .choice-is l h q i a b e c f) r
 
-    pub key : (none words : List ℕ) → ((g : ℕ) → holds none g ≡ false) → LaySays ps reach limit left choice 0 1 none words → (g : ℕ) → holds words g ≡ keyIn ps ds g
+    pub key : (none words : List ℕ) → ((g : ℕ) → holds none g ≡ false) →
+        LaySays ps reach limit left choice 0 1 none words → (g : ℕ) → holds words g ≡ keyIn ps ds g
     unfolding keyIn keyOf
     key none words e l g = l (linesIn ps ds) table has tabled lines rows g ∙ rw (e g) (or-none (table .lay 0 1 g))
-      where
-        or-none : (b : Bool) → (b || false) ≡ b
-        or-none true = refl
-        or-none false = refl
 
 -- the outermost loop has the greatest height
 pub top-height : (ps : List ℕ) → HasHeight ps 0 8

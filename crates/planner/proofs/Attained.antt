@@ -3,24 +3,23 @@
 -- is 0, nothing is laid.
 -- Main statements: `attained`, `blank`.
 use mathlib.Core.Path.{_≡_, refl, _∙_, fun-ext, subst⁻¹}
-use mathlib.Core.Bool.{Bool, true, false}
-use mathlib.Core.Logic.{_⊎_, inl, inr, ⊎-elim}
+use mathlib.Core.Bool.{true}
+use mathlib.Core.Logic.{_⊎_, inl}
 use Prim.Native.Nat.{ℕ, suc, _≤_, _<_}
 use native.Mathlib.Omega.{arith}
-use lib.Dec.{leb}
-use borrow.Author.Tests.{leb-true, leb-false}
-use Rattle.laws.specs.Choice.{pick}
-use Rattle.laws.proofs.Tests.{test, never-both, le-or}
-use Rattle.planner.specs.Sweep.{Loops, Lines, Tables, State, put, sweep, close, needOf, value}
-use Rattle.planner.specs.Sweep.{front, someOf, IsTable}
-use Rattle.planner.proofs.World.{World, Inside, Owner, LoopLaws, LineLaws, Lawful}
-use Rattle.planner.proofs.Claim.{Hit, Sound, Settled, Best, Laid, Claim}
-use Rattle.planner.proofs.Walk.{AtPlain}
+use Rattle.laws.proofs.Tests.{never-both}
+use Rattle.planner.specs.Sweep.{Lines, Tables, State, put, sweep, close, needOf, value}
+use Rattle.planner.specs.Sweep.{front, IsTable}
+use Rattle.planner.proofs.World.{World, Inside, Lawful}
+use Rattle.planner.proofs.Inside.{self-or-inside, first-own}
+use Rattle.planner.proofs.Claim.{Hit, Sound, Settled, Laid}
+use Rattle.planner.proofs.Walk.{close-cases, AtPlain}
 use Rattle.planner.proofs.Choices.{Fronts}
-use Rattle.planner.proofs.Rows.{row-fronts, row-lay, row-blank, row-idle}
-use Rattle.planner.proofs.Ring.{hit-wider, limit-low, limit-high, ring-cut}
-use Rattle.planner.proofs.AttainedBody.{Done, Body}
-use Rattle.planner.proofs.AttainedFront.{NeedLaws, need-laws, need-least, need-suffix, Foremost, Cuts}
+use Rattle.planner.proofs.Rows.{row-there, row-lay, row-blank}
+use Rattle.planner.proofs.Hits.{hit-wider}
+use Rattle.planner.proofs.Needs.{NeedLaws, need-laws, need-least, need-suffix}
+use Rattle.planner.proofs.Ring.{limit-low, limit-high, ring-cut}
+use Rattle.planner.proofs.AttainedBody.{Done}
 use Rattle.planner.proofs.AttainedSweep.{Swept, Kids, put-swept, swept}
 
 -- what a sweep lays with its front within the limit t
@@ -37,14 +36,14 @@ module _
   long : d < e
   long = laws .of-loops .long d is-do
 
-  -- the gap right after the DO is d's own
-  first-own : W .loops .own (suc d) ≡ d
-  first-own =
-      let o : Owner (W .loops) d (suc d) = laws .of-loops .owner d (suc d) is-do (omega arith) long in
-      omega (arith, o .from, o .below)
-
   at-first : AtPlain (W .loops) d d
-  at-first = record { low = omega arith; high = long; owner = first-own; before = inl refl }
+  at-first =
+      record {
+        low = omega arith;
+        high = long;
+        owner = first-own (W .loops) (laws .of-loops) d is-do;
+        before = inl refl;
+      }
 
   -- nothing lies right after the DO, where the front lies behind
   raised : (need : ℕ → ℕ) (s : State) → suc d < s .f → Swept W T need d d s → Swept W T need d (suc d) s
@@ -73,19 +72,17 @@ module _
 
     -- the prefix closed
     closed : (s : State) → Swept W T need d d s → Within W T need d (N .limit d q) (close d (N .limit d q) s)
-    unfolding close put
-    closed s k = go (leb (s .f) (N .limit d q)) refl
+    unfolding put
+    closed s k =
+        close-cases (Within W T need d (N .limit d q)) d (N .limit d q) s
+        (λ z. record { laid = k; within = z }) (λ z. record { laid = more z; within = above })
       where
         above : d < N .limit d q
-        above = limit-low W N laws d q is-do low high
+        above = limit-low W N laws d is-do q low high
 
-        go : (t : Bool) → leb (s .f) (N .limit d q) ≡ t → Within W T need d (N .limit d q) (pick t s (put d s))
-        go true z = record { laid = k; within = leb-true (s .f) (N .limit d q) z }
-        go false z =
-            let f : suc d < s .f = omega (arith, leb-false (s .f) (N .limit d q) z, above) in
-            let p : Swept W T need d d (put d s) =
-            put-swept W (laws .of-loops) T d kids need needs d s at-first (raised need s f k) in
-            record { laid = p; within = above }
+        more : N .limit d q < s .f → Swept W T need d d (put d s)
+        more z =
+            put-swept W (laws .of-loops) T d kids need needs d s at-first (raised need s (omega (arith, above)) k)
 
     valued : Within W T need d (N .limit d q) v
     unfolding value
@@ -94,7 +91,7 @@ module _
     -- its gaps: the first, one from q on, and those that the dependences ask
     value-holds : v .w (v .f) ≡ true
     value-holds =
-        valued .laid .front .holds (omega (arith, valued .within, limit-high W N laws d q is-do low high))
+        valued .laid .front .holds (omega (arith, valued .within, limit-high W N laws d is-do q low high))
 
     value-hit : Hit (v .w) q e
     value-hit =
@@ -117,7 +114,7 @@ module _
           high = valued .within;
           holds = value-holds;
         } in
-        ring-cut W N laws d q is-do low high (v .w) first value-hit
+        ring-cut W N laws d is-do q low high (v .w) first value-hit
 
     -- what the loops inside ask is done
     value-done : (l : ℕ) → Inside (W .loops) d l → d < l → Done W T l (v .w)
@@ -126,34 +123,16 @@ module _
     value-sound : Sound W (v .w) d
     value-sound =
         record {
-          lines = λ l a b i. line l a b i (le-or l d);
-          backs = λ l a t i. back l a t i (le-or l d);
+          lines = λ l a b i. self-or-inside (W .loops) d l (λ m. W .Line m a b → Hit (v .w) a b) i
+              (value-line a b) (λ z. value-done l i z .lines a b);
+          backs = λ l a t i.
+              self-or-inside (W .loops) d l
+              (λ m. W .Back m a t → Hit (v .w) (suc m) t ⊎ Hit (v .w) a (W .loops .stop m)) i
+              (value-back a t) (λ z. value-done l i z .backs a t);
         }
-      where
-        line : (l a b : ℕ) → Inside (W .loops) d l → (l ≤ d) ⊎ (d < l) → W .Line l a b → Hit (v .w) a b
-        line l a b i (inl z) k =
-            let y : l ≡ d = omega (arith, i .from) in
-            value-line a b (rw y at k)
-        line l a b i (inr z) k = value-done l i z .lines a b k
-
-        back : (l a t : ℕ) → Inside (W .loops) d l → (l ≤ d) ⊎ (d < l) → W .Back l a t
-            → Hit (v .w) (suc l) t ⊎ Hit (v .w) a (W .loops .stop l)
-        back l a t i (inl z) k =
-            let y : l ≡ d = omega (arith, i .from) in
-            rw y (value-back a t (rw y at k))
-        back l a t i (inr z) k = value-done l i z .backs a t k
 
     value-settled : Settled W (T .cost) (v .w) d
     value-settled = record { sound = value-sound; inside = λ l i z. value-done l i z .exact }
-
-  -- a front that is there: something is to cut
-  busy : (q : ℕ) → d < q → q ≤ e → 0 < T .left d q → someOf (W .loops) N T d ≡ true
-  busy q low high h =
-      ⊎-elim
-      (λ (z : someOf (W .loops) N T d ≡ true). z)
-      (λ (z : someOf (W .loops) N T d ≡ false). (
-      absurd (omega (arith, row-idle (W .loops) (laws .of-loops) N T table d is-do q low high z .1))))
-      (test (someOf (W .loops) N T d))
 
   -- the placement that the table takes: the value for the choice
   module _ (q : ℕ) (low : d < q) (high : q ≤ e) (there : 0 < T .left d q) where
@@ -161,7 +140,7 @@ module _
     at = T .choice d q
 
     row : Fronts (value (W .loops) N T d) (T .cost d) e q (front (T .left d q) at)
-    row = row-fronts (W .loops) (laws .of-loops) N T table d is-do q low high (busy q low high there)
+    row = row-there (W .loops) (laws .of-loops) N T table d is-do q low high there
 
     at-low : d < at
     at-low = omega (arith, row .low there)

@@ -1,21 +1,22 @@
 -- What a sweep lays is cut and counted: the loops passed have their costs and their dependences cut, and c is the
 -- number of the loop's own gaps. A gap that is put counts for d alone; what is laid for a child counts for the child's
 -- loops alone.
--- Main statements: `laid-part`, `idle-part`, `put-body`, `join-body`, `skip-body`, `start-body`.
-use mathlib.Core.Path.{_≡_, refl, sym, _∙_, ap}
-use mathlib.Core.Bool.{Bool, true, false, _&&_, _||_}
+-- Main definitions: `Done`, `Part`, `Body`. Main statements: `laid-part`, `idle-part`, `whole-part`, `part-sound`,
+-- `start-body`, `skip-body`, `put-body`, `join-body`.
+use mathlib.Core.Path.{_≡_, sym, _∙_, ap}
+use mathlib.Core.Bool.{Bool, true, false}
 use mathlib.Core.Logic.{_⊎_, inl, inr, ⊎-elim}
 use Prim.Native.Nat.{ℕ, zero, suc, _≤_, _<_}
 use native.Mathlib.Omega.{arith}
-use lib.Dec.{eqb}
-use borrow.Author.Tests.{eqb-true, eq-eqb}
-use Rattle.laws.proofs.Tests.{never, never-both, le-or, eq-or, bool-by, false-by, or-true, or-left, or-right}
+use Rattle.laws.proofs.Tests.{never, never-both, le-or, eq-or, false-by, or-left, or-right}
 use Rattle.planner.specs.Sweep.{Loops, Tables, bare, only, also}
-use Rattle.planner.proofs.World.{World, Inside, Owner, Child, Plain, LoopLaws}
+use Rattle.planner.proofs.World.{World, Inside, Child, Plain, LoopLaws}
+use Rattle.planner.proofs.Inside.{self-or-inside, end-no-do}
 use Rattle.planner.proofs.Counts.{cnt-same, cnt-none, cnt-put}
-use Rattle.planner.proofs.Claim.{Hit, mineOf, count, Laid, Idle}
+use Rattle.planner.proofs.Claim.{Hit, mineOf, count, Sound, Laid, Idle, Claim}
 use Rattle.planner.proofs.Exchange.{mine-own, mine-other}
-use Rattle.planner.proofs.Ring.{hit-more}
+use Rattle.planner.proofs.Hits.{hit-more}
+use Rattle.planner.proofs.Unions.{only-is, only-self, also-left, also-right}
 
 -- x does what loop l asks: it has l's cost and cuts what has home l
 pub record Done (W : World) (T : Tables) (l : ℕ) (x : ℕ → Bool) : Type 0 where
@@ -55,24 +56,6 @@ count-none B x l h = cnt-none (mineOf B x l) (B .stop l) (λ g i j. go g i j (eq
     go g i j (inl z) = mine-own B x l g z ∙ false-by (h g i j z)
     go g i j (inr z) = mine-other B x l g z
 
--- of two placements together: at a gap that the first lacks it is the second, and the other way round
-pub also-right : (x w : ℕ → Bool) (g : ℕ) → (x g ≡ true → ⊥) → also x w g ≡ w g
-also-right x w g h =
-    let z : x g ≡ false = false-by h in
-    rw z
-
-pub also-left : (x w : ℕ → Bool) (g : ℕ) → (w g ≡ true → ⊥) → also x w g ≡ x g
-also-left x w g h =
-    bool-by (also x w g) (x g)
-    (λ k. ⊎-elim (λ (z : x g ≡ true). z) (λ (z : w g ≡ true). absurd (h z)) (or-true (x g) (w g) k))
-    (λ k. or-left (w g) k)
-
-pub only-is : (p g : ℕ) → only p g ≡ true → g ≡ p
-only-is p g h = eqb-true g p h
-
-pub only-self : (p : ℕ) → only p p ≡ true
-only-self p = eq-eqb p p refl
-
 -- more gaps, none of them l's own: what l asks is still done
 pub done-more : (W : World) (T : Tables) (l : ℕ) (x y : ℕ → Bool)
     → ((g : ℕ) → x g ≡ true → y g ≡ true)
@@ -90,21 +73,17 @@ done-more W T l x y h i k =
 
 -- what the table lays for a loop
 pub laid-part : (W : World) (T : Tables) (l q : ℕ) (x : ℕ → Bool) → Laid W T l q x → Part W T l x
-laid-part W T l q x k = record { low = k .low; high = k .high; done = done }
-  where
-    exact : (m : ℕ) → Inside (W .loops) l m → (m ≤ l) ⊎ (l < m) → count (W .loops) x m ≡ T .cost m
-    exact m i (inl z) =
-        let y : l ≡ m = omega (arith, i .from) in
-        rw y at (k .best .exact)
-    exact m i (inr z) = k .best .settled .inside m i z
-
-    done : (m : ℕ) → Inside (W .loops) l m → Done W T m x
-    done m i =
-        record {
-          exact = exact m i (le-or m l);
-          lines = λ a b j. k .best .settled .sound .lines m a b i j;
-          backs = λ a t j. k .best .settled .sound .backs m a t i j;
-        }
+laid-part W T l q x k =
+    record {
+      low = k .low;
+      high = k .high;
+      done = λ m i. record {
+        exact = self-or-inside (W .loops) l m (λ n. count (W .loops) x n ≡ T .cost n) i
+            (k .best .exact) (k .best .settled .inside m i);
+        lines = λ a b j. k .best .settled .sound .lines m a b i j;
+        backs = λ a t j. k .best .settled .sound .backs m a t i j;
+      };
+    }
 
 -- nothing, for a loop with nothing to cut
 pub idle-part : (W : World) (T : Tables) (l : ℕ) (x : ℕ → Bool)
@@ -121,12 +100,22 @@ idle-part W T l x h k =
       };
     }
 
--- a child's ENDDO is no DO
-pub end-no-do : (B : Loops) → LoopLaws B → (d p l : ℕ) → Child B d p l → B .isDo p ≡ true → ⊥
-end-no-do B laws d p l c h =
-    let y : B .isDo (B .stop l) ≡ true = rw (c .ends) h in
-    let u : l < B .stop l = laws .long l (c .is-do) in
-    omega (arith, laws .long (B .stop l) y, laws .nested l (B .stop l) (c .is-do) y u (omega arith))
+-- what is laid for a loop where no line asks more
+pub whole-part : (W : World) (T : Tables) (l : ℕ) → l < W .loops .stop l → Claim W T l
+    → Part W T l (T .lay l (suc l))
+whole-part W T l long claim =
+    ⊎-elim
+    (λ (z : T .left l (suc l) ≤ 0). (
+    let y : T .left l (suc l) ≡ 0 = omega arith in
+    idle-part W T l (T .lay l (suc l)) (claim .empty y) (claim .blank (suc l) (omega arith) long y)))
+    (λ (z : 0 < T .left l (suc l)). (
+    laid-part W T l (suc l) (T .lay l (suc l)) (claim .attained (suc l) (omega arith) long z)))
+    (le-or (T .left l (suc l)) 0)
+
+-- a part cuts every dependence of its loop
+pub part-sound : {W : World} {T : Tables} {l : ℕ} {x : ℕ → Bool} → Part W T l x → Sound W x l
+part-sound k =
+    record { lines = λ m a b i. k .done m i .lines a b; backs = λ m a t i. k .done m i .backs a t }
 
 module _ (W : World) (laws : LoopLaws (W .loops)) (T : Tables) (d : ℕ) where
   -- an own gap lies above its loop's DO
@@ -206,15 +195,8 @@ module _ (W : World) (laws : LoopLaws (W .loops)) (T : Tables) (d : ℕ) where
     -- a loop inside the child ends with it at the latest
     ends-by : (m : ℕ) → Inside (W .loops) l m → W .loops .stop m ≤ p
     ends-by m i =
-        ⊎-elim
-        (λ (z : m ≤ l). (
-        let y : m ≡ l = omega (arith, i .from) in
-        rw y (omega (arith, child .ends))))
-        (λ (z : l < m). (
-        let y : W .loops .stop m < W .loops .stop l =
-        laws .nested l m (child .is-do) (i .is-do) z (omega (arith, i .below)) in
-        omega (arith, child .ends)))
-        (le-or m l)
+        self-or-inside (W .loops) l m (λ n. W .loops .stop n ≤ p) i (omega (arith, child .ends))
+        (λ z. omega (arith, child .ends, laws .nested l m (child .is-do) (i .is-do) z (omega (arith, i .below))))
 
     in-child : (m : ℕ) → Inside (W .loops) l m → Done W T m (also x w)
     in-child m i =

@@ -2,18 +2,18 @@
 -- to cut, the least value would have a front. Every loop inside d is d or lies in a child of d, as the walk shows.
 -- Main statements: `each-in-child`, `empty`.
 use mathlib.Core.Path.{_≡_, sym, _∙_}
-use mathlib.Core.Bool.{Bool, true, false}
-use mathlib.Core.Logic.{_⊎_, inl, inr, ⊎-elim}
+use mathlib.Core.Bool.{true, false}
+use mathlib.Core.Logic.{⊎-elim}
 use Prim.Native.Nat.{ℕ, suc, _≤_, _<_}
 use native.Mathlib.Omega.{arith}
 use Rattle.laws.proofs.Tests.{test, never-both, le-or, eq-or}
 use Rattle.planner.specs.Sweep.{Loops, Lines, Tables, value, least, front, someOf, IsTable}
-use Rattle.planner.proofs.World.{World, Inside, Child, Plain, LoopLaws, LineLaws, Lawful}
-use Rattle.planner.proofs.Claim.{Idle, Claim}
+use Rattle.planner.proofs.World.{World, Inside, Plain, LoopLaws, Lawful}
+use Rattle.planner.proofs.Inside.{self-or-inside, end-no-do}
+use Rattle.planner.proofs.Claim.{Idle}
 use Rattle.planner.proofs.Walk.{AtPlain, AtChild, along}
 use Rattle.planner.proofs.Choices.{Attains, least-at, Fronts}
 use Rattle.planner.proofs.Rows.{Nothing, some-none, row-cost, row-fronts, row-idle}
-use Rattle.planner.proofs.AttainedBody.{end-no-do}
 use Rattle.planner.proofs.AttainedSweep.{Kids}
 
 -- a loop directly inside d that l is or lies inside
@@ -103,11 +103,8 @@ module _
         no-back = λ a t k. never-both (laws .of-lines .has-back d a t is-do k) (n .no-home);
       }
 
-  all-idle : someOf (W .loops) N T d ≡ false → (l : ℕ) → Inside (W .loops) d l → (l ≤ d) ⊎ (d < l) → Idle W T l
-  all-idle h l i (inl z) =
-      let y : l ≡ d = omega (arith, i .from) in
-      rw y (self-idle h)
-  all-idle h l i (inr z) =
+  child-idle : someOf (W .loops) N T d ≡ false → (l : ℕ) → Inside (W .loops) d l → d < l → Idle W T l
+  child-idle h l i z =
       let c : InChild (W .loops) d l = each-in-child (W .loops) (laws .of-loops) T d is-do l i z in
       let n : T .left (c .loop) (suc (c .loop)) ≡ 0 =
       some-none (W .loops) N T d h .no-child (c .loop) (c .is-do) (c .owner) (c .above) (c .below) in
@@ -117,5 +114,6 @@ module _
   empty h l i =
       ⊎-elim
       (λ (z : someOf (W .loops) N T d ≡ true). absurd (omega (arith, has-front z)))
-      (λ (z : someOf (W .loops) N T d ≡ false). all-idle z l i (le-or l d))
+      (λ (z : someOf (W .loops) N T d ≡ false). (
+      self-or-inside (W .loops) d l (Idle W T) i (self-idle z) (child-idle z l i)))
       (test (someOf (W .loops) N T d))

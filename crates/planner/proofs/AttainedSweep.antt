@@ -2,22 +2,24 @@
 -- children; so they hold at the loop's DO.
 -- Main statements: `Swept`, `Kids`, `put-swept`, `swept`.
 use mathlib.Core.Path.{_≡_, refl}
-use mathlib.Core.Bool.{Bool, true, _||_}
-use mathlib.Core.Logic.{_⊎_, inl, inr, ⊎-elim}
+use mathlib.Core.Bool.{Bool, true}
+use mathlib.Core.Logic.{⊎-elim}
 use Prim.Native.Nat.{ℕ, zero, suc, _≤_, _<_}
 use native.Mathlib.Omega.{arith}
 use Rattle.laws.specs.Choice.{firstOf}
 use Rattle.laws.proofs.Tests.{le-or, or-left, or-right}
-use Rattle.planner.specs.Sweep.{Loops, Tables, State, only, also, put, stepPlain}
+use Rattle.planner.specs.Sweep.{Tables, State, only, also, put, stepPlain}
 use Rattle.planner.specs.Sweep.{free, inner, outer, stepChild, sweep}
-use Rattle.planner.proofs.World.{World, Inside, LoopLaws}
+use Rattle.planner.proofs.World.{World, EachInside, LoopLaws}
 use Rattle.planner.proofs.Claim.{Hit, Laid, Claim}
 use Rattle.planner.proofs.Walk.{plain-cases, child-cases, Free, Inner, Outer, AtPlain, AtChild, along}
-use Rattle.planner.proofs.Ring.{hit-wider, hit-more}
-use Rattle.planner.proofs.AttainedBody.{Part, Body, laid-part, idle-part, only-self}
+use Rattle.planner.proofs.Unions.{only-self}
+use Rattle.planner.proofs.Hits.{hit-wider, hit-more}
+use Rattle.planner.proofs.Needs.{NeedLaws, Cuts, start-cuts, more-cuts}
+use Rattle.planner.proofs.AttainedBody.{Part, Body, laid-part, whole-part}
 use Rattle.planner.proofs.AttainedBody.{start-body, put-body, skip-body, join-body}
-use Rattle.planner.proofs.AttainedFront.{NeedLaws, Foremost, start-front, skip-front, put-front}
-use Rattle.planner.proofs.AttainedFront.{join-front, bare-front, Cuts, start-cuts, more-cuts, front-cuts}
+use Rattle.planner.proofs.AttainedFront.{Foremost, start-front, skip-front, put-front, join-front}
+use Rattle.planner.proofs.AttainedFront.{bare-front, front-cuts}
 
 -- what is laid down to boundary p
 pub record Swept (W : World) (T : Tables) (need : ℕ → ℕ) (d p : ℕ) (s : State) : Type 0 where
@@ -32,8 +34,7 @@ Kids W T d =
 
 -- which those of all the loops inside d give
 pub kids-inside : (W : World) (T : Tables) (d : ℕ)
-    → ((l : ℕ) → Inside (W .loops) d l → d < l → Claim W T l)
-    → Kids W T d
+    → EachInside (W .loops) d (Claim W T) → Kids W T d
 kids-inside W T d all l a b c e = all l record { is-do = a; from = omega arith; below = e } c
 
 module _
@@ -106,14 +107,7 @@ module _
 
     -- what is laid for the child where no line asks more
     whole : Part W T l (T .lay l (suc l))
-    whole =
-        ⊎-elim
-        (λ (z : T .left l (suc l) ≤ 0). (
-        let y : T .left l (suc l) ≡ 0 = omega arith in
-        idle-part W T l (T .lay l (suc l)) (claim .empty y) (none y)))
-        (λ (z : 0 < T .left l (suc l)). (
-        laid-part W T l (suc l) (T .lay l (suc l)) (laid (suc l) (omega arith) (at .short) z)))
-        (le-or (T .left l (suc l)) 0)
+    whole = whole-part W T l (omega (arith, at .short, at .child .ends)) claim
 
     -- the front with what is laid for the child
     laid-front : (b f : ℕ) (w : ℕ → Bool) → l < b → b ≤ p → 0 < T .left l b → Foremost e p f w

@@ -1,9 +1,9 @@
 -- What the planner's tables mean: sound, settled and best placements, and the claim about each loop.
 -- Main definitions: `Sound`, `Settled`, `Best`, `Laid`, `Idle`, `Claim`.
 use mathlib.Core.Path.{_≡_}
-use mathlib.Core.Bool.{Bool, true, false, _&&_}
+use mathlib.Core.Bool.{Bool, true, _&&_}
 use mathlib.Core.Logic.{_⊎_}
-use Prim.Native.Nat.{ℕ, zero, suc, _≤_, _<_}
+use Prim.Native.Nat.{ℕ, suc, _≤_, _<_}
 use lib.Dec.{eqb}
 use Rattle.planner.specs.Sweep.{Loops, Tables}
 use Rattle.planner.proofs.World.{World, Inside}

@@ -1,12 +1,12 @@
 -- Counting the numbers 1 … n that pass a test.
 -- Main statements: `cnt-same`, `cnt-skip`, `cnt-none`, `cnt-some`, `cnt-put`.
-use mathlib.Core.Path.{_≡_, refl, sym, _∙_, ap}
-use mathlib.Core.Bool.{Bool, true, false, _&&_, _||_}
+use mathlib.Core.Path.{_≡_, refl, sym, _∙_}
+use mathlib.Core.Bool.{Bool, true, false}
 use mathlib.Core.Logic.{_⊎_, inl, inr, ⊎-elim}
 use Prim.Native.Nat.{ℕ, zero, suc, _+_, _≤_, _<_}
 use native.Mathlib.Omega.{arith}
 use Rattle.laws.specs.Choice.{when}
-use Rattle.laws.proofs.Tests.{test, never, le-or, eq-or}
+use Rattle.laws.proofs.Tests.{test, le-or, eq-or}
 
 unfoldable pub cnt : (ℕ → Bool) → ℕ → ℕ
 cnt f zero = 0

@@ -2,28 +2,29 @@
 -- have a gap from q on; by induction from the inside. So what is laid for a loop is first among all that are sound
 -- there with the same counts.
 -- Main statements: `first`, `laid-first`, `computed-first`.
-use mathlib.Core.Path.{_≡_, refl, sym, _∙_}
+use mathlib.Core.Path.{_≡_, sym, _∙_}
 use mathlib.Core.Bool.{Bool, true, false}
 use mathlib.Core.Logic.{_⊎_, inl, inr}
-use Prim.Native.Nat.{ℕ, zero, suc, _+_, _≤_, _<_}
+use Prim.Native.Nat.{ℕ, zero, suc, _≤_, _<_}
 use native.Mathlib.Omega.{arith}
-use lib.Dec.{leb}
-use borrow.Author.Tests.{leb-false}
-use Rattle.laws.specs.Choice.{pick}
 use Rattle.laws.proofs.Tests.{le-or}
-use Rattle.planner.specs.Sweep.{Loops, Lines, Tables, State, put, sweep, close, needOf, value, IsTable}
+use Rattle.planner.specs.Sweep.{Loops, Lines, Tables, State, put, sweep, needOf, value, IsTable}
 use Rattle.planner.specs.Plan.{tableOf, keyOf}
-use Rattle.planner.proofs.World.{World, Inside, Owner, LoopLaws, Lawful}
+use Rattle.planner.proofs.World.{World, Inside, EachInside, LoopLaws, Lawful}
+use Rattle.planner.proofs.Inside.{inside-self, from-inside, first-own}
 use Rattle.planner.proofs.Counts.{cnt, cnt-none}
 use Rattle.planner.proofs.Claim.{Hit, mineOf, count, Sound, Settled, Best, Laid, Leads, Claim}
-use Rattle.planner.proofs.Rows.{row-lay}
+use Rattle.planner.proofs.Walk.{close-cases}
+use Rattle.planner.proofs.Rows.{row-lay, row-there}
 use Rattle.planner.proofs.Exchange.{mine-other}
+use Rattle.planner.proofs.Needs.{Cuts}
 use Rattle.planner.proofs.Ring.{limit-low}
+use Rattle.planner.proofs.Bounds.{meets}
 use Rattle.planner.proofs.Tables.{table-is}
 use Rattle.planner.proofs.Theorem.{claim, laid}
 use Rattle.planner.proofs.FirstPlaces.{NotAfter}
 use Rattle.planner.proofs.FirstSweep.{First, Runs, runs, runs-above, put-first}
-use Rattle.planner.proofs.FirstChoice.{kids, meets, row, choice-hit}
+use Rattle.planner.proofs.FirstChoice.{choice-hit}
 
 -- no own gap of d up to d's DO
 none-before : (B : Loops) → LoopLaws B → (x : ℕ → Bool) (d : ℕ) → cnt (mineOf B x d) d ≡ 0
@@ -37,22 +38,22 @@ module _ (W : World) (N : Lines) (laws : Lawful W N) (T : Tables) (table : IsTab
   -- one loop, from the loops inside
   module _
       (d : ℕ) (is-do : W .loops .isDo d ≡ true)
-      (firsts : (l : ℕ) → Inside (W .loops) d l → d < l → First W T l) where
+      (firsts : EachInside (W .loops) d (First W T)) where
     abbrev e : ℕ
     e = W .loops .stop d
 
-    -- the gap right after the DO is d's own
-    first-own : W .loops .own (suc d) ≡ d
-    first-own =
-        let o : Owner (W .loops) d (suc d) =
-        laws .of-loops .owner d (suc d) is-do (omega arith) (laws .of-loops .long d is-do) in
-        omega (arith, o .from, o .below)
+    kids : EachInside (W .loops) d (Claim W T)
+    kids l i h = claim W N laws T table l (i .is-do)
 
     -- the value for a suffix that x cuts with as many own gaps: a gap right after the DO closes the prefix, or none
     value-first : (x : ℕ → Bool) (q : ℕ) → Settled W (T .cost) x d → d < q → q ≤ e → Hit x q e →
         value (W .loops) N T d q .c ≡ count (W .loops) x d → NotAfter (value (W .loops) N T d q .w) x d e
-    unfolding value close put
-    value-first x q settled low high hit = go (leb (s .f) (N .limit d q)) refl
+    unfolding value put
+    value-first x q settled low high hit =
+        close-cases (λ v. v .c ≡ count (W .loops) x d → NotAfter (v .w) x d e) d (N .limit d q) s
+        (λ z c. runs W (laws .of-loops) T d is-do kids firsts need x settled hits .first (omega (arith, none)))
+        (λ z c. put-first W x d d s (first-own (W .loops) (laws .of-loops) d is-do)
+        (stands z) (omega (arith, none)))
       where
         need : ℕ → ℕ
         need = needOf (N .reach d) q e
@@ -60,25 +61,16 @@ module _ (W : World) (N : Lines) (laws : Lawful W N) (T : Tables) (table : IsTab
         s : State
         s = sweep (W .loops) T need d
 
-        hits : (a : ℕ) → d < a → a ≤ e → need a ≤ e → Hit x a (need a)
-        hits = meets W N laws T table d is-do x q settled hit
-
-        all-kids : (l : ℕ) → Inside (W .loops) d l → d < l → Claim W T l
-        all-kids = kids W N laws T table d is-do
+        hits : Cuts need e d x
+        hits = meets W N laws T table d is-do kids x q settled hit
 
         none : cnt (mineOf (W .loops) x d) d ≡ 0
         none = none-before (W .loops) (laws .of-loops) x d
 
-        go : (t : Bool) → leb (s .f) (N .limit d q) ≡ t → pick t s (put d s) .c ≡ count (W .loops) x d →
-            NotAfter (pick t s (put d s) .w) x d e
-        go true z c =
-            runs W (laws .of-loops) T d is-do all-kids firsts need x settled hits .first (omega (arith, none))
-        go false z c =
-            let f : suc d < s .f =
-            omega (arith, leb-false (s .f) (N .limit d q) z, limit-low W N laws d q is-do low high) in
-            let r : Runs W x d (suc d) s =
-            runs-above W (laws .of-loops) T d is-do all-kids firsts need x settled hits f in
-            put-first W x d d s first-own r (omega (arith, none))
+        stands : N .limit d q < s .f → Runs W x d (suc d) s
+        stands z =
+            runs-above W (laws .of-loops) T d is-do kids firsts need x settled hits
+            (omega (arith, limit-low W N laws d is-do q low high))
 
     module _ (x : ℕ → Bool) (q : ℕ) (best : Best W (T .cost) x d) (low : d < q) (hit : Hit x q e) where
       inside : q ≤ e
@@ -99,8 +91,8 @@ module _ (W : World) (N : Lines) (laws : Lawful W N) (T : Tables) (table : IsTab
           let l : d < T .left d q = place .low (T .left d q) (place .holds) in
           let m : T .left d q ≤ e = place .high (T .left d q) (place .holds) in
           let k : Hit x (T .choice d q) e =
-          choice-hit W N laws T table d is-do x q best low hit (leads .there) l m h in
-          let r = row W N laws T table d is-do q low inside (leads .there) in
+          choice-hit W N laws T table d is-do kids x q best low hit (leads .there) l m h in
+          let r = row-there (W .loops) (laws .of-loops) N T table d is-do q low inside (leads .there) in
           value-first x (T .choice d q) (best .settled) (omega (arith, r .low (leads .there)))
           (r .high (leads .there)) k (r .exact (leads .there) ∙ sym (best .exact))
 
@@ -119,15 +111,8 @@ module _ (W : World) (N : Lines) (laws : Lawful W N) (T : Tables) (table : IsTab
     first-from : First W T d
     first-from = record { first = lay-first }
 
-  first-in : (k d : ℕ) → W .loops .stop d ≤ d + k → W .loops .isDo d ≡ true → First W T d
-  first-in zero d h is-do = absurd (omega (arith, laws .of-loops .long d is-do))
-  first-in (suc k) d h is-do =
-      first-from d is-do
-      (λ l i j. first-in k l
-      (omega (arith, laws .of-loops .nested d l is-do (i .is-do) j (omega (arith, i .below)))) (i .is-do))
-
   pub first : (d : ℕ) → W .loops .isDo d ≡ true → First W T d
-  first d is-do = first-in (W .loops .stop d) d (omega arith) is-do
+  first = from-inside (W .loops) (laws .of-loops) (First W T) first-from
 
   -- what is laid for d is first among the placements that are sound at d with the same counts
   pub laid-first : (d : ℕ) → W .loops .isDo d ≡ true → (y : ℕ → Bool) → Sound W y d →
@@ -140,13 +125,13 @@ module _ (W : World) (N : Lines) (laws : Lawful W N) (T : Tables) (table : IsTab
       }
     where
       exact : (l : ℕ) → Inside (W .loops) d l → count (W .loops) y l ≡ T .cost l
-      exact l i = same l i ∙ laid W N laws T table d is-do .counts l i
-
-      self : Inside (W .loops) d d
-      self = record { is-do = is-do; from = omega arith; below = laws .of-loops .long d is-do }
+      exact l i = same l i ∙ laid W N laws T table d is-do .done l i .exact
 
       best : Best W (T .cost) y d
-      best = record { settled = record { sound = sound; inside = λ l i j. exact l i }; exact = exact d self }
+      best = record {
+        settled = record { sound = sound; inside = λ l i j. exact l i };
+        exact = exact d (inside-self (W .loops) (laws .of-loops) d is-do);
+      }
 
 -- the computed key, of a nest of n points whose outermost loop is 0
 pub computed-first : (W : World) (N : Lines) → Lawful W N → (n : ℕ) → W .loops .isDo 0 ≡ true →

@@ -8,7 +8,7 @@ use Prim.Native.Nat.{ℕ, suc, _≤_, _<_}
 use native.Mathlib.Omega.{arith}
 use Rattle.laws.proofs.Tests.{never-both, le-or, or-left}
 use Rattle.planner.specs.Sweep.{only, also}
-use Rattle.planner.proofs.AttainedBody.{only-is, only-self, also-left, also-right}
+use Rattle.planner.proofs.Unions.{only-is, only-self, also-left, also-right}
 
 -- on p + 1 … e
 pub record NotAfter (w x : ℕ → Bool) (p e : ℕ) : Type 0 where

@@ -8,17 +8,17 @@ use mathlib.Core.Bool.{Bool, true, false}
 use mathlib.Core.Logic.{⊎-elim}
 use Prim.Native.Nat.{ℕ, suc, _+_, _≤_, _<_}
 use native.Mathlib.Omega.{arith}
-use Rattle.laws.proofs.Tests.{never, le-or, false-by, or-true}
+use Rattle.laws.proofs.Tests.{never, le-or, false-by}
 use Rattle.planner.specs.Sweep.{Tables, State, only, also, put, stepPlain}
 use Rattle.planner.specs.Sweep.{free, inner, outer, stepChild, sweep}
-use Rattle.planner.proofs.World.{World, Inside, LoopLaws}
+use Rattle.planner.proofs.World.{World, EachInside, LoopLaws}
 use Rattle.planner.proofs.Counts.{cnt, cnt-yes, cnt-skips}
 use Rattle.planner.proofs.Claim.{Hit, mineOf, count, Settled, Best, Laid, Claim}
+use Rattle.planner.proofs.Needs.{Cuts}
 use Rattle.planner.proofs.Walk.{plain-cases, child-cases, Free, Inner, Outer, AtPlain, AtChild, along}
-use Rattle.planner.proofs.Exchange.{Inv, mine-own}
-use Rattle.planner.proofs.AttainedBody.{only-is}
-use Rattle.planner.proofs.FirstExchange.{child-inside, plain-kept, child-kept}
-use Rattle.planner.proofs.FirstExchange.{best-in-child, with-bar, without-bar, bar, caught}
+use Rattle.planner.proofs.Exchange.{Inv, start-inv, mine-own, child-inside, plain-kept, child-kept}
+use Rattle.planner.proofs.Exchange.{best-in-child, with-bar, without-bar, bar, caught}
+use Rattle.planner.proofs.Unions.{only-is, also-by}
 use Rattle.planner.proofs.FirstPlaces.{NotAfter, skip-before, put-before, join-before}
 
 -- what is laid for d and q is first among the placements that are best in d and have a gap from q on
@@ -39,10 +39,6 @@ record Turns (W : World) (x : ℕ → Bool) (d p : ℕ) (s : State) : Type 0 whe
   pub now : Runs W x d p s
   pub before : p ≡ d → suc d < s .f → Runs W x d (suc d) s
 
--- a gap of one of two placements
-either : {A : Type 0} (y w : ℕ → Bool) (g : ℕ) → also y w g ≡ true → (y g ≡ true → A) → (w g ≡ true → A) → A
-either y w g h a b = ⊎-elim a b (or-true (y g) (w g) h)
-
 -- a gap put right after p, of a sweep that stands at the boundary above
 pub put-first : (W : World) (x : ℕ → Bool) (d p : ℕ) (s : State) → W .loops .own (suc p) ≡ d →
     Runs W x d (suc p) s → suc (s .c) + cnt (mineOf (W .loops) x d) p ≡ count (W .loops) x d →
@@ -53,10 +49,8 @@ put-first W x d p s own r z =
 
 module _
     (W : World) (laws : LoopLaws (W .loops)) (T : Tables) (d : ℕ) (is-do : W .loops .isDo d ≡ true)
-    (kids : (l : ℕ) → Inside (W .loops) d l → d < l → Claim W T l)
-    (firsts : (l : ℕ) → Inside (W .loops) d l → d < l → First W T l) (need : ℕ → ℕ) (x : ℕ → Bool)
-    (settled : Settled W (T .cost) x d)
-    (hits : (a : ℕ) → d < a → a ≤ W .loops .stop d → need a ≤ W .loops .stop d → Hit x a (need a)) where
+    (kids : EachInside (W .loops) d (Claim W T)) (firsts : EachInside (W .loops) d (First W T))
+    (need : ℕ → ℕ) (x : ℕ → Bool) (settled : Settled W (T .cost) x d) (hits : Cuts need (W .loops .stop d) d x) where
   abbrev e : ℕ
   e = W .loops .stop d
 
@@ -68,7 +62,7 @@ module _
     put-low : (g : ℕ) → put p s .w g ≡ true → p < g
     unfolding put
     put-low g h =
-        either (only (suc p)) (s .w) g h (λ z. omega (arith, only-is (suc p) g z)) (λ z. omega (arith, r .low g z))
+        also-by (only (suc p)) (s .w) g h (λ z. omega (arith, only-is (suc p) g z)) (λ z. omega (arith, r .low g z))
 
     put-runs : Inv (W .loops) x d p (put p s) → Runs W x d p (put p s)
     unfolding put
@@ -150,7 +144,7 @@ module _
     join-low : (b : ℕ) (w : ℕ → Bool) → l < b → b ≤ p → ((g : ℕ) → w g ≡ true → p < g) →
         (g : ℕ) → also (T .lay l b) w g ≡ true → l < g
     join-low b w h j low g k =
-        either (T .lay l b) w g k (λ z. laid-inside b h j g z .0) (λ z. omega (arith, low g z, at .short))
+        also-by (T .lay l b) w g k (λ z. laid-inside b h j g z .0) (λ z. omega (arith, low g z, at .short))
 
     above : (g : ℕ) → s .w g ≡ true → p < g
     above g h = omega (arith, r .low g h)
@@ -200,7 +194,7 @@ module _
         w = also (only (suc p)) (s .w)
 
         low : (g : ℕ) → w g ≡ true → p < g
-        low g h = either (only (suc p)) (s .w) g h (λ z. omega (arith, only-is (suc p) g z)) (above g)
+        low g h = also-by (only (suc p)) (s .w) g h (λ z. omega (arith, only-is (suc p) g z)) (above g)
 
         barrier : suc (s .c) + own-gaps l ≡ all → NotAfter w x p e
         barrier z =
@@ -222,7 +216,7 @@ module _
       (λ p l s at i. child-turns p l s at (i .now))
       record {
         now = record {
-          inv = record { fits = omega arith; le = omega arith; tight = λ z g a b c. absurd (omega arith) };
+          inv = start-inv (W .loops) x d;
           low = λ g h. never h;
           first = λ z. record { at = λ g a b c. absurd (omega arith) };
         };

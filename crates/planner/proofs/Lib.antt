@@ -2,14 +2,18 @@
 -- settled placement owes (Exchange, Bounds); what is laid (Ring, Attained); computed tables; the theorem;
 -- and the same of a nest's own points and dependences (Instance, Cuts, NestKey).
 pub mod World
+pub mod Inside
 pub mod Counts
 pub mod Claim
+pub mod Unions
+pub mod Hits
+pub mod Needs
 pub mod Walk
 pub mod Exchange
 pub mod Choices
 pub mod Rows
-pub mod Bounds
 pub mod Ring
+pub mod Bounds
 pub mod AttainedBody
 pub mod AttainedFront
 pub mod AttainedSweep
@@ -24,7 +28,6 @@ pub mod Instance
 pub mod Cuts
 pub mod NestKey
 -- the key is first in list order among all keys: by exchange once more, step by step
-pub mod FirstExchange
 pub mod FirstPlaces
 pub mod FirstSweep
 pub mod FirstChoice

@@ -2,16 +2,15 @@
 -- Main statement: `table-is`.
 use mathlib.Core.Path.{_≡_, refl, sym, _∙_, ap}
 use mathlib.Core.Bool.{Bool, true, false}
-use mathlib.Core.Logic.{_⊎_, inl, inr, ⊎-elim}
+use mathlib.Core.Logic.{⊎-elim}
 use Prim.Native.Nat.{ℕ, zero, suc, _+_, _≤_, _<_}
 use native.Mathlib.Omega.{arith}
-use lib.Dec.{eqb}
-use borrow.Author.Tests.{eqb-true, eqb-false, eq-eqb, ne-eqb}
+use borrow.Author.Tests.{eq-eqb, ne-eqb}
 use Rattle.laws.specs.Choice.{pick}
-use Rattle.laws.proofs.Tests.{test, never-both, le-or}
+use Rattle.laws.proofs.Tests.{never-both, le-or}
 use Rattle.planner.specs.Sweep.{Loops, Lines, Tables, costOf, leftOf, choiceOf, layOf, IsTable}
 use Rattle.planner.specs.Plan.{withRow, tableFrom, tableOf}
-use Rattle.planner.proofs.World.{Child, LoopLaws}
+use Rattle.planner.proofs.World.{LoopLaws}
 use Rattle.planner.proofs.Alike.{Alike}
 use Rattle.planner.proofs.AlikeRows.{cost-alike, left-alike, choice-alike, lay-alike}
 

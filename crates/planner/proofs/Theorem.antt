@@ -2,19 +2,17 @@
 -- settled placement has fewer of its own gaps. So what is laid for a loop cuts all its dependences with the costs at
 -- every loop, and at each loop inside a sound placement that has the same counts further in has at least as many gaps.
 -- Main statements: `claim`, `key-is`.
-use mathlib.Core.Path.{_≡_, refl, sym, _∙_, ap}
-use mathlib.Core.Bool.{Bool, true, false}
-use mathlib.Core.Logic.{_⊎_, inl, inr, ⊎-elim}
-use Prim.Native.Nat.{ℕ, zero, suc, _+_, _≤_, _<_}
+use mathlib.Core.Path.{_≡_, _∙_}
+use mathlib.Core.Bool.{Bool, true}
+use Prim.Native.Nat.{ℕ, suc, _≤_, _<_}
 use native.Mathlib.Omega.{arith}
-use Rattle.laws.proofs.Tests.{le-or}
-use Rattle.planner.specs.Sweep.{Loops, Lines, Tables, IsTable}
+use Rattle.planner.specs.Sweep.{Lines, Tables, IsTable}
 use Rattle.planner.specs.Plan.{tableOf, keyOf}
-use Rattle.planner.proofs.World.{World, Inside, LoopLaws, Lawful}
-use Rattle.planner.proofs.Claim.{Hit, mineOf, count, Sound, Settled, Best, Laid, Idle, Claim}
-use Rattle.planner.proofs.Exchange.{inside-trans}
+use Rattle.planner.proofs.World.{World, Inside, EachInside, Lawful}
+use Rattle.planner.proofs.Inside.{inside-trans, from-inside}
+use Rattle.planner.proofs.Claim.{count, Sound, Claim}
 use Rattle.planner.proofs.Bounds.{lower, leftmost, some-gap}
-use Rattle.planner.proofs.AttainedBody.{count-none}
+use Rattle.planner.proofs.AttainedBody.{Part, part-sound, whole-part}
 use Rattle.planner.proofs.AttainedSweep.{Kids, kids-inside}
 use Rattle.planner.proofs.Attained.{attained, blank}
 use Rattle.planner.proofs.AttainedEmpty.{empty}
@@ -30,15 +28,8 @@ pub record Key (W : World) (d : ℕ) (x : ℕ → Bool) : Type 0 where
       ((m : ℕ) → Inside (W .loops) l m → l < m → count (W .loops) y m ≡ count (W .loops) x m) →
       count (W .loops) x l ≤ count (W .loops) y l
 
--- what is laid for d: the cost at every loop, every dependence cut, in d's range
-pub record Done (W : World) (T : Tables) (d : ℕ) (x : ℕ → Bool) : Type 0 where
-  pub low : (g : ℕ) → x g ≡ true → d < g
-  pub high : (g : ℕ) → x g ≡ true → g ≤ W .loops .stop d
-  pub sound : Sound W x d
-  pub counts : (l : ℕ) → Inside (W .loops) d l → count (W .loops) x l ≡ T .cost l
-
 module _ (W : World) (N : Lines) (laws : Lawful W N) (T : Tables) (table : IsTable (W .loops) N T) where
-  claim-from : (d : ℕ) → W .loops .isDo d ≡ true → ((l : ℕ) → Inside (W .loops) d l → d < l → Claim W T l) → Claim W T d
+  claim-from : (d : ℕ) → W .loops .isDo d ≡ true → EachInside (W .loops) d (Claim W T) → Claim W T d
   claim-from d is-do all =
       let kids : Kids W T d = kids-inside W T d all in
       record {
@@ -50,68 +41,21 @@ module _ (W : World) (N : Lines) (laws : Lawful W N) (T : Tables) (table : IsTab
         empty = empty W N laws T table d is-do kids;
       }
 
-  claim-in : (k d : ℕ) → W .loops .stop d ≤ d + k → W .loops .isDo d ≡ true → Claim W T d
-  claim-in zero d h is-do = absurd (omega (arith, laws .of-loops .long d is-do))
-  claim-in (suc k) d h is-do =
-      claim-from d is-do
-      (λ l i j. claim-in k l
-      (omega (arith, laws .of-loops .nested d l is-do (i .is-do) j (omega (arith, i .below)))) (i .is-do))
-
   pub claim : (d : ℕ) → W .loops .isDo d ≡ true → Claim W T d
-  claim d is-do = claim-in (W .loops .stop d) d (omega arith) is-do
+  claim = from-inside (W .loops) (laws .of-loops) (Claim W T) claim-from
 
   module _ (d : ℕ) (is-do : W .loops .isDo d ≡ true) where
-    long : d < W .loops .stop d
-    long = laws .of-loops .long d is-do
-
-    laid-done : (x : ℕ → Bool) (q : ℕ) → Laid W T d q x → Done W T d x
-    laid-done x q k =
-        record {
-          low = k .low;
-          high = k .high;
-          sound = k .best .settled .sound;
-          counts = λ l i. ⊎-elim
-              (λ (z : l ≤ d). (
-              let e : l ≡ d = omega (arith, i .from) in
-              rw e (k .best .exact)))
-              (λ (z : d < l). k .best .settled .inside l i z)
-              (le-or l d);
-        }
-
-    bare-done : (x : ℕ → Bool) → ((g : ℕ) → x g ≡ true → ⊥) → ((l : ℕ) → Inside (W .loops) d l → Idle W T l) →
-        Done W T d x
-    bare-done x h idle =
-        record {
-          low = λ g i. absurd (h g i);
-          high = λ g i. absurd (h g i);
-          sound = record {
-            lines = λ l a b i j. absurd (idle l i .no-line a b j);
-            backs = λ l a t i j. absurd (idle l i .no-back a t j);
-          };
-          counts = λ l i. count-none (W .loops) x l (λ g u v o. h g) ∙ sym (idle l i .free);
-        }
-
-    pub laid : Done W T d (T .lay d (suc d))
-    laid =
-        let c : Claim W T d = claim d is-do in
-        ⊎-elim
-        (λ (z : T .left d (suc d) ≤ 0). bare-done (T .lay d (suc d))
-        (c .blank (suc d) (omega arith) long (omega arith)) (c .empty (omega arith)))
-        (λ (z : 0 < T .left d (suc d)). laid-done (T .lay d (suc d)) (suc d) (c .attained (suc d) (omega arith) long z))
-        (le-or (T .left d (suc d)) 0)
+    -- what is laid for d: the cost at every loop, every dependence cut, in d's range
+    pub laid : Part W T d (T .lay d (suc d))
+    laid = whole-part W T d (laws .of-loops .long d is-do) (claim d is-do)
 
     widen : (l m : ℕ) → Inside (W .loops) d l → Inside (W .loops) l m → Inside (W .loops) d m
-    widen l m i j =
-        ⊎-elim
-        (λ (z : l ≤ d). (
-        let e : l ≡ d = omega (arith, i .from) in
-        rw e at j))
-        (λ (z : d < l). inside-trans (W .loops) (laws .of-loops) d l m is-do i z j)
-        (le-or l d)
+    widen l m = inside-trans (W .loops) (laws .of-loops) d l m is-do
 
     -- a placement that is sound at d and has the costs in all the loops inside l has at least l's cost
     pub least-at : (y : ℕ → Bool) (l : ℕ) → Sound W y d → Inside (W .loops) d l →
-        ((m : ℕ) → Inside (W .loops) l m → l < m → count (W .loops) y m ≡ T .cost m) → T .cost l ≤ count (W .loops) y l
+        ((m : ℕ) → Inside (W .loops) l m → l < m → count (W .loops) y m ≡ T .cost m) →
+        T .cost l ≤ count (W .loops) y l
     least-at y l s i same = claim l (i .is-do) .lower y record { sound = within; inside = same }
       where
         within : Sound W y l
@@ -125,10 +69,10 @@ module _ (W : World) (N : Lines) (laws : Lawful W N) (T : Tables) (table : IsTab
         record {
           low = laid .low;
           high = laid .high;
-          sound = laid .sound;
+          sound = part-sound laid;
           least = λ y l s i same. (
-              let e : count (W .loops) (T .lay d (suc d)) l ≡ T .cost l = laid .counts l i in
-              omega (arith, least-at y l s i (λ m j k. same m j k ∙ laid .counts m (widen l m i j))));
+              let e : count (W .loops) (T .lay d (suc d)) l ≡ T .cost l = laid .done l i .exact in
+              omega (arith, least-at y l s i (λ m j k. same m j k ∙ laid .done m (widen l m i j) .exact)));
         }
 
 -- the computed key, of a nest of n points whose outermost loop is 0

@@ -1,9 +1,9 @@
 -- A nest as the theorem sees it: loops, the independent dependences and the carried ones of each loop, and their laws.
--- Main definitions: `World`, `Lawful` (with `LoopLaws` and `LineLaws`).
+-- Main definitions: `World`, `Inside`, `Lawful` (with `LoopLaws` and `LineLaws`).
 use mathlib.Core.Path.{_≡_}
-use mathlib.Core.Bool.{Bool, true, false}
+use mathlib.Core.Bool.{true, false}
 use mathlib.Core.Logic.{_⊎_}
-use Prim.Native.Nat.{ℕ, zero, suc, _≤_, _<_}
+use Prim.Native.Nat.{ℕ, suc, _≤_, _<_}
 use Rattle.planner.specs.Sweep.{Loops, Lines}
 
 -- Line d a b: an independent dependence with home d has the gaps a … b
@@ -18,6 +18,10 @@ pub record Inside (B : Loops) (d l : ℕ) : Type 0 where
   pub is-do : B .isDo l ≡ true
   pub from : d ≤ l
   pub below : l < B .stop d
+
+-- P holds of every loop strictly inside d
+abbrev pub EachInside : Loops → ℕ → (ℕ → Type 0) → Type 0
+EachInside B d P = (l : ℕ) → Inside B d l → d < l → P l
 
 -- the loop of a gap g of d's range
 pub record Owner (B : Loops) (d g : ℕ) : Type 0 where

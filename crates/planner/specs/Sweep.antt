@@ -1,6 +1,7 @@
 -- The planner: for each loop a number of barriers, and for each gap q of its range the leftmost front of a placement
 -- with that number and a gap from q on. All numbers are points or gaps; a gap is written `suc p`, just after point p.
--- Main definitions: `walk`, `value`, `costOf`, `leftOf`, `pickOf`, `layOf`, and `IsTable`, which says what a table holds.
+-- Main definitions: `walk`, `value`, `costOf`, `leftOf`, `choiceOf`, `layOf`, and `IsTable`, which says what a table
+-- holds.
 use mathlib.Core.Path.{_≡_}
 use mathlib.Core.Bool.{Bool, true, false, _&&_, _||_}
 use Prim.Native.Nat.{ℕ, zero, suc, _≤_, _<_}

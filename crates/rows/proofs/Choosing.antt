@@ -43,9 +43,11 @@ better-higher f at m q c here h n z v x y = rw (← x, ← y, eq-eqb c m h, ne-e
 pub kept-none : (xs : List ℕ) (low high : ℕ) → Kept xs xs low high
 kept-none xs low high i h = refl
 
-pub kept-more : (xs ys : List ℕ) (base q e x : ℕ) → 0 < q → q ≤ e → Kept xs ys (base + q) (base + e) → Kept xs (set ys (base + q) x) (base + (q - 1)) (base + e)
+pub kept-more : (xs ys : List ℕ) (base q e x : ℕ) → 0 < q → q ≤ e → Kept xs ys (base + q) (base + e) →
+    Kept xs (set ys (base + q) x) (base + (q - 1)) (base + e)
 kept-more xs ys base q e x a b k i h =
-    getD-set-other ys (base + q) i x 0 (λ (z : i ≡ base + q). absurd (omega (arith, h (omega arith)))) ∙ k i (λ l. h (omega arith))
+    getD-set-other ys (base + q) i x 0 (λ (z : i ≡ base + q). absurd (omega (arith, h (omega arith)))) ∙
+    k i (λ l. h (omega arith))
 
 -- the best front of the suffixes after q
 abbrev pub Run : (ℕ → State) → ℕ → ℕ → ℕ → ℕ → ℕ → Type 0
@@ -56,7 +58,8 @@ unfolding best
 run-none v c e zero h = refl
 run-none v c e (suc k) h = rw (lt-ltb e (suc e) (omega arith))
 
-pub run-more : (v : ℕ → State) (c e q f at f′ at′ : ℕ) → 0 < q → q ≤ e → front f′ at′ ≡ better c q (v q) (front f at) → Run v c e q f at → Run v c e (q - 1) f′ at′
+pub run-more : (v : ℕ → State) (c e q f at f′ at′ : ℕ) → 0 < q → q ≤ e → front f′ at′ ≡
+    better c q (v q) (front f at) → Run v c e q f at → Run v c e (q - 1) f′ at′
 unfolding best
 run-more v c e zero f at f′ at′ a b n r k h = absurd (omega arith)
 run-more v c e (suc q) f at f′ at′ a b n r zero h = absurd (omega arith)
@@ -65,15 +68,20 @@ run-more v c e (suc q) f at f′ at′ a b n r (suc k) h =
     rw (z, le-ltb e (suc q) b, r k (omega (arith, h))) (sym n)
 
 pub chosen-none : (v : ℕ → State) (c : ℕ) (left choice : List ℕ) (base e : ℕ) → Chosen v c left choice base e e
-chosen-none v c left choice base e = record { left-is = λ q a b. absurd (omega arith); choice-is = λ q a b. absurd (omega arith) }
+chosen-none v c left choice base e =
+    record { left-is = λ q a b. absurd (omega arith); choice-is = λ q a b. absurd (omega arith) }
 
 pub chosen-more
-    : (v : ℕ → State) (c : ℕ) (left choice : List ℕ) (base q e f at : ℕ) → 0 < q → q ≤ e → base + q < length left → base + q < length choice
-    → Run v c e (q - 1) f at → Chosen v c left choice base q e → Chosen v c (set left (base + q) f) (set choice (base + q) at) base (q - 1) e
+    : (v : ℕ → State) (c : ℕ) (left choice : List ℕ) (base q e f at : ℕ) → 0 < q → q ≤ e → base + q < length left →
+    base + q < length choice
+    → Run v c e (q - 1) f at → Chosen v c left choice base q e →
+    Chosen v c (set left (base + q) f) (set choice (base + q) at) base (q - 1) e
 chosen-more v c left choice base q e f at a b h k r s =
     record {
-      left-is = λ p i j. stored left (base + q) f (base + p) (best v c e (suc e) p .f) h (λ z. sym (rw (same p z) (ap (λ (x : Front). x .f) now))) (λ z. s .left-is p (later p i z) j);
-      choice-is = λ p i j. stored choice (base + q) at (base + p) (best v c e (suc e) p .at) k (λ z. sym (rw (same p z) (ap (λ (x : Front). x .at) now))) (λ z. s .choice-is p (later p i z) j);
+      left-is = λ p i j. stored left (base + q) f (base + p) (best v c e (suc e) p .f) h
+          (λ z. sym (rw (same p z) (ap (λ (x : Front). x .f) now))) (λ z. s .left-is p (later p i z) j);
+      choice-is = λ p i j. stored choice (base + q) at (base + p) (best v c e (suc e) p .at) k
+          (λ z. sym (rw (same p z) (ap (λ (x : Front). x .at) now))) (λ z. s .choice-is p (later p i z) j);
     }
   where
     now : best v c e (suc e) q ≡ front f at
@@ -88,7 +96,8 @@ chosen-more v c left choice base q e f at a b h k r s =
     later p i z = lt-by λ l. z (omega arith)
 
 -- the rows so far: the suffixes after q are done, f and a are the front and its place
-pub record Choosing (cs fs : List ℕ) (m : ℕ) (left₀ choice₀ : List ℕ) (base d e : ℕ) (left choice : List ℕ) (f a q : ℕ) : Type 0 where
+pub record Choosing (cs fs : List ℕ) (m : ℕ) (left₀ choice₀ : List ℕ) (base d e : ℕ) (left choice : List ℕ)
+    (f a q : ℕ) : Type 0 where
   pub from : d ≤ q
   pub high : q ≤ e
   pub left-length : length left ≡ length left₀
@@ -137,7 +146,8 @@ module _ (cs fs : List ℕ) (m : ℕ) (left₀ choice₀ : List ℕ) (base d e :
           left-kept = kept-more left₀ left base q e f′ (omega arith) (s .high) (s .left-kept);
           choice-kept = kept-more choice₀ choice base q e a′ (omega arith) (s .high) (s .choice-kept);
           run = run;
-          chosen = λ v x y. chosen-more v m left choice base q e f′ a′ (omega arith) (s .high) i j (run v x y) (s .chosen v x y);
+          chosen = λ v x y. chosen-more v m left choice base q e f′ a′ (omega arith) (s .high) i j (run v x y)
+              (s .chosen v x y);
         }
       where
         run
@@ -145,7 +155,8 @@ module _ (cs fs : List ℕ) (m : ℕ) (left₀ choice₀ : List ℕ) (base d e :
             → ((p : ℕ) → d < p → p ≤ e → at cs p ≡ v p .c)
             → ((p : ℕ) → d < p → p ≤ e → at fs p ≡ v p .f)
             → Run v m e (q - 1) f′ a′
-        run v x y = run-more v m e q f a f′ a′ (omega arith) (s .high) (b (v q) (x q h (s .high)) (y q h (s .high))) (s .run v x y)
+        run v x y = run-more v m e q f a f′ a′ (omega arith) (s .high) (b (v q) (x q h (s .high)) (y q h (s .high)))
+            (s .run v x y)
 
     pub choosing-all : q ≤ d → Choosing cs fs m left₀ choice₀ base d e left choice f a d
     choosing-all h =

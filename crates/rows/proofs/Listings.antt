@@ -19,10 +19,15 @@ use Rattle.rows.specs.Valued.{Valued, Listing}
 
 pub listing-none : (v : ℕ → State) (cs fs : List ℕ) (d m : ℕ) → Listing v cs fs d d m
 listing-none v cs fs d m =
-    record { c-at = λ q a b. absurd (omega arith); f-at = λ q a b. absurd (omega arith); least-is = λ h. absurd (omega arith) }
+    record {
+      c-at = λ q a b. absurd (omega arith);
+      f-at = λ q a b. absurd (omega arith);
+      least-is = λ h. absurd (omega arith);
+    }
 
 least-more
-    : (v : ℕ → State) (d p m c m′ : ℕ) → (d < p → m ≡ least (λ q. v q .c) d p) → c ≡ v (p + 1) .c → m′ ≡ pick (leb p d || leb c m) c m
+    : (v : ℕ → State) (d p m c m′ : ℕ) → (d < p → m ≡ least (λ q. v q .c) d p) → c ≡ v (p + 1) .c → m′ ≡
+    pick (leb p d || leb c m) c m
     → m′ ≡ least (λ q. v q .c) d (p + 1)
 unfolding least
 least-more v d p m c m′ l e n = ⊎-elim first later (le-or p d)
@@ -34,8 +39,10 @@ least-more v d p m c m′ l e n = ⊎-elim first later (le-or p d)
     later h = n ∙ rw (l h, add-one p, e, add-one p) refl
 
 pub listing-more
-    : (v : ℕ → State) (cs fs : List ℕ) (d p m c f m′ : ℕ) → p + 1 < length cs → p + 1 < length fs → Valued (v (p + 1)) c f
-    → m′ ≡ pick (leb p d || leb c m) c m → Listing v cs fs d p m → Listing v (set cs (p + 1) c) (set fs (p + 1) f) d (p + 1) m′
+    : (v : ℕ → State) (cs fs : List ℕ) (d p m c f m′ : ℕ) → p + 1 < length cs → p + 1 < length fs →
+    Valued (v (p + 1)) c f
+    → m′ ≡ pick (leb p d || leb c m) c m → Listing v cs fs d p m →
+    Listing v (set cs (p + 1) c) (set fs (p + 1) f) d (p + 1) m′
 listing-more v cs fs d p m c f m′ h k u n s =
     record {
       c-at = λ q a b. stored cs (p + 1) c q (v q .c) h (λ z. rw z (u .c-is)) (λ z. s .c-at q a (omega (arith, z)));

@@ -9,13 +9,15 @@ use lib.Dec.{ltb}
 use lib.ListN.{drop}
 use lib.Seq.{getD-drop}
 use borrow.Author.Tests.{lt-ltb, le-ltb}
-use Rattle.planner.specs.Sweep.{Loops, Lines, Tables, State, Front, front, best, value, least, someOf, costOf, frontOf, leftOf, choiceOf}
+use Rattle.planner.specs.Sweep.{Loops, Lines, Tables, State, Front, front, best, value, least, someOf, costOf}
+use Rattle.planner.specs.Sweep.{frontOf, leftOf, choiceOf}
 use Rattle.sweeps.specs.Listed.{at, row, listed, tabled}
 use Rattle.rows.specs.Valued.{lined, valueOf, Listing, ValuesSay}
 use Rattle.rows.specs.Made.{Kept, Copied, Cleared, ChooseSays, Chosen, RowMade}
 
 front-some
-    : (B : Loops) (N : Lines) (T : Tables) (d q m : ℕ) → someOf B N T d ≡ true → m ≡ least (λ q. value B N T d q .c) d (B .stop d)
+    : (B : Loops) (N : Lines) (T : Tables) (d q m : ℕ) → someOf B N T d ≡ true → m ≡
+    least (λ q. value B N T d q .c) d (B .stop d)
     → frontOf B N T d q ≡ best (value B N T d) m (B .stop d) (suc (B .stop d)) q
 unfolding frontOf costOf
 front-some B N T d q m s e = rw (s, e)
@@ -46,19 +48,28 @@ module _ (ps own reach limit left choice left′ choice′ : List ℕ) (base d e
       record {
         need = need;
         need-is = copied;
-        left-is = λ has lay s q i j. c has lay .left-is q i j ∙ ap (λ (r : Front). r .f) (sym (f has lay s q)) ∙ sym (left-front (listed ps own e) (lined has need limit base) (tabled left (base - 256) lay) d q);
-        choice-is = λ has lay s q i j. c has lay .choice-is q i j ∙ ap (λ (r : Front). r .at) (sym (f has lay s q)) ∙ sym (choice-front (listed ps own e) (lined has need limit base) (tabled left (base - 256) lay) d q);
+        left-is = λ has lay s q i j. c has lay .left-is q i j ∙ ap (λ (r : Front). r .f) (sym (f has lay s q)) ∙
+            sym (left-front (listed ps own e) (lined has need limit base) (tabled left (base - 256) lay) d q);
+        choice-is = λ has lay s q i j. c has lay .choice-is q i j ∙
+            ap (λ (r : Front). r .at) (sym (f has lay s q)) ∙
+            sym (choice-front (listed ps own e) (lined has need limit base) (tabled left (base - 256) lay) d q);
         left-kept = left-kept;
         choice-kept = choice-kept;
       }
     where
-      c : (has : Bool) (lay : ℕ → ℕ → ℕ → Bool) → Chosen (valueOf ps own need left (base - 256) limit base has lay d e) m left′ choice′ base d e
-      c has lay = chosen (valueOf ps own need left (base - 256) limit base has lay d e) (values has lay .c-at) (values has lay .f-at)
+      c : (has : Bool) (lay : ℕ → ℕ → ℕ → Bool) →
+          Chosen (valueOf ps own need left (base - 256) limit base has lay d e) m left′ choice′ base d e
+      c has lay = chosen (valueOf ps own need left (base - 256) limit base has lay d e) (values has lay .c-at)
+          (values has lay .f-at)
 
       f
-          : (has : Bool) (lay : ℕ → ℕ → ℕ → Bool) → someOf (listed ps own e) (lined has need limit base) (tabled left (base - 256) lay) d ≡ ltb 0 some → (q : ℕ)
-          → frontOf (listed ps own e) (lined has need limit base) (tabled left (base - 256) lay) d q ≡ best (valueOf ps own need left (base - 256) limit base has lay d e) m e (suc e) q
-      f has lay s q = front-some (listed ps own e) (lined has need limit base) (tabled left (base - 256) lay) d q m (s ∙ lt-ltb 0 some h) (values has lay .least-is long)
+          : (has : Bool) (lay : ℕ → ℕ → ℕ → Bool) →
+          someOf (listed ps own e) (lined has need limit base) (tabled left (base - 256) lay) d ≡ ltb 0 some →
+          (q : ℕ)
+          → frontOf (listed ps own e) (lined has need limit base) (tabled left (base - 256) lay) d q ≡
+          best (valueOf ps own need left (base - 256) limit base has lay d e) m e (suc e) q
+      f has lay s q = front-some (listed ps own e) (lined has need limit base) (tabled left (base - 256) lay) d q m
+          (s ∙ lt-ltb 0 some h) (values has lay .least-is long)
 
   pub made-none
       : some ≡ 0
@@ -69,13 +80,21 @@ module _ (ps own reach limit left choice left′ choice′ : List ℕ) (base d e
       record {
         need = drop base reach;
         need-is = λ a i j. getD-drop base reach a 0;
-        left-is = λ has lay s q i j. l .zero-at q i j ∙ ap (λ (r : Front). r .f) (sym (f has lay s q)) ∙ sym (left-front (listed ps own e) (lined has (drop base reach) limit base) (tabled left (base - 256) lay) d q);
-        choice-is = λ has lay s q i j. c .zero-at q i j ∙ ap (λ (r : Front). r .at) (sym (f has lay s q)) ∙ sym (choice-front (listed ps own e) (lined has (drop base reach) limit base) (tabled left (base - 256) lay) d q);
+        left-is = λ has lay s q i j. l .zero-at q i j ∙ ap (λ (r : Front). r .f) (sym (f has lay s q)) ∙
+            sym (left-front (listed ps own e) (lined has (drop base reach) limit base)
+            (tabled left (base - 256) lay) d q);
+        choice-is = λ has lay s q i j. c .zero-at q i j ∙ ap (λ (r : Front). r .at) (sym (f has lay s q)) ∙
+            sym (choice-front (listed ps own e) (lined has (drop base reach) limit base)
+            (tabled left (base - 256) lay) d q);
         left-kept = l .kept;
         choice-kept = c .kept;
       }
     where
       f
-          : (has : Bool) (lay : ℕ → ℕ → ℕ → Bool) → someOf (listed ps own e) (lined has (drop base reach) limit base) (tabled left (base - 256) lay) d ≡ ltb 0 some → (q : ℕ)
-          → frontOf (listed ps own e) (lined has (drop base reach) limit base) (tabled left (base - 256) lay) d q ≡ front 0 0
-      f has lay s q = front-none (listed ps own e) (lined has (drop base reach) limit base) (tabled left (base - 256) lay) d q (s ∙ le-ltb 0 some (omega arith))
+          : (has : Bool) (lay : ℕ → ℕ → ℕ → Bool) →
+          someOf (listed ps own e) (lined has (drop base reach) limit base) (tabled left (base - 256) lay) d ≡
+          ltb 0 some → (q : ℕ)
+          → frontOf (listed ps own e) (lined has (drop base reach) limit base) (tabled left (base - 256) lay) d q ≡
+          front 0 0
+      f has lay s q = front-none (listed ps own e) (lined has (drop base reach) limit base)
+          (tabled left (base - 256) lay) d q (s ∙ le-ltb 0 some (omega arith))

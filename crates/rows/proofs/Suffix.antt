@@ -17,7 +17,8 @@ use Rattle.planner.specs.Sweep.{State, needOf, put, close, value, sweep}
 use Rattle.sweeps.specs.Listed.{at, row, listed, tabled, sweepOf, Swept, SweepSays}
 use Rattle.rows.specs.Valued.{lined, valueOf, Valued, ValueSays}
 
-lower : (need : List ℕ) (q e a : ℕ) → q < length need → getD (set need q (min (at need q) e)) a 0 ≡ needOf (at need) q e a
+lower : (need : List ℕ) (q e a : ℕ) → q < length need → getD (set need q (min (at need q) e)) a 0 ≡
+    needOf (at need) q e a
 unfolding needOf
 lower need q e a h = ⊎-elim (λ (z : a ≡ q). same z) (λ (z : a ≡ q → ⊥). other z) (eq-or a q)
   where
@@ -26,9 +27,11 @@ lower need q e a h = ⊎-elim (λ (z : a ≡ q). same z) (λ (z : a ≡ q → �
     least x false z = omega (arith, ltb-false e x z)
 
     same : a ≡ q → getD (set need q (min (at need q) e)) a 0 ≡ pick (eqb a q && ltb e (at need a)) e (at need a)
-    same z = rw (z, eq-eqb q q refl, getD-set-same need q (min (at need q) e) 0 h) (least (at need q) (ltb e (at need q)) refl)
+    same z = rw (z, eq-eqb q q refl, getD-set-same need q (min (at need q) e) 0 h)
+        (least (at need q) (ltb e (at need q)) refl)
 
-    other : (a ≡ q → ⊥) → getD (set need q (min (at need q) e)) a 0 ≡ pick (eqb a q && ltb e (at need a)) e (at need a)
+    other : (a ≡ q → ⊥) → getD (set need q (min (at need q) e)) a 0 ≡
+        pick (eqb a q && ltb e (at need a)) e (at need a)
     other z = rw (ne-eqb a q z) (getD-set-other need q a (min (at need q) e) 0 z)
 
 -- the lowered row is what the sweep for q needs
@@ -50,16 +53,20 @@ close-high d t c f s v l =
     let z : leb (s .f) t ≡ false = lt-leb (s .f) t (omega (arith, v .f-is)) in
     record { c-is = rw z (omega (arith, v .c-is)); f-is = rw z (omega arith) }
 
-module _ (ps own need left : List ℕ) (kids : ℕ) (limit : List ℕ) (base d e q c f : ℕ) (h : q < length need) (s : SweepSays ps own (set need q (min (at need q) e)) left kids d e c f) where
-  swept : (lay : ℕ → ℕ → ℕ → Bool) → Valued (sweep (listed ps own e) (tabled left kids lay) (needOf (at need) q e) d) c f
+module _ (ps own need left : List ℕ) (kids : ℕ) (limit : List ℕ) (base d e q c f : ℕ) (h : q < length need)
+    (s : SweepSays ps own (set need q (min (at need q) e)) left kids d e c f) where
+  swept : (lay : ℕ → ℕ → ℕ → Bool) → Valued
+      (sweep (listed ps own e) (tabled left kids lay) (needOf (at need) q e) d) c f
   swept lay =
       let r = s .1 lay in
       record { c-is = rw (lowered need q e h) at (r .c-is); f-is = rw (lowered need q e h) at (r .f-is) }
 
   pub closed : f ≤ row limit base q → ValueSays ps own need left kids limit base d e q c f
   unfolding value
-  closed l has lay = close-low d (row limit base q) c f (sweep (listed ps own e) (tabled left kids lay) (needOf (at need) q e) d) (swept lay) l
+  closed l has lay = close-low d (row limit base q) c f
+      (sweep (listed ps own e) (tabled left kids lay) (needOf (at need) q e) d) (swept lay) l
 
   pub opened : row limit base q < f → ValueSays ps own need left kids limit base d e q (c + 1) (d + 1)
   unfolding value
-  opened l has lay = close-high d (row limit base q) c f (sweep (listed ps own e) (tabled left kids lay) (needOf (at need) q e) d) (swept lay) l
+  opened l has lay = close-high d (row limit base q) c f
+      (sweep (listed ps own e) (tabled left kids lay) (needOf (at need) q e) d) (swept lay) l

@@ -1,12 +1,13 @@
 -- The row of one loop, made from the values of its suffixes: what is written, and that nothing else is.
--- Main definitions: `Kept`, `Copied`, `Cleared`, `Chosen`, `RowMade`.
+-- Main definitions: `Kept`, `Copied`, `Cleared`, `Chosen`, `RowRoom`, `RowMade`.
 use mathlib.Core.Path.{_≡_}
 use mathlib.Core.Bool.{Bool}
 use mathlib.Core.List.{List}
 use Prim.Native.Nat.{ℕ, suc, _+_, _-_, _≤_, _<_}
 use lib.Dec.{ltb}
+use lib.ListN.{length}
 use Rattle.planner.specs.Sweep.{State, Front, front, better, best, someOf, leftOf, choiceOf}
-use Rattle.sweeps.specs.Listed.{at, row, listed, tabled}
+use Rattle.sweeps.specs.Listed.{at, row, listed, tabled, Low}
 use Rattle.rows.specs.Valued.{lined}
 
 -- every entry is as before, but for those from low + 1 to high
@@ -38,6 +39,19 @@ ChooseSays cs fs c left choice base d e =
     ((q : ℕ) → d < q → q ≤ e → at cs q ≡ v q .c) →
     ((q : ℕ) → d < q → q ≤ e → at fs q ≡ v q .f) →
     Chosen v c left choice base d e
+
+-- room for the row of the loop d with its ENDDO e, which starts at base; the row before it is that of the loops inside
+pub record RowRoom (ps own reach limit left choice : List ℕ) (base d e : ℕ) : Type 0 where
+  pub points-room : e < length ps
+  pub own-room : e < length own
+  pub own-low : Low own
+  pub reach-room : base + e < length reach
+  pub limit-room : base + e < length limit
+  pub left-room : base + e < length left
+  pub choice-room : base + e < length choice
+  pub long : d < e
+  pub short : e < 256
+  pub inner : 256 ≤ base
 
 -- the row of the loop d with its ENDDO e, by some list of needs that agrees with its row of reach on its range
 pub record RowMade (ps own reach limit left choice left′ choice′ : List ℕ) (base d e some : ℕ) : Type 0 where

@@ -6,9 +6,9 @@ ghost use mathlib.Core.Bool.{_||_};
 ghost use lib.Dec.{leb};
 ghost use lib.ListN.{length};
 ghost use Rattle.laws.specs.Choice.{pick};
-ghost use Rattle.sweeps.specs.Listed.{Low};
+ghost use Rattle.sweeps.specs.Listed.{SweepRoom};
 ghost use Rattle.rows.specs.Valued.{ValueSays, ValuesSay};
-ghost use Rattle.rows.specs.Made.{Kept, Copied, Cleared, BetterSays, ChooseSays, RowMade};
+ghost use Rattle.rows.specs.Made.{Kept, Copied, Cleared, BetterSays, ChooseSays, RowRoom, RowMade};
 
 // The places of a row, one for each point.
 pub const ROW: usize = 256;
@@ -26,16 +26,7 @@ pub fn make_row(
     e: usize,
     some: usize,
 )
-    requires { ⌜ e < length (now points) ⌝ }
-    requires { ⌜ e < length (now own) ⌝ }
-    requires { ⌜ base + e < length (now reach) ⌝ }
-    requires { ⌜ base + e < length (now limit) ⌝ }
-    requires { ⌜ base + e < length (now left) ⌝ }
-    requires { ⌜ base + e < length (now choice) ⌝ }
-    requires { ⌜ Low (now own) ⌝ }
-    requires { ⌜ d < e ⌝ }
-    requires { ⌜ e < 256 ⌝ }
-    requires { ⌜ 256 ≤ base ⌝ }
+    requires { ⌜ RowRoom (now points) (now own) (now reach) (now limit) (now left) (now choice) base d e ⌝ }
     ensures { λ r. ⌜ RowMade (now (points .entry)) (now (own .entry)) (now (reach .entry)) (now (limit .entry)) (now (left .entry)) (now (choice .entry)) (now (left .exit)) (now (choice .exit)) base d e some ⌝ }
 {
     if some == 0 {
@@ -161,12 +152,8 @@ pub fn values(
     cs: &mut [usize],
     fs: &mut [usize],
 ) -> usize
-    requires { ⌜ e < length (now points) ⌝ }
-    requires { ⌜ e < length (now own) ⌝ }
-    requires { ⌜ e < length (now need) ⌝ }
-    requires { ⌜ kids + e < length (now left) ⌝ }
+    requires { ⌜ SweepRoom (now points) (now own) (now need) (now left) kids e ⌝ }
     requires { ⌜ base + e < length (now limit) ⌝ }
-    requires { ⌜ Low (now own) ⌝ }
     requires { ⌜ d < e ⌝ }
     requires { ⌜ e < length (now cs) ⌝ }
     requires { ⌜ e < length (now fs) ⌝ }
@@ -199,12 +186,8 @@ pub fn value(
     e: usize,
     q: usize,
 ) -> Front
-    requires { ⌜ e < length (now points) ⌝ }
-    requires { ⌜ e < length (now own) ⌝ }
-    requires { ⌜ e < length (now need) ⌝ }
-    requires { ⌜ kids + e < length (now left) ⌝ }
+    requires { ⌜ SweepRoom (now points) (now own) (now need) (now left) kids e ⌝ }
     requires { ⌜ base + e < length (now limit) ⌝ }
-    requires { ⌜ Low (now own) ⌝ }
     requires { ⌜ d < e ⌝ }
     requires { ⌜ q ≤ e ⌝ }
     ensures { λ r. ⌜ ValueSays (now (points .entry)) (now (own .entry)) (now (need .entry)) (now (left .entry)) kids (now (limit .entry)) base d e q (r .c) (r .f) ⌝ }

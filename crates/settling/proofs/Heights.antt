@@ -30,12 +30,14 @@ module _ (ps : List ℕ) where
     pub height-low : (d h : ℕ) → isDo ps d ≡ true → HasHeight ps d h → 0 < h
     height-low d h i e = omega (arith, level d h e, lev-up ps d i, lev-deep ps shape (suc d))
 
-    pub child-height : (d i h : ℕ) → isDo ps d ≡ true → isDo ps i ≡ true → d < i → ownerOf ps i ≡ d → HasHeight ps d h → HasHeight ps i (h - 1)
+    pub child-height : (d i h : ℕ) → isDo ps d ≡ true → isDo ps i ≡ true → d < i → ownerOf ps i ≡ d →
+        HasHeight ps d h → HasHeight ps i (h - 1)
     child-height d i h a b l o e =
         let z : suc (lev ps d) ≡ lev ps i = rw o at (owner-lower ps shape i (omega arith) (point-in ps i 0 b)) in
         of-level i (h - 1) (omega (arith, level d h e, height-low d h a e))
 
-    pub inner-height : (d l h k : ℕ) → isDo ps d ≡ true → d < l → l ≤ endOf ps d → HasHeight ps d h → HasHeight ps l k → k < h
+    pub inner-height : (d l h k : ℕ) → isDo ps d ≡ true → d < l → l ≤ endOf ps d → HasHeight ps d h →
+        HasHeight ps l k → k < h
     inner-height d l h k a b c e f = omega (arith, level d h e, level l k f, range-above ps shape d l a b c)
 
 -- what is written in one row leaves the other columns and the other rows

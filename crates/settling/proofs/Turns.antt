@@ -12,6 +12,7 @@ use lib.ListN.{length, getD}
 use borrow.Author.Tests.{lt-ltb, le-ltb, eqb-true, ne-eqb}
 use Rattle.laws.specs.Bits.{one}
 use Rattle.laws.specs.Choice.{firstOf}
+use Rattle.laws.proofs.Ors.{or-swap, or-none}
 use Rattle.laws.proofs.Tests.{le-or, le-by, lt-by, never-both, test}
 use Rattle.nests.specs.Kinds.{POINTS}
 use Rattle.nests.specs.Loops.{isDo, isEnd, endOf, ownerOf}
@@ -30,7 +31,8 @@ pub record Sofar (ps : List ℕ) (N : Lines) (T : Tables) (left choice : List �
   pub some-is : ltb 0 some ≡ (N .has d || childSome (loopsIn ps) T d i)
 
 -- from the tables at the start to those at the gap i of d
-pub record Settling (ps reach limit has left₀ choice₀ : List ℕ) (d : ℕ) (left choice : List ℕ) (some i : ℕ) : Type 0 where
+pub record Settling (ps reach limit has left₀ choice₀ : List ℕ) (d : ℕ) (left choice : List ℕ) (some i : ℕ) :
+    Type 0 where
   pub from : d < i
   pub high : i ≤ endOf ps d
   pub owner : ownerOf ps i ≡ d
@@ -53,17 +55,13 @@ first-above : (a b : ℕ) → ltb 0 (firstOf a b) ≡ (ltb 0 a || ltb 0 b)
 first-above zero b = refl
 first-above (suc a) b = rw (lt-ltb 0 (suc a) (omega arith)) refl
 
-or-swap : (a b c : Bool) → (a || (b || c)) ≡ (b || (a || c))
-or-swap true true c = refl
-or-swap true false c = refl
-or-swap false true c = refl
-or-swap false false c = refl
-
 -- columns inside others
-columns-join : (xs ys zs : List ℕ) (d e a b : ℕ) → d ≤ a → b ≤ e → KeptColumns xs ys d e → KeptColumns ys zs a b → KeptColumns xs zs d e
+columns-join : (xs ys zs : List ℕ) (d e a b : ℕ) → d ≤ a → b ≤ e → KeptColumns xs ys d e → KeptColumns ys zs a b →
+    KeptColumns xs zs d e
 columns-join xs ys zs d e a b h k p s r q n o = s r q n (λ z. omega (arith, o (omega arith))) ∙ p r q n o
 
-module _ (ps own ends reach limit has left₀ choice₀ : List ℕ) (w : Charts ps own ends) (d h : ℕ) (is-do : isDo ps d ≡ true) (height : HasHeight ps d h) where
+module _ (ps own ends reach limit has left₀ choice₀ : List ℕ) (w : Charts ps own ends) (d h : ℕ)
+    (is-do : isDo ps d ≡ true) (height : HasHeight ps d h) where
   pub begin : Settling ps reach limit has left₀ choice₀ d left₀ choice₀ (at has d) (d + 1)
   begin =
       rw (add-one d)
@@ -83,15 +81,19 @@ module _ (ps own ends reach limit has left₀ choice₀ : List ℕ) (w : Charts 
           → Sofar ps N T left₀ choice₀ d (at has d) (suc d)
       sofar N T t n =
           record {
-            rows = record { left-is = λ l h q i a b c e f. absurd (omega arith); choice-is = λ l h q i a b c e f. absurd (omega arith) };
-            some-is = rw (n .has-is d is-do, one-above (N .has d), some-none ps (w .shape) T d (suc d) (omega arith)) (or-none (N .has d));
+            rows = record {
+              left-is = λ l h q i a b c e f. absurd (omega arith);
+              choice-is = λ l h q i a b c e f. absurd (omega arith);
+            };
+            some-is = rw (
+              n .has-is d is-do,
+              one-above (N .has d),
+              some-none ps (w .shape) T d (suc d) (omega arith),
+            ) (sym (or-none (N .has d)));
           }
-        where
-          or-none : (b : Bool) → b ≡ (b || false)
-          or-none true = refl
-          or-none false = refl
 
-  module _ (left choice : List ℕ) (some i : ℕ) (s : Settling ps reach limit has left₀ choice₀ d left choice some i) (before : i < endOf ps d) where
+  module _ (left choice : List ℕ) (some i : ℕ) (s : Settling ps reach limit has left₀ choice₀ d left choice some i)
+      (before : i < endOf ps d) where
     -- a gap of d that is not its last lies before no ENDDO
     no-end : isEnd ps i ≡ false
     no-end = ⊎-elim
@@ -108,7 +110,8 @@ module _ (ps own ends reach limit has left₀ choice₀ : List ℕ) (w : Charts 
         record {
           from = omega (arith, s .from);
           high = before;
-          owner = owner-after-plain ps (w .shape) i (omega (arith, end-there ps (w .shape) d is-do)) no-do no-end ∙ s .owner;
+          owner = owner-after-plain ps (w .shape) i (omega (arith, end-there ps (w .shape) d is-do)) no-do no-end ∙
+              s .owner;
           left-length = s .left-length;
           choice-length = s .choice-length;
           left-kept = s .left-kept;
@@ -152,8 +155,10 @@ module _ (ps own ends reach limit has left₀ choice₀ : List ℕ) (w : Charts 
           owner = owner-after-child ps (w .shape) d i child;
           left-length = ll ∙ s .left-length;
           choice-length = cl ∙ s .choice-length;
-          left-kept = columns-join left₀ left left′ d (endOf ps d) i (endOf ps i) (omega (arith, s .from)) (omega (arith, inside)) (s .left-kept) (z .left-kept);
-          choice-kept = columns-join choice₀ choice choice′ d (endOf ps d) i (endOf ps i) (omega (arith, s .from)) (omega (arith, inside)) (s .choice-kept) (z .choice-kept);
+          left-kept = columns-join left₀ left left′ d (endOf ps d) i (endOf ps i) (omega (arith, s .from))
+              (omega (arith, inside)) (s .left-kept) (z .left-kept);
+          choice-kept = columns-join choice₀ choice choice′ d (endOf ps d) i (endOf ps i) (omega (arith, s .from))
+              (omega (arith, inside)) (s .choice-kept) (z .choice-kept);
           sofar = sofar;
         }
       where
@@ -186,14 +191,23 @@ module _ (ps own ends reach limit has left₀ choice₀ : List ℕ) (w : Charts 
                   record {
                     left-is = λ l k q j a b c e u. ⊎-elim
                         (λ (y : i ≤ l). x .left-is l k q j y (later l j b) c e u)
-                        (λ (y : l < i). z .left-kept k q (narrow l q j u) (λ v. absurd (omega (arith, ends-before l j a y))) ∙ r .rows .left-is l k q j a y c e u)
+                        (λ (y : l < i). z .left-kept k q (narrow l q j u)
+                        (λ v. absurd (omega (arith, ends-before l j a y))) ∙ r .rows .left-is l k q j a y c e u)
                         (le-or i l);
                     choice-is = λ l k q j a b c e u. ⊎-elim
                         (λ (y : i ≤ l). x .choice-is l k q j y (later l j b) c e u)
-                        (λ (y : l < i). z .choice-kept k q (narrow l q j u) (λ v. absurd (omega (arith, ends-before l j a y))) ∙ r .rows .choice-is l k q j a y c e u)
+                        (λ (y : l < i). z .choice-kept k q (narrow l q j u)
+                        (λ v. absurd (omega (arith, ends-before l j a y))) ∙ r .rows .choice-is l k q j a y c e u)
                         (le-or i l);
                   };
-              some-is = ap (ltb 0) f ∙ first-above first some ∙ rw (here, r .some-is, some-child ps (w .shape) T d i loop (s .from) (s .owner) (end-after ps (w .shape) i loop)) (or-swap (ltb 0 (T .left i (suc i))) (N .has d) (childSome (loopsIn ps) T d i));
+              some-is = ap (ltb 0) f ∙ first-above first some ∙
+                  rw (
+                    here,
+                    r .some-is,
+                    some-child ps (w .shape) T d i loop (s .from) (s .owner)
+                        (end-after ps (w .shape) i loop),
+                  )
+                  (or-swap (ltb 0 (T .left i (suc i))) (N .has d) (childSome (loopsIn ps) T d i));
             }
           where
             r : Sofar ps N T left choice d some i
@@ -208,4 +222,5 @@ module _ (ps own ends reach limit has left₀ choice₀ : List ℕ) (w : Charts 
             here : first ≡ T .left i (suc i)
             here =
                 let u : h * 256 - 256 ≡ (h - 1) * 256 = omega (arith, height-low ps (w .shape) d h is-do height) in
-                rw (u, add-one i) (x .left-is i (h - 1) (suc i) loop (omega arith) (end-after ps (w .shape) i loop) low (omega arith) (end-after ps (w .shape) i loop))
+                rw (u, add-one i) (x .left-is i (h - 1) (suc i) loop (omega arith) (end-after ps (w .shape) i loop)
+                low (omega arith) (end-after ps (w .shape) i loop))

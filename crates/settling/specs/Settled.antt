@@ -31,9 +31,11 @@ pub record Charts (ps own ends : List ℕ) : Type 0 where
 -- the lines of each loop, in the row of its height
 pub record LinesAt (ps : List ℕ) (N : Lines) (reach limit has : List ℕ) : Type 0 where
   pub reach-is
-      : (d h a : ℕ) → isDo ps d ≡ true → HasHeight ps d h → d < a → a ≤ endOf ps d → row reach (h * 256) a ≡ N .reach d a
+      : (d h a : ℕ) → isDo ps d ≡ true → HasHeight ps d h → d < a → a ≤ endOf ps d → row reach (h * 256) a ≡
+      N .reach d a
   pub limit-is
-      : (d h q : ℕ) → isDo ps d ≡ true → HasHeight ps d h → d < q → q ≤ endOf ps d → row limit (h * 256) q ≡ N .limit d q
+      : (d h q : ℕ) → isDo ps d ≡ true → HasHeight ps d h → d < q → q ≤ endOf ps d → row limit (h * 256) q ≡
+      N .limit d q
   pub has-is : (d : ℕ) → isDo ps d ≡ true → at has d ≡ one (N .has d)
 
 -- room for nine rows, or for one

@@ -48,11 +48,13 @@ first-of zero b h = absurd (h refl)
 first-of (suc a) b h = refl
 
 module _ (need left : List ℕ) (kids l p c f b : ℕ) (found : b ≡ seek (at need) f l (p + 1)) where
-  pub step-at : (lay : ℕ → ℕ → Bool) (w : ℕ → Bool) → stepChild (at need) (row left kids) lay l p (st c f w) ≡ childAt (row left kids) lay l p (st c f w) b
+  pub step-at : (lay : ℕ → ℕ → Bool) (w : ℕ → Bool) → stepChild (at need) (row left kids) lay l p (st c f w) ≡
+      childAt (row left kids) lay l p (st c f w) b
   unfolding stepChild
   step-at lay w = rw (found, add-one)
 
-  pub step-free : (f′ : ℕ) → b ≡ 0 → f′ ≡ firstOf (row left kids (l + 1)) f → Stepped need left kids l p c f c f′ (l + 1)
+  pub step-free : (f′ : ℕ) → b ≡ 0 → f′ ≡ firstOf (row left kids (l + 1)) f →
+      Stepped need left kids l p c f c f′ (l + 1)
   unfolding childAt free
   step-free f′ z e =
       record {
@@ -66,13 +68,15 @@ module _ (need left : List ℕ) (kids l p c f b : ℕ) (found : b ≡ seek (at n
   unfolding childAt inner
   step-inner z h g =
       record {
-        step-is = λ lay w. step-at lay w ∙ rw (ne-eqb b 0 z, le-leb b p h, lt-ltb 0 (row left kids b) g, le-ltb c c (omega arith));
+        step-is = λ lay w. step-at lay w ∙
+            rw (ne-eqb b 0 z, le-leb b p h, lt-ltb 0 (row left kids b) g, le-ltb c c (omega arith));
         low = seek-low (at need) f l (p + 1) b found z;
         high = λ _. h;
         grows = omega arith;
       }
 
-  pub step-outer : (f′ : ℕ) → (b ≡ 0 → ⊥) → (b ≤ p → row left kids b ≤ 0) → f′ ≡ firstOf (row left kids (l + 1)) (p + 1) → Stepped need left kids l p c f (c + 1) f′ (l + 1)
+  pub step-outer : (f′ : ℕ) → (b ≡ 0 → ⊥) → (b ≤ p → row left kids b ≤ 0) → f′ ≡
+      firstOf (row left kids (l + 1)) (p + 1) → Stepped need left kids l p c f (c + 1) f′ (l + 1)
   unfolding childAt outer
   step-outer f′ z h e =
       record {
@@ -83,6 +87,14 @@ module _ (need left : List ℕ) (kids l p c f b : ℕ) (found : b ≡ seek (at n
       }
     where
       go : (lay : ℕ → ℕ → Bool) (w : ℕ → Bool) (t : Bool) → leb b p ≡ t
-          → pick (t && ltb 0 (row left kids b)) (inner (row left kids) lay b (st c f w)) (outer (row left kids) lay l p (st c f w)) ≡ st (c + 1) f′ (laid (ltb c (c + 1)) p (lay (l + 1)) w)
-      go lay w true y = rw (le-ltb 0 (row left kids b) (h (borrow.Author.Tests.leb-true b p y)), lt-ltb c (c + 1) (omega arith), e, add-one c, add-one l, add-one p)
+          → pick (t && ltb 0 (row left kids b)) (inner (row left kids) lay b (st c f w))
+          (outer (row left kids) lay l p (st c f w)) ≡ st (c + 1) f′ (laid (ltb c (c + 1)) p (lay (l + 1)) w)
+      go lay w true y = rw (
+        le-ltb 0 (row left kids b) (h (borrow.Author.Tests.leb-true b p y)),
+        lt-ltb c (c + 1) (omega arith),
+        e,
+        add-one c,
+        add-one l,
+        add-one p,
+      )
       go lay w false y = rw (lt-ltb c (c + 1) (omega arith), e, add-one c, add-one l, add-one p)

@@ -36,7 +36,8 @@ module _ (ps own need left : List ℕ) (kids d e : ℕ) (lay : ℕ → ℕ → �
   turn
       : (k p : ℕ) (s : State) → (ltb p d ≡ false)
       → walk (listed ps own e) (tabled left kids lay) (at need) d (suc k) (suc p) s ≡
-      walk (listed ps own e) (tabled left kids lay) (at need) d k (next (listed ps own e) p) (step (listed ps own e) (tabled left kids lay) (at need) p s)
+      walk (listed ps own e) (tabled left kids lay) (at need) d k (next (listed ps own e) p)
+      (step (listed ps own e) (tabled left kids lay) (at need) p s)
   unfolding walk
   turn k p s h = rw h
 
@@ -48,15 +49,19 @@ module _ (ps own need left : List ℕ) (kids d e : ℕ) (lay : ℕ → ℕ → �
   unfolding next
   next-child p h = rw h
 
-  step-put : (p c f : ℕ) (w : ℕ → Bool) → eqb (getD ps p 0) 2 ≡ false → at need (suc p) < f → step (listed ps own e) (tabled left kids lay) (at need) p (st c f w) ≡ put p (st c f w)
+  step-put : (p c f : ℕ) (w : ℕ → Bool) → eqb (getD ps p 0) 2 ≡ false → at need (suc p) < f →
+      step (listed ps own e) (tabled left kids lay) (at need) p (st c f w) ≡ put p (st c f w)
   unfolding step stepPlain
   step-put p c f w h n = rw (h, lt-ltb (at need (suc p)) f n)
 
-  step-skip : (p c f : ℕ) (w : ℕ → Bool) → eqb (getD ps p 0) 2 ≡ false → f ≤ at need (suc p) → step (listed ps own e) (tabled left kids lay) (at need) p (st c f w) ≡ st c f w
+  step-skip : (p c f : ℕ) (w : ℕ → Bool) → eqb (getD ps p 0) 2 ≡ false → f ≤ at need (suc p) →
+      step (listed ps own e) (tabled left kids lay) (at need) p (st c f w) ≡ st c f w
   unfolding step stepPlain
   step-skip p c f w h n = rw (h, le-ltb (at need (suc p)) f n)
 
-  step-over : (p c f : ℕ) (w : ℕ → Bool) → eqb (getD ps p 0) 2 ≡ true → step (listed ps own e) (tabled left kids lay) (at need) p (st c f w) ≡ stepChild (at need) (row left kids) (lay (at own p)) (at own p) p (st c f w)
+  step-over : (p c f : ℕ) (w : ℕ → Bool) → eqb (getD ps p 0) 2 ≡ true →
+      step (listed ps own e) (tabled left kids lay) (at need) p (st c f w) ≡
+      stepChild (at need) (row left kids) (lay (at own p)) (at own p) p (st c f w)
   unfolding step
   step-over p c f w h = rw h
 
@@ -84,14 +89,16 @@ module _ (ps own need left : List ℕ) (kids d e : ℕ) (lay : ℕ → ℕ → �
 
   pub on-put
       : (p c f : ℕ) (w : ℕ → Bool) → d < p → (getD ps (p - 1) 0 ≡ 2 → ⊥) → at need p < f
-      → Turn ps own need left kids d e lay p c f w → Turn ps own need left kids d e lay (p - 1) (c + 1) p (also (only p) w)
+      → Turn ps own need left kids d e lay p c f w →
+      Turn ps own need left kids d e lay (p - 1) (c + 1) p (also (only p) w)
   unfolding put
   on-put zero c f w h n m t = absurd (omega arith)
   on-put (suc p) c f w h n m t =
       let z : suc p - 1 ≡ p = omega arith in
       let y : eqb (getD ps p 0) 2 ≡ false = ne-eqb (getD ps p 0) 2 (rw z at n) in
       rw (z, add-one c)
-      (on p p c f (suc c) (suc p) w (also (only (suc p)) w) (omega arith) (omega arith) (next-plain p y) (step-put p c f w y m) t)
+      (on p p c f (suc c) (suc p) w (also (only (suc p)) w) (omega arith) (omega arith) (next-plain p y)
+      (step-put p c f w y m) t)
 
   pub on-skip
       : (p c f : ℕ) (w : ℕ → Bool) → d < p → (getD ps (p - 1) 0 ≡ 2 → ⊥) → f ≤ at need p
@@ -106,7 +113,8 @@ module _ (ps own need left : List ℕ) (kids d e : ℕ) (lay : ℕ → ℕ → �
       : (p c f c′ f′ ask : ℕ) (w : ℕ → Bool) → d < p → getD ps (p - 1) 0 ≡ 2 → at own (p - 1) ≤ p - 1
       → Stepped need left kids (at own (p - 1)) (p - 1) c f c′ f′ ask
       → Turn ps own need left kids d e lay p c f w
-      → Turn ps own need left kids d e lay (at own (p - 1)) c′ f′ (laid (ltb c c′) (p - 1) (lay (at own (p - 1)) ask) w)
+      → Turn ps own need left kids d e lay (at own (p - 1)) c′ f′
+      (laid (ltb c c′) (p - 1) (lay (at own (p - 1)) ask) w)
   on-child zero c f c′ f′ ask w h n m s t = absurd (omega arith)
   on-child (suc p) c f c′ f′ ask w h n m s t =
       let z : suc p - 1 ≡ p = omega arith in
@@ -128,7 +136,8 @@ module _ (ps own need left : List ℕ) (kids d e : ℕ) (lay : ℕ → ℕ → �
       (step-over p c f w y ∙ u .step-is (lay (at own p)) w)
       t)
 
-  pub done : (p c f : ℕ) (w : ℕ → Bool) → p ≤ d → Turn ps own need left kids d e lay p c f w → st c f w ≡ sweepOf ps own need left kids lay d e
+  pub done : (p c f : ℕ) (w : ℕ → Bool) → p ≤ d → Turn ps own need left kids d e lay p c f w → st c f w ≡
+      sweepOf ps own need left kids lay d e
   unfolding walk
   done p c f w h t = go p (t .fuel) h (t .enough) (t .rest)
     where
@@ -144,5 +153,6 @@ module _ (ps own need left : List ℕ) (kids d e : ℕ) (lay : ℕ → ℕ → �
       go (suc p) zero h a r = absurd (omega arith)
       go (suc p) (suc k) h a r = rw (lt-ltb p d (omega arith)) at r
 
-  pub swept : (c f : ℕ) (w : ℕ → Bool) → st c f w ≡ sweepOf ps own need left kids lay d e → Swept ps own need left kids d e c f lay
+  pub swept : (c f : ℕ) (w : ℕ → Bool) → st c f w ≡ sweepOf ps own need left kids lay d e →
+      Swept ps own need left kids d e c f lay
   swept c f w r = record { c-is = ap (λ (s : State). s .c) r; f-is = ap (λ (s : State). s .f) r }

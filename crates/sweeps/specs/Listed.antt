@@ -1,11 +1,11 @@
 -- The planner's definitions at loops and tables that are lists: what the code's arrays mean.
--- Main definitions: `listed`, `tabled`, `Stepped`, `sweepOf`.
+-- Main definitions: `listed`, `tabled`, `Stepped`, `sweepOf`, `SweepRoom`.
 use mathlib.Core.Path.{_≡_}
 use mathlib.Core.Bool.{Bool}
 use mathlib.Core.List.{List}
 use Prim.Native.Nat.{ℕ, suc, _+_, _≤_, _<_}
 use lib.Dec.{ltb}
-use lib.ListN.{getD}
+use lib.ListN.{length, getD}
 use Rattle.laws.specs.Choice.{pick}
 use Rattle.nests.specs.Loops.{isDo, isEnd}
 use Rattle.planner.specs.Sweep.{Loops, Tables, State, st, only, also, stepChild, sweep}
@@ -54,3 +54,11 @@ SweepSays ps own need left kids d e c f =
 -- no loop starts after its ENDDO
 abbrev pub Low : List ℕ → Type 0
 Low own = (i : ℕ) → at own i ≤ i
+
+-- room for a sweep of a loop with its ENDDO e
+pub record SweepRoom (ps own need left : List ℕ) (kids e : ℕ) : Type 0 where
+  pub points-room : e < length ps
+  pub own-room : e < length own
+  pub own-low : Low own
+  pub need-room : e < length need
+  pub left-room : kids + e < length left

@@ -4,7 +4,7 @@ ghost use Prim.Native.Nat.{ℕ, _+_, _<_, _≤_};
 ghost use lib.ListN.{length, getD};
 ghost use Rattle.laws.specs.Choice.{firstOf};
 ghost use Rattle.planner.specs.Sweep.{seek};
-ghost use Rattle.sweeps.specs.Listed.{at, Low, Stepped, SweepSays};
+ghost use Rattle.sweeps.specs.Listed.{at, Stepped, SweepRoom, SweepSays};
 
 // Own barriers so far, and the leftmost barrier so far.
 pub struct Front {
@@ -29,11 +29,7 @@ pub fn sweep(
     d: usize,
     e: usize,
 ) -> Front
-    requires { ⌜ e < length (now points) ⌝ }
-    requires { ⌜ e < length (now own) ⌝ }
-    requires { ⌜ e < length (now need) ⌝ }
-    requires { ⌜ kids + e < length (now left) ⌝ }
-    requires { ⌜ Low (now own) ⌝ }
+    requires { ⌜ SweepRoom (now points) (now own) (now need) (now left) kids e ⌝ }
     ensures { λ r. ⌜ SweepSays (now (points .entry)) (now (own .entry)) (now (need .entry)) (now (left .entry)) kids d e (r .c) (r .f) ⌝ }
 {
     let mut c = 0;
@@ -41,7 +37,7 @@ pub fn sweep(
     let mut p = e;
     while d < p {
         let before = p - 1;
-        if points[before] == 2 {
+        if points[before] == nests::ENDDO {
             let l = own[before];
             let s = step_child(need, left, kids, l, before, c, f);
             c = s.c;

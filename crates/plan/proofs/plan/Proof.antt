@@ -1,3 +1,4 @@
+-- `plan` meets its contract: the tables are what settling and laying ask, and what loop 0 lays is the key (Planning).
 use mathlib.Core.Path.{_≡_, refl, sym, _∙_}
 use Prim.Native.Nat.{_≤_}
 use native.Mathlib.Omega.{arith}
@@ -40,12 +41,27 @@ slice-aggregate-prepare-6 c = search needs
 
 prepare-requires : tie.Need-prepare-requires
 prepare-requires c κs =
-    let n = c .before .before .before .before .before .before .args .nest in
-    let p = c .before .before .before .before .before .before .pre in
-    (p .0, (points-of (nestIn n) (p .1), (fits-of (nestIn n) (p .1), (record { own-room = omega arith; ends-room = omega arith; heights-room = omega arith }, record { reach-room = omega arith; limit-room = omega arith; has-room = omega arith }))))
+    let b6 = c .before .before .before .before .before .before in
+    let n = b6 .args .nest in
+    let p = b6 .pre in (
+      p .0,
+      (
+        points-of (nestIn n) (p .1),
+        (
+          fits-of (nestIn n) (p .1),
+          (
+            record { own-room = omega arith; ends-room = omega arith; heights-room = omega arith },
+            record { reach-room = omega arith; limit-room = omega arith; has-room = omega arith },
+          ),
+        ),
+      ),
+    )
 
 array-share-prefix-points : tie.Need-array-share-prefix-points
-array-share-prefix-points c = count-there (c .before .before .before .before .before .before .before .before .before .before .before .before .before .before .args .nest .count) (c .before .before .before .before .before .before .before .before .before .before .before .before .before .before .args .nest .points) (c .before .before .before .before .before .before .before .before .before .before .before .before .before .before .pre .0 .count-is)
+array-share-prefix-points c =
+    let b12 = c .before .before .before .before .before .before .before .before .before .before .before .before in
+    let b14 = b12 .before .before in
+    count-there (b14 .args .nest .count) (b14 .args .nest .points) (b14 .pre .0 .count-is)
 
 slice-aggregate-settle : tie.Need-slice-aggregate-settle
 slice-aggregate-settle c = search needs
@@ -73,9 +89,12 @@ slice-aggregate-settle-8 c = search needs
 
 settle-requires : tie.Need-settle-requires
 settle-requires c κs =
-    let n = c .before .before .before .before .before .before .before .before .before .before .before .before .before .before .before .before .before .before .before .before .before .before .args .nest in
-    let p = c .before .before .before .before .before .before .before .before .before .before .before .before .before .before .before .before .before .before .before .before .before .before .pre in
-    let r = c .before .before .before .before .before .before .before .before .before .before .before .before .before .before .before .prepare in
+    let b12 = c .before .before .before .before .before .before .before .before .before .before .before .before in
+    let b15 = b12 .before .before .before in
+    let b22 = b15 .before .before .before .before .before .before .before in
+    let n = b22 .args .nest in
+    let p = b22 .pre in
+    let r = b15 .prepare in
     let ps = nestIn n .points in
     let ds = nestIn n .deps in
     let w = points-of (nestIn n) (p .1) in
@@ -84,14 +103,30 @@ settle-requires c κs =
     let heights = r .last .1 .1 .1 .0 in
     let reach = r .last .1 .1 .1 .1 .0 in
     let limit = r .last .1 .1 .1 .1 .1 .0 in
-    let has = r .last .1 .1 .1 .1 .1 .1 .0 in
-    (charts ps ds own ends heights reach limit has w (r .ensures) (omega (arith, r .kept .1 .0)) (omega (arith, r .kept .1 .1 .0)), (record { reach-room = omega (arith, r .kept .1 .1 .1 .1 .0); limit-room = omega (arith, r .kept .1 .1 .1 .1 .1 .0); has-room = omega (arith, r .kept .1 .1 .1 .1 .1 .1 .0); left-room = omega arith; choice-room = omega arith }, (starts-with-do ps (w .shape), top-height ps)))
+    let has = r .last .1 .1 .1 .1 .1 .1 .0 in (
+      charts ps ds own ends heights reach limit has w (r .ensures) (omega (arith, r .kept .1 .0))
+          (omega (arith, r .kept .1 .1 .0)),
+      (
+        record {
+          reach-room = omega (arith, r .kept .1 .1 .1 .1 .0);
+          limit-room = omega (arith, r .kept .1 .1 .1 .1 .1 .0);
+          has-room = omega (arith, r .kept .1 .1 .1 .1 .1 .1 .0);
+          left-room = omega arith;
+          choice-room = omega arith;
+        },
+        (starts-with-do ps (w .shape), top-height ps),
+      ),
+    )
 
 empty-requires : tie.Need-empty-requires
 empty-requires c κs = search needs
 
 array-share-prefix-points-2 : tie.Need-array-share-prefix-points-2
-array-share-prefix-points-2 c = count-there (c .before .before .before .before .before .before .before .before .before .before .before .before .before .before .before .before .before .before .before .before .before .before .before .before .before .before .args .nest .count) (c .before .before .before .before .before .before .before .before .before .before .before .before .before .before .before .before .before .before .before .before .before .before .before .before .before .before .args .nest .points) (c .before .before .before .before .before .before .before .before .before .before .before .before .before .before .before .before .before .before .before .before .before .before .before .before .before .before .pre .0 .count-is)
+array-share-prefix-points-2 c =
+    let b12 = c .before .before .before .before .before .before .before .before .before .before .before .before in
+    let b24 = b12 .before .before .before .before .before .before .before .before .before .before .before .before in
+    let b26 = b24 .before .before in
+    count-there (b26 .args .nest .count) (b26 .args .nest .points) (b26 .pre .0 .count-is)
 
 slice-aggregate-lay : tie.Need-slice-aggregate-lay
 slice-aggregate-lay c = search needs
@@ -116,9 +151,13 @@ slice-aggregate-lay-7 c = search needs
 
 lay-requires : tie.Need-lay-requires
 lay-requires c κs =
-    let n = c .before .before .before .before .before .before .before .before .before .before .before .before .before .before .before .before .before .before .before .before .before .before .before .before .before .before .before .before .before .before .before .before .before .args .nest in
-    let p = c .before .before .before .before .before .before .before .before .before .before .before .before .before .before .before .before .before .before .before .before .before .before .before .before .before .before .before .before .before .before .before .before .before .pre in
-    let r = c .before .before .before .before .before .before .before .before .before .before .before .before .before .before .before .before .before .before .before .before .before .before .before .before .before .before .prepare in
+    let b10 = c .before .before .before .before .before .before .before .before .before .before in
+    let b22 = b10 .before .before .before .before .before .before .before .before .before .before .before .before in
+    let b26 = b22 .before .before .before .before in
+    let b33 = b26 .before .before .before .before .before .before .before in
+    let n = b33 .args .nest in
+    let p = b33 .pre in
+    let r = b26 .prepare in
     let ps = nestIn n .points in
     let ds = nestIn n .deps in
     let w = points-of (nestIn n) (p .1) in
@@ -128,16 +167,44 @@ lay-requires c κs =
     let reach = r .last .1 .1 .1 .1 .0 in
     let limit = r .last .1 .1 .1 .1 .1 .0 in
     let has = r .last .1 .1 .1 .1 .1 .1 .0 in
-    let s = c .before .before .before .before .before .before .before .before .before .before .settle in
+    let s = b10 .settle in
     let left = s .last .1 .1 .1 .1 .1 .1 .0 in
-    let choice = s .last .1 .1 .1 .1 .1 .1 .1 .0 in
-    (charts ps ds own ends heights reach limit has w (r .ensures) (omega (arith, r .kept .1 .0)) (omega (arith, r .kept .1 .1 .0)), (record { reach-room = omega (arith, r .kept .1 .1 .1 .1 .0); limit-room = omega (arith, r .kept .1 .1 .1 .1 .1 .0); left-room = omega (arith, s .kept .1 .1 .1 .1 .1 .1 .0); choice-room = omega (arith, s .kept .1 .1 .1 .1 .1 .1 .1 .0) }, (starts-with-do ps (w .shape), (top-height ps, (omega arith, (end-after ps (w .shape) 0 (starts-with-do ps (w .shape)), choices ps ds own ends heights reach limit has w (r .ensures) left choice (s .ensures .rows)))))))
+    let choice = s .last .1 .1 .1 .1 .1 .1 .1 .0 in (
+      charts ps ds own ends heights reach limit has w (r .ensures) (omega (arith, r .kept .1 .0))
+          (omega (arith, r .kept .1 .1 .0)),
+      (
+        record {
+          reach-room = omega (arith, r .kept .1 .1 .1 .1 .0);
+          limit-room = omega (arith, r .kept .1 .1 .1 .1 .1 .0);
+          left-room = omega (arith, s .kept .1 .1 .1 .1 .1 .1 .0);
+          choice-room = omega (arith, s .kept .1 .1 .1 .1 .1 .1 .1 .0);
+        },
+        (
+          starts-with-do ps (w .shape),
+          (
+            top-height ps,
+            (
+              omega arith,
+              (
+                end-after ps (w .shape) 0 (starts-with-do ps (w .shape)),
+                choices ps ds own ends heights reach limit has w (r .ensures) left choice (s .ensures .rows),
+              ),
+            ),
+          ),
+        ),
+      ),
+    )
 
 returns : tie.Need-returns
 returns c =
-    let n = c .before .before .before .before .before .before .before .before .before .before .before .before .before .before .before .before .before .before .before .before .before .before .before .before .before .before .before .before .before .before .before .before .before .before .args .nest in
-    let p = c .before .before .before .before .before .before .before .before .before .before .before .before .before .before .before .before .before .before .before .before .before .before .before .before .before .before .before .before .before .before .before .before .before .before .pre in
-    let r = c .before .before .before .before .before .before .before .before .before .before .before .before .before .before .before .before .before .before .before .before .before .before .before .before .before .before .before .prepare in
+    let b8 = c .before .before .before .before .before .before .before .before in
+    let b11 = b8 .before .before .before in
+    let b23 = b11 .before .before .before .before .before .before .before .before .before .before .before .before in
+    let b27 = b23 .before .before .before .before in
+    let b34 = b27 .before .before .before .before .before .before .before in
+    let n = b34 .args .nest in
+    let p = b34 .pre in
+    let r = b27 .prepare in
     let ps = nestIn n .points in
     let ds = nestIn n .deps in
     let w = points-of (nestIn n) (p .1) in
@@ -147,10 +214,11 @@ returns c =
     let reach = r .last .1 .1 .1 .1 .0 in
     let limit = r .last .1 .1 .1 .1 .1 .0 in
     let has = r .last .1 .1 .1 .1 .1 .1 .0 in
-    let s = c .before .before .before .before .before .before .before .before .before .before .before .settle in
+    let s = b11 .settle in
     let left = s .last .1 .1 .1 .1 .1 .1 .0 in
     let choice = s .last .1 .1 .1 .1 .1 .1 .1 .0 in
-    key ps ds own ends heights reach limit has w (r .ensures) left choice (s .ensures .rows) (c .before .before .before .before .before .before .before .before .empty .result .words) (c .lay .result .words) (c .before .before .before .before .before .before .before .before .empty .ensures) (c .lay .ensures)
+    key ps ds own ends heights reach limit has w (r .ensures) left choice (s .ensures .rows)
+    (b8 .empty .result .words) (c .lay .result .words) (b8 .empty .ensures) (c .lay .ensures)
 
 pub plan-spec : {M : Type 1} → statement M
 plan-spec =

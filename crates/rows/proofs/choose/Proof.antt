@@ -1,3 +1,4 @@
+-- `choose` meets its contract. The invariant: the suffixes after q are chosen from (`Choosing`).
 use mathlib.Core.Path.{_≡_}
 use native.Mathlib.Omega.{arith}
 use borrow.Author.Needs.{needs}
@@ -9,15 +10,18 @@ use Rattle.rows.proofs.choose.Lts as lts
 use Rattle.rows.proofs.better.Reads as better-reads
 
 abbrev Inv-loop : tie.InvT-loop
-Inv-loop cs fs m left₀ choice₀ base d e f₀ at₀ q₀ left choice f at q = Choosing cs fs m left₀ choice₀ base d e left choice f at q
+Inv-loop cs fs m left₀ choice₀ base d e f₀ at₀ q₀ left choice f at q =
+    Choosing cs fs m left₀ choice₀ base d e left choice f at q
 
 abbrev μ-loop : tie.MeasureT-loop
 μ-loop cs fs m left₀ choice₀ base d e f₀ at₀ q₀ left choice f at q = q
 
 loop-holds : tie.Need-loop-holds Inv-loop μ-loop
 loop-holds c =
-    let i = c .before .before .before .before .args in
-    choosing-none (i .cs .now) (i .fs .now) (i .m) (i .left .now) (i .choice .now) (i .base) (i .d) (i .e) (omega (arith, c .before .before .before .before .pre))
+    let b4 = c .before .before .before .before in
+    let i = b4 .args in
+    choosing-none (i .cs .now) (i .fs .now) (i .m) (i .left .now) (i .choice .now) (i .base) (i .d) (i .e)
+    (omega (arith, b4 .pre))
 
 mul-better : tie.Need-mul-better Inv-loop μ-loop
 mul-better c = omega arith
@@ -60,9 +64,13 @@ loop-less c = omega arith
 
 loop-again : tie.Need-loop-again Inv-loop μ-loop
 loop-again c =
-    let i = c .before .before .before .before .before .before .before .before .before .args in
-    let l = c .before .before .before .before .loop in
-    choosing-more (i .cs .now) (i .fs .now) (i .m) (i .left .now) (i .choice .now) (i .base) (i .d) (i .e) (omega (arith, c .before .before .before .before .before .before .before .before .before .pre)) (l .left) (l .choice) (l .f) (l .at) (l .q) (l .inv) (c .better .result .f) (c .better .result .at) (omega arith) (omega (arith, c .before .before .before .before .before .before .before .before .before .pre)) (omega (arith, c .before .before .before .before .before .before .before .before .before .pre)) (c .better .ensures)
+    let b4 = c .before .before .before .before in
+    let b9 = b4 .before .before .before .before .before in
+    let i = b9 .args in
+    let l = b4 .loop in
+    choosing-more (i .cs .now) (i .fs .now) (i .m) (i .left .now) (i .choice .now) (i .base) (i .d) (i .e)
+    (omega (arith, b9 .pre)) (l .left) (l .choice) (l .f) (l .at) (l .q) (l .inv) (c .better .result .f)
+    (c .better .result .at) (omega arith) (omega (arith, b9 .pre)) (omega (arith, b9 .pre)) (c .better .ensures)
 
 same-length : tie.Need-same-length Inv-loop μ-loop
 same-length c = c .before .loop .inv .left-length
@@ -72,9 +80,12 @@ same-length-2 c = c .before .loop .inv .choice-length
 
 returns : tie.Need-returns Inv-loop μ-loop
 returns c =
-    let i = c .before .before .before .before .before .before .args in
-    let l = c .before .loop in
-    let r = choosing-all (i .cs .now) (i .fs .now) (i .m) (i .left .now) (i .choice .now) (i .base) (i .d) (i .e) (omega (arith, c .before .before .before .before .before .before .pre)) (l .left) (l .choice) (l .f) (l .at) (l .q) (l .inv) (omega arith) in
+    let b1 = c .before in
+    let b6 = b1 .before .before .before .before .before in
+    let i = b6 .args in
+    let l = b1 .loop in
+    let r = choosing-all (i .cs .now) (i .fs .now) (i .m) (i .left .now) (i .choice .now) (i .base) (i .d) (i .e)
+    (omega (arith, b6 .pre)) (l .left) (l .choice) (l .f) (l .at) (l .q) (l .inv) (omega arith) in
     (r .chosen, (r .left-kept, r .choice-kept))
 
 pub choose-spec : {M : Type 1} → statement M

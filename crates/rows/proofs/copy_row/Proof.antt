@@ -1,3 +1,4 @@
+-- `copy_row` meets its contract. The invariant: the entries up to p are copied.
 use mathlib.Core.Path.{_≡_, refl, _∙_}
 use Prim.Native.Nat.{_+_, _-_, _≤_}
 use native.Mathlib.Omega.{arith}

@@ -1,3 +1,4 @@
+-- `lesser` meets its contract.
 use mathlib.Core.Path.{refl}
 use borrow.Author.Tests.{le-leb, lt-leb}
 use Rattle.rows.proofs.lesser.Statement.{statement}

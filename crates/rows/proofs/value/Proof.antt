@@ -1,3 +1,4 @@
+-- `value` meets its contract: one sweep with the place of the suffix lowered, and put back (Suffix).
 use mathlib.Core.Path.{_≡_, refl, sym, _∙_}
 use native.Mathlib.Omega.{arith}
 use Prim.Native.Nat.{min}
@@ -29,8 +30,14 @@ slice-write-need c = search needs
 
 sweep-requires : tie.Need-sweep-requires
 sweep-requires c κs =
-    let low = c .before .before .before .before .before .before .before .before .pre .1 .1 .1 .1 .1 .0 in
-    (omega arith, (omega arith, (simp length-set (omega arith), (omega arith, low))))
+    let room = c .before .before .before .before .before .before .before .before .pre .0 in
+    record {
+      points-room = room .points-room;
+      own-room = room .own-room;
+      own-low = room .own-low;
+      need-room = simp length-set (room .need-room);
+      left-room = room .left-room;
+    }
 
 mul-need-2 : tie.Need-mul-need-2
 mul-need-2 c = search needs
@@ -52,11 +59,18 @@ same-length c = search needs
 
 returns : tie.Need-returns
 returns c =
-    let i = c .before .before .before .before .before .before .before .before .before .before .before .before .args in
-    let s = c .before .before .before .sweep in
-    let m = c .before .before .before .before .before .smaller in
-    let z : SweepSays (i .points .now) (i .own .now) (set (i .need .now) (i .q) (min (at (i .need .now) (i .q)) (i .e))) (i .left .now) (i .kids) (i .d) (i .e) (s .result .c) (s .result .f) = rw (m .ensures) at (s .ensures) in (
-      closed (i .points .now) (i .own .now) (i .need .now) (i .left .now) (i .kids) (i .limit .now) (i .base) (i .d) (i .e) (i .q) (s .result .c) (s .result .f) (omega (arith, c .before .before .before .before .before .before .before .before .before .before .before .before .pre .1 .1 .0, c .before .before .before .before .before .before .before .before .before .before .before .before .pre .1 .1 .1 .1 .1 .1 .1)) z (c .if1 .taken),
+    let b3 = c .before .before .before in
+    let b5 = b3 .before .before in
+    let b12 = b5 .before .before .before .before .before .before .before in
+    let i = b12 .args in
+    let s = b3 .sweep in
+    let m = b5 .smaller in
+    let z : SweepSays (i .points .now) (i .own .now)
+    (set (i .need .now) (i .q) (min (at (i .need .now) (i .q)) (i .e))) (i .left .now) (i .kids) (i .d) (i .e)
+    (s .result .c) (s .result .f) = rw (m .ensures) at (s .ensures) in (
+      closed (i .points .now) (i .own .now) (i .need .now) (i .left .now) (i .kids) (i .limit .now) (i .base) (i .d)
+          (i .e) (i .q) (s .result .c) (s .result .f)
+          (omega (arith, b12 .pre)) z (c .if1 .taken),
       put-back (i .need .now) (i .q) (m .result),
     )
 
@@ -71,11 +85,19 @@ same-length-2 c = search needs
 
 returns-2 : tie.Need-returns-2
 returns-2 c =
-    let i = c .before .before .before .before .before .before .before .before .before .before .before .before .before .args in
-    let s = c .before .before .before .before .sweep in
-    let m = c .before .before .before .before .before .before .smaller in
-    let z : SweepSays (i .points .now) (i .own .now) (set (i .need .now) (i .q) (min (at (i .need .now) (i .q)) (i .e))) (i .left .now) (i .kids) (i .d) (i .e) (s .result .c) (s .result .f) = rw (m .ensures) at (s .ensures) in (
-      opened (i .points .now) (i .own .now) (i .need .now) (i .left .now) (i .kids) (i .limit .now) (i .base) (i .d) (i .e) (i .q) (s .result .c) (s .result .f) (omega (arith, c .before .before .before .before .before .before .before .before .before .before .before .before .before .pre .1 .1 .0, c .before .before .before .before .before .before .before .before .before .before .before .before .before .pre .1 .1 .1 .1 .1 .1 .1)) z (c .before .if1 .left),
+    let b1 = c .before in
+    let b4 = b1 .before .before .before in
+    let b6 = b4 .before .before in
+    let b13 = b6 .before .before .before .before .before .before .before in
+    let i = b13 .args in
+    let s = b4 .sweep in
+    let m = b6 .smaller in
+    let z : SweepSays (i .points .now) (i .own .now)
+    (set (i .need .now) (i .q) (min (at (i .need .now) (i .q)) (i .e))) (i .left .now) (i .kids) (i .d) (i .e)
+    (s .result .c) (s .result .f) = rw (m .ensures) at (s .ensures) in (
+      opened (i .points .now) (i .own .now) (i .need .now) (i .left .now) (i .kids) (i .limit .now) (i .base) (i .d)
+          (i .e) (i .q) (s .result .c) (s .result .f)
+          (omega (arith, b13 .pre)) z (b1 .if1 .left),
       put-back (i .need .now) (i .q) (m .result),
     )
 

@@ -1,3 +1,4 @@
+-- `first_or` meets its contract.
 use mathlib.Core.Path.{sym}
 use borrow.Author.Needs.{needs}
 use Rattle.sweeps.proofs.Steps.{first-of}

@@ -1,3 +1,4 @@
+-- `last_need` meets its contract. The invariant: what is sought from p is still sought from a.
 use mathlib.Core.Path.{_≡_, refl, sym, _∙_}
 use Prim.Native.Nat.{ℕ, _≤_}
 use native.Mathlib.Omega.{arith}

@@ -1,3 +1,4 @@
+-- `step_child` meets its contract, in each of the three cases of a step over a child (Steps).
 use mathlib.Core.Path.{_≡_, refl, sym, _∙_}
 use Prim.Native.Nat.{_≤_}
 use native.Mathlib.Omega.{arith}
@@ -37,9 +38,13 @@ add-t18 c = search needs
 
 returns : tie.Need-returns
 returns c =
-    let i = c .before .before .before .before .before .before .args in
-    let b = c .before .before .before .last-need in
-    step-free (i .need .now) (i .left .now) (i .kids) (i .l) (i .p) (i .c) (i .f) (b .result) (b .ensures) (c .first-or .result) (c .before .if1 .taken) (c .first-or .ensures)
+    let b1 = c .before in
+    let b3 = b1 .before .before in
+    let b6 = b3 .before .before .before in
+    let i = b6 .args in
+    let b = b3 .last-need in
+    step-free (i .need .now) (i .left .now) (i .kids) (i .l) (i .p) (i .c) (i .f) (b .result) (b .ensures)
+    (c .first-or .result) (b1 .if1 .taken) (c .first-or .ensures)
 
 add-g : tie.Need-add-g
 add-g c = search needs
@@ -52,9 +57,14 @@ shared-slice-read-g c = search needs
 
 returns-2 : tie.Need-returns-2
 returns-2 c =
-    let i = c .before .before .before .before .before .before .before .before .args in
-    let b = c .before .before .before .before .before .last-need in
-    step-inner (i .need .now) (i .left .now) (i .kids) (i .l) (i .p) (i .c) (i .f) (b .result) (b .ensures) (c .before .before .before .if1 .left) (c .before .before .if2 .taken) (c .if3 .taken)
+    let b2 = c .before .before in
+    let b3 = b2 .before in
+    let b5 = b3 .before .before in
+    let b8 = b5 .before .before .before in
+    let i = b8 .args in
+    let b = b5 .last-need in
+    step-inner (i .need .now) (i .left .now) (i .kids) (i .l) (i .p) (i .c) (i .f) (b .result) (b .ensures)
+    (b3 .if1 .left) (b2 .if2 .taken) (c .if3 .taken)
 
 add-t19 : tie.Need-add-t19
 add-t19 c = search needs
@@ -70,9 +80,14 @@ add-t24 c = search needs
 
 returns-3 : tie.Need-returns-3
 returns-3 c =
-    let i = c .before .before .before .before .before .before .before .before .before .args in
-    let b = c .before .before .before .before .before .before .last-need in
-    step-outer (i .need .now) (i .left .now) (i .kids) (i .l) (i .p) (i .c) (i .f) (b .result) (b .ensures) (c .first-or2 .result) (c .before .before .before .before .if1 .left) (λ _. c .before .if3 .left) (c .first-or2 .ensures)
+    let b1 = c .before in
+    let b4 = b1 .before .before .before in
+    let b6 = b4 .before .before in
+    let b9 = b6 .before .before .before in
+    let i = b9 .args in
+    let b = b6 .last-need in
+    step-outer (i .need .now) (i .left .now) (i .kids) (i .l) (i .p) (i .c) (i .f) (b .result) (b .ensures)
+    (c .first-or2 .result) (b4 .if1 .left) (λ _. b1 .if3 .left) (c .first-or2 .ensures)
 
 add-t11 : tie.Need-add-t11
 add-t11 c = search needs
@@ -88,9 +103,15 @@ add-t15 c = search needs
 
 returns-4 : tie.Need-returns-4
 returns-4 c =
-    let i = c .before .before .before .before .before .before .before .args in
-    let b = c .before .before .before .before .last-need in
-    step-outer (i .need .now) (i .left .now) (i .kids) (i .l) (i .p) (i .c) (i .f) (b .result) (b .ensures) (c .first-or3 .result) (c .before .before .if1 .left) (λ (z : b .result ≤ i .p). absurd (omega (arith, c .before .if2 .left))) (c .first-or3 .ensures)
+    let b1 = c .before in
+    let b2 = b1 .before in
+    let b4 = b2 .before .before in
+    let b7 = b4 .before .before .before in
+    let i = b7 .args in
+    let b = b4 .last-need in
+    step-outer (i .need .now) (i .left .now) (i .kids) (i .l) (i .p) (i .c) (i .f) (b .result) (b .ensures)
+    (c .first-or3 .result) (b2 .if1 .left) (λ (z : b .result ≤ i .p). absurd (omega (arith, b1 .if2 .left)))
+    (c .first-or3 .ensures)
 
 pub step-child-spec : {M : Type 1} → statement M
 step-child-spec =

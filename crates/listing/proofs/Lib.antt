@@ -1,0 +1,4 @@
+-- Laws of the list.
+pub mod Records
+pub mod Steps
+pub mod Turns

@@ -1,0 +1,20 @@
+-- `begin` meets its contract: the number from the state, and nothing found yet.
+use Rattle.desk.specs.Desks.{deskIn}
+use Rattle.listing.proofs.Records.{begun-by}
+use borrow.Author.Needs.{needs}
+use Rattle.listing.proofs.begin.Statement.{statement}
+use Rattle.listing.proofs.begin.Tie as tie
+
+key-fault-requires : tie.Need-key-fault-requires
+key-fault-requires c κs = search needs
+
+refused-requires : tie.Need-refused-requires
+refused-requires c κs = search needs
+
+returns : tie.Need-returns
+returns c =
+    let k = c .before .key-fault in
+    begun-by (deskIn (c .before .before .args .desk)) (k .result) (c .refused .result) (k .ensures) (c .refused .ensures)
+
+pub begin-spec : {M : Type 1} → statement M
+begin-spec = tie.close (tie.spec key-fault-requires refused-requires returns)

@@ -1,0 +1,33 @@
+-- `record_fault` meets its contract: the kind decides between 2 and the refusal of a dependence.
+use mathlib.Core.Path.{_∙_}
+use mathlib.Core.Logic.{inl, inr}
+use Rattle.nests.specs.Stored.{depIn}
+use Rattle.listing.proofs.Records.{known-kind, unknown-kind}
+use borrow.Author.Needs.{needs}
+use Rattle.listing.proofs.record_fault.Statement.{statement}
+use Rattle.listing.proofs.record_fault.Tie as tie
+
+dep-fault-requires : tie.Need-dep-fault-requires
+dep-fault-requires c κs = search needs
+
+dep-fault-requires-2 : tie.Need-dep-fault-requires-2
+dep-fault-requires-2 c κs = search needs
+
+returns : tie.Need-returns
+returns c =
+    let a = c .before .before .before .args in
+    c .dep-fault .ensures ∙ known-kind (a .points .now) (depIn (a .e)) (inl (c .before .match .keys1))
+
+returns-2 : tie.Need-returns-2
+returns-2 c =
+    let a = c .before .before .before .args in
+    c .dep-fault2 .ensures ∙ known-kind (a .points .now) (depIn (a .e)) (inr (c .before .match .keys2))
+
+returns-3 : tie.Need-returns-3
+returns-3 c =
+    let a = c .before .before .args in
+    unknown-kind (a .points .now) (depIn (a .e)) (c .match .rest .0 .1) (c .match .rest .1)
+
+pub record-fault-spec : {M : Type 1} → statement M
+record-fault-spec =
+    tie.close (tie.spec dep-fault-requires dep-fault-requires-2 returns returns-2 returns-3)
