@@ -75,7 +75,8 @@ pub answer-long
     → out ≡ over (refusalText 5 0) o
     → Answered input o out r
 unfolding programText
-answer-long input o out r long l w = by-text input o out r (refusalText 5 0) (rw (lt-ltb LONGEST (length input) long)) l w
+answer-long input o out r long =
+    by-text input o out r (refusalText 5 0) (rw (lt-ltb LONGEST (length input) long))
 
 -- a text that is read
 module _ (input : List ℕ) (short : length input ≤ LONGEST) (g : Reading) (read : IsRead input g) where

@@ -60,6 +60,7 @@ module _
           (putMid at (length out - at) out q ≡ over (keyAndCounts (nest ps ds) gs) o)
       both-written =
           let counts = countsText (nest ps ds) gs in
-          let fits : at + length counts ≤ length o = omega (arith, counts-short, key-fits ps ds gs o y) in
-          (omega (arith, c .length-is ds, length-append (keyText gs) counts),
-          over-part out o (keyText gs) counts q at out-is at-is fits (c .out-is ds))
+          let fits : at + length counts ≤ length o = omega (arith, counts-short, key-fits ps ds gs o y) in (
+            omega (arith, c .length-is ds, length-append (keyText gs) counts),
+            over-part out o (keyText gs) counts q at out-is at-is fits (c .out-is ds),
+          )

@@ -89,10 +89,11 @@ module _
           let line = lineText (COUNT ∷ (d ∷ (loopCount n gs d ∷ []))) in
           let long : length (restOf n gs d) ≡ length line + length (restOf n gs (d + 1)) =
           ap length (rest-do n gs d h e) ∙ length-append line (restOf n gs (d + 1)) in
-          omega
-          (arith,
-          line-length d (loopCount n gs d),
-          part-room (countsText n gs) (restOf n gs d) o out at (c .part []) (fits []))
+          omega (
+            arith,
+            line-length d (loopCount n gs d),
+            part-room (countsText n gs) (restOf n gs d) o out at (c .part []) (fits []),
+          )
 
       -- the line of the loop whose DO is d, where `ones` is its count
       pub count-on

@@ -91,6 +91,11 @@ fn write_refusal(number: u8, line: usize, out: &mut [u8]) -> usize
     ensures { λ r. ⌜ r ≡ length (refusalText number line) ⌝ }
     ensures { λ r. ⌜ now (out .exit) ≡ over (refusalText number line) (now (out .entry)) ⌝ }
 {
-    let frame = [REFUSAL, number, (line / 256 % 256) as u8, (line % 256) as u8];
+    let frame = [
+        REFUSAL,
+        number,
+        (line / 256 % 256) as u8,
+        (line % 256) as u8,
+    ];
     put_frame(out, &frame)
 }

@@ -21,20 +21,26 @@ write-text-requires : tie.Need-write-text-requires
 write-text-requires c κs = omega (arith, key-fits _ _ _ _ (ready (c .before .before .before)))
 
 array-share-prefix-points : tie.Need-array-share-prefix-points
-array-share-prefix-points c = counted-points (c .before .before .before .before .before .before .args .nest) (c .before .before .before .before .before .before .pre .0)
+array-share-prefix-points c =
+    let b6 = c .before .before .before .before .before .before in
+    counted-points (b6 .args .nest) (b6 .pre .0)
 
 slice-aggregate-write-counts : tie.Need-slice-aggregate-write-counts
 slice-aggregate-write-counts c = search needs
 
 sub-write-counts : tie.Need-sub-write-counts
 sub-write-counts c =
-    let w = c .before .before .before .write-text in
-    at-within _ _ _ _ (ready (c .before .before .before .before .before .before .before)) (w .last .1 .0) (w .result) (w .ensures .0) (w .ensures .1)
+    let b3 = c .before .before .before in
+    let b7 = b3 .before .before .before .before in
+    let w = b3 .write-text in
+    at-within _ _ _ _ (ready b7) (w .last .1 .0) (w .result) (w .ensures .0) (w .ensures .1)
 
 part-write-counts-start : tie.Need-part-write-counts-start
 part-write-counts-start c =
-    let w = c .before .before .before .write-text in
-    let z = at-within _ _ _ _ (ready (c .before .before .before .before .before .before .before)) (w .last .1 .0) (w .result) (w .ensures .0) (w .ensures .1) in
+    let b3 = c .before .before .before in
+    let b7 = b3 .before .before .before .before in
+    let w = b3 .write-text in
+    let z = at-within _ _ _ _ (ready b7) (w .last .1 .0) (w .result) (w .ensures .0) (w .ensures .1) in
     search needs
 
 part-write-counts-end : tie.Need-part-write-counts-end
@@ -42,17 +48,25 @@ part-write-counts-end c = search needs
 
 write-counts-requires : tie.Need-write-counts-requires
 write-counts-requires c κs =
-    let y = ready (c .before .before .before .before .before .before .before .before) in
-    let w = c .before .before .before .before .write-text in
-    let v = valid-is (nestIn (c .before .before .before .before .before .before .before .before .args .nest)) (c .before .before .before .before .before .before .before .before .pre .1 .0) in
-    ((v .shape, y .few),
-    (y .gaps, counts-fit _ _ _ _ y (w .last .1 .0) (w .result) (w .ensures .0) (w .ensures .1)))
+    let b4 = c .before .before .before .before in
+    let b8 = b4 .before .before .before .before in
+    let y = ready b8 in
+    let w = b4 .write-text in
+    let v = valid-is (nestIn (b8 .args .nest)) (b8 .pre .1 .0) in (
+      (v .shape, y .few),
+      (y .gaps, counts-fit _ _ _ _ y (w .last .1 .0) (w .result) (w .ensures .0) (w .ensures .1)),
+    )
 
 add-result : tie.Need-add-result
 add-result c =
-    let w = c .before .before .before .before .before .before .before .write-text in
-    let k = c .before .before .write-counts in
-    let z = both-short _ _ _ _ (ready (c .before .before .before .before .before .before .before .before .before .before .before)) (w .last .1 .0) (w .result) (w .ensures .0) (w .ensures .1) (k .last .1 .1 .0) (k .result) (k .ensures) in
+    let b2 = c .before .before in
+    let b7 = b2 .before .before .before .before .before in
+    let b11 = b7 .before .before .before .before in
+    let w = b7 .write-text in
+    let k = b2 .write-counts in
+    let z =
+    both-short _ _ _ _ (ready b11) (w .last .1 .0) (w .result) (w .ensures .0) (w .ensures .1) (k .last .1 .1 .0)
+    (k .result) (k .ensures) in
     omega (arith, z)
 
 same-length : tie.Need-same-length
@@ -60,9 +74,13 @@ same-length c = search needs
 
 returns : tie.Need-returns
 returns c =
-    let w = c .before .before .before .before .before .before .before .write-text in
-    let k = c .before .before .write-counts in
-    both-written _ _ _ _ (ready (c .before .before .before .before .before .before .before .before .before .before .before)) (w .last .1 .0) (w .result) (w .ensures .0) (w .ensures .1) (k .last .1 .1 .0) (k .result) (k .ensures)
+    let b2 = c .before .before in
+    let b7 = b2 .before .before .before .before .before in
+    let b11 = b7 .before .before .before .before in
+    let w = b7 .write-text in
+    let k = b2 .write-counts in
+    both-written _ _ _ _ (ready b11) (w .last .1 .0) (w .result) (w .ensures .0) (w .ensures .1) (k .last .1 .1 .0)
+    (k .result) (k .ensures)
 
 pub write-both-spec : {M : Type 1} → statement M
 write-both-spec =

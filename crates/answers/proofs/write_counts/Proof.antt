@@ -30,9 +30,10 @@ inside
 inside l =
     let a = l .before .before .before .args in
     let r = l .before .before .before .pre .1 .1 in
-    let n = l .loop in
-    (count-length (a .points .now) (gapsIn (a .key .words)) (a .out .now) (n .out) (n .at) (n .d) (n .inv) r,
-    count-within (a .points .now) (gapsIn (a .key .words)) (a .out .now) (n .out) (n .at) (n .d) (n .inv) r)
+    let n = l .loop in (
+      count-length (a .points .now) (gapsIn (a .key .words)) (a .out .now) (n .out) (n .at) (n .d) (n .inv) r,
+      count-within (a .points .now) (gapsIn (a .key .words)) (a .out .now) (n .out) (n .at) (n .d) (n .inv) r,
+    )
 
 -- at a DO there is room for its line
 room
@@ -40,9 +41,10 @@ room
     → let l = c .before .before .before in l .loop .at + 7 ≤ length (l .before .before .before .args .out .now)
 room c =
     let l = c .before .before .before in
-    let a = l .before .before .before .args in
+    let s = l .before .before .before in
+    let a = s .args in
     let n = l .loop in
-    count-room (a .points .now) (gapsIn (a .key .words)) (a .out .now) (n .out) (n .at) (n .d) (n .inv) (l .before .before .before .pre .1 .1)
+    count-room (a .points .now) (gapsIn (a .key .words)) (a .out .now) (n .out) (n .at) (n .d) (n .inv) (s .pre .1 .1)
     (c .before .before .loop-test .taken) (c .if1 .taken)
 
 shared-slice-read-if1 : tie.Need-shared-slice-read-if1 Inv-loop μ-loop
@@ -50,8 +52,10 @@ shared-slice-read-if1 c = omega arith
 
 count-of-requires : tie.Need-count-of-requires Inv-loop μ-loop
 count-of-requires c κs =
-    let p = c .before .before .before .before .before .before .pre in
-    (p .0, (eq-eqb (getD (c .before .before .before .before .before .before .args .points .now) (c .before .before .before .loop .d) 0) 1 (c .if1 .taken), p .1 .0))
+    let b3 = c .before .before .before in
+    let b6 = b3 .before .before .before in
+    let p = b6 .pre in
+    (p .0, (eq-eqb (getD (b6 .args .points .now) (b3 .loop .d) 0) 1 (c .if1 .taken), p .1 .0))
 
 cast-t13 : tie.Need-cast-t13 Inv-loop μ-loop
 cast-t13 c = search needs
@@ -60,45 +64,64 @@ cast-t15 : tie.Need-cast-t15 Inv-loop μ-loop
 cast-t15 c = search needs
 
 sub-put-frame : tie.Need-sub-put-frame Inv-loop μ-loop
-sub-put-frame c = omega (arith, inside (c .before .before .before .before) .0, inside (c .before .before .before .before) .1)
+sub-put-frame c =
+    let b4 = c .before .before .before .before in
+    omega (arith, inside b4 .0, inside b4 .1)
 
 part-put-frame-start : tie.Need-part-put-frame-start Inv-loop μ-loop
 part-put-frame-start c =
-    let z = inside (c .before .before .before .before) in
+    let b4 = c .before .before .before .before in
+    let z = inside b4 in
     search needs
 
 part-put-frame-end : tie.Need-part-put-frame-end Inv-loop μ-loop
 part-put-frame-end c =
-    let z = inside (c .before .before .before .before) in
+    let b4 = c .before .before .before .before in
+    let z = inside b4 in
     search needs
 
 slice-aggregate-put-frame : tie.Need-slice-aggregate-put-frame Inv-loop μ-loop
 slice-aggregate-put-frame c = refl
 
 put-frame-requires : tie.Need-put-frame-requires Inv-loop μ-loop
-put-frame-requires c κs = simp (length-take, length-drop) (omega (arith, inside (c .before .before .before .before .before .before) .0, room (c .before .before .before)))
+put-frame-requires c κs =
+    let b3 = c .before .before .before in
+    let b6 = b3 .before .before .before in
+    simp (length-take, length-drop) (omega (arith, inside b6 .0, room b3))
 
 add-at : tie.Need-add-at Inv-loop μ-loop
 add-at c =
-    let y : c .before .before .put-frame .result ≡ 7 = c .before .before .put-frame .ensures .0 in
-    omega (arith, room (c .before .before .before .before .before .before))
+    let b2 = c .before .before in
+    let b6 = b2 .before .before .before .before in
+    let y : b2 .put-frame .result ≡ 7 = b2 .put-frame .ensures .0 in
+    omega (arith, room b6)
 
 add-d : tie.Need-add-d Inv-loop μ-loop
-add-d c = omega (arith, c .before .before .before .before .before .before .before .before .loop-test .taken)
+add-d c =
+    let b8 = c .before .before .before .before .before .before .before .before in
+    omega (arith, b8 .loop-test .taken)
 
 loop-less : tie.Need-loop-less Inv-loop μ-loop
-loop-less c = omega (arith, c .before .before .before .before .before .before .before .before .loop-test .taken)
+loop-less c =
+    let b8 = c .before .before .before .before .before .before .before .before in
+    omega (arith, b8 .loop-test .taken)
 
 loop-again : tie.Need-loop-again Inv-loop μ-loop
 loop-again c =
-    let l = c .before .before .before .before .before .before .before .before .before .loop in
-    let a = c .before .before .before .before .before .before .before .before .before .before .before .before .args in
-    let p = c .before .before .before .before .before .before .before .before .before .before .before .before .pre in
-    let f = c .before .before .put-frame in
+    let b2 = c .before .before in
+    let b5 = b2 .before .before .before in
+    let b6 = b5 .before in
+    let b8 = b6 .before .before in
+    let b9 = b8 .before in
+    let b12 = b9 .before .before .before in
+    let l = b9 .loop in
+    let a = b12 .args in
+    let p = b12 .pre in
+    let f = b2 .put-frame in
     count-on (a .points .now) (gapsIn (a .key .words)) (a .out .now) (l .out) (l .at) (l .d) (l .inv) (p .1 .1)
-    (c .before .before .before .before .before .before .before .before .loop-test .taken) (c .before .before .before .before .before .before .if1 .taken)
-    (c .before .before .before .before .before .count-of .result) (f .result) (f .last .0) (p .0 .1) (p .1 .0)
-    (c .before .before .before .before .before .count-of .ensures) (f .ensures .0) (f .ensures .1)
+    (b8 .loop-test .taken) (b6 .if1 .taken)
+    (b5 .count-of .result) (f .result) (f .last .0) (p .0 .1) (p .1 .0)
+    (b5 .count-of .ensures) (f .ensures .0) (f .ensures .1)
 
 add-d-2 : tie.Need-add-d-2 Inv-loop μ-loop
 add-d-2 c = omega (arith, c .before .before .loop-test .taken)
@@ -108,19 +131,24 @@ loop-less-2 c = omega (arith, c .before .before .loop-test .taken)
 
 loop-again-2 : tie.Need-loop-again-2 Inv-loop μ-loop
 loop-again-2 c =
-    let l = c .before .before .before .loop in
-    let a = c .before .before .before .before .before .before .args in
-    count-skip (a .points .now) (gapsIn (a .key .words)) (a .out .now) (l .out) (l .at) (l .d) (l .inv) (c .before .before .before .before .before .before .pre .1 .1)
-    (c .before .before .loop-test .taken) (c .if1 .left)
+    let b2 = c .before .before in
+    let b3 = b2 .before in
+    let b6 = b3 .before .before .before in
+    let l = b3 .loop in
+    let a = b6 .args in
+    count-skip (a .points .now) (gapsIn (a .key .words)) (a .out .now) (l .out) (l .at) (l .d) (l .inv) (b6 .pre .1 .1)
+    (b2 .loop-test .taken) (c .if1 .left)
 
 same-length : tie.Need-same-length Inv-loop μ-loop
 same-length c = inside (c .before) .0
 
 returns : tie.Need-returns Inv-loop μ-loop
 returns c =
-    let l = c .before .loop in
-    let a = c .before .before .before .before .args in
-    count-done (a .points .now) (gapsIn (a .key .words)) (a .out .now) (l .out) (l .at) (l .d) (l .inv) (c .before .before .before .before .pre .1 .1)
+    let b1 = c .before in
+    let b4 = b1 .before .before .before in
+    let l = b1 .loop in
+    let a = b4 .args in
+    count-done (a .points .now) (gapsIn (a .key .words)) (a .out .now) (l .out) (l .at) (l .d) (l .inv) (b4 .pre .1 .1)
     (c .loop-test .left)
 
 pub write-counts-spec : {M : Type 1} → statement M
