@@ -1,21 +1,21 @@
 -- The answer after all records of a list is what the desk promises of the list.
 -- Main statements: `steps-say`.
-use mathlib.Core.Path.{_≡_, refl, sym, _∙_, ap}
-use mathlib.Core.Bool.{Bool, true, false, not}
+use mathlib.Core.Path.{_≡_, refl, _∙_, ap}
+use mathlib.Core.Bool.{Bool, true, false}
 use mathlib.Core.List.{List, [], _∷_}
 use Prim.Native.Nat.{ℕ, zero, suc, _+_}
 use native.Mathlib.Numerals.{add-one}
 use native.Mathlib.Omega.{arith}
 use lib.Dec.{eqb}
 use borrow.Author.Tests.{ne-eqb}
-use Rattle.laws.specs.Choice.{pick, when, firstOf}
+use Rattle.laws.specs.Choice.{pick, firstOf}
 use Rattle.nests.specs.Nests.{Dep}
 use Rattle.placements.specs.Placements.{cuts}
 use Rattle.desk.specs.declared.Desk as DD
 use Rattle.desk.specs.declared.Answer as DA
 use Rattle.desk.specs.Desks.{Desk, deskIn, stateFault, recordFault, Fault, fault, listFault, listUncut}
 use Rattle.desk.specs.Says.{checkFault, ListSays}
-use Rattle.listing.specs.Lists.{answer, begun, firstUncut, stepOf, stepsFrom}
+use Rattle.listing.specs.Lists.{answer, begun, stepsFrom}
 
 -- a refusal stays to the end of the list
 refused-stays

@@ -1,8 +1,8 @@
 -- The list of dependences that a host lends, judged record by record.
 -- Main definitions: `allDeps`, `begun`, `stepOf`, `stepsFrom`.
-use mathlib.Core.Bool.{Bool, true, false, _||_}
+use mathlib.Core.Bool.{true}
 use mathlib.Core.List.{List, [], _∷_}
-use Prim.Native.Nat.{ℕ, zero, suc, _+_}
+use Prim.Native.Nat.{ℕ, suc, _+_}
 use lib.Dec.{eqb}
 use Rattle.laws.specs.Choice.{pick}
 use Rattle.nests.specs.declared.Dependence as DE

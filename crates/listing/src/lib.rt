@@ -1,11 +1,7 @@
 // Extra dependences, lent as a list: the first faulty record, else the first that the key doesn't cut.
 ghost use mathlib.Core.Path.{_≡_};
-ghost use mathlib.Core.Bool.{not};
 ghost use Prim.Native.Nat.{_+_, _^_, _<_};
-ghost use lib.ListN.{length, take};
 ghost use Rattle.nests.specs.Stored.{depIn, IsCounted};
-ghost use Rattle.placements.specs.Placements.{cuts};
-ghost use Rattle.placements.specs.Words.{gapsIn};
 ghost use Rattle.desk.specs.Desks.{deskIn, IsMade, recordFault};
 ghost use Rattle.desk.specs.Says.{ListSays};
 ghost use Rattle.listing.specs.Lists.{allDeps, begun, stepOf};
@@ -15,7 +11,6 @@ use nests::CARRIED;
 use nests::Dependence;
 use nests::INDEPENDENT;
 use placements::Cut;
-use placements::Placement;
 
 // What is wrong with the first faulty record of the list, else the place of the first that the key doesn't cut, or 0.
 // Numbers 10, 11, then 2, 6, 7 with the record's place from 1.
@@ -40,7 +35,8 @@ fn begin(desk: Desk) -> Answer
     desk::refused(number)
 }
 
-// The answer after the record at index i of the list. A refusal stays; a faulty record refuses with its place.
+// The answer after the record at index i of the list. A refusal stays; a faulty record refuses with its place, i + 1,
+// which is at most the list's length and so does not wrap.
 fn step(desk: Desk, found: Answer, e: Dependence, i: usize) -> Answer
     requires { ⌜ IsCounted (desk .nest) × (i + 1 < 2 ^ 64) ⌝ }
     ensures { λ r. ⌜ r ≡ stepOf (deskIn desk) found (depIn e) i ⌝ }

@@ -14,7 +14,8 @@ refused-requires c κs = search needs
 returns : tie.Need-returns
 returns c =
     let k = c .before .key-fault in
-    begun-by (deskIn (c .before .before .args .desk)) (k .result) (c .refused .result) (k .ensures) (c .refused .ensures)
+    let f = c .refused in
+    begun-by (deskIn (c .before .before .args .desk)) (k .result) (f .result) (k .ensures) (f .ensures)
 
 pub begin-spec : {M : Type 1} → statement M
 begin-spec = tie.close (tie.spec key-fault-requires refused-requires returns)
