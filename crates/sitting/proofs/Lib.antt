@@ -5,4 +5,6 @@ pub mod Xor
 pub mod Words
 pub mod Counts
 pub mod Around
+pub mod Found
 pub mod Moving
+pub mod Outcome

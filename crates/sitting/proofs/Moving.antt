@@ -117,11 +117,16 @@ module _ (n : Nest) (before after : List ℕ) where
         (λ j z. getD-set-other counts i j c 0 z)
         u
 
--- the turn for the dependence before i, as the code writes it
+-- the turn for the dependence e before i, as the code writes it
+pub record Turn (n : Nest) (before after : List ℕ) (i : ℕ) (counts : List ℕ) (uncut : ℕ) (e : Dep) : Type 0 where
+  pub some : 0 < i
+  pub moving : Moving n before after i counts uncut
+  pub few : length (n .deps) ≤ DEPENDENCES
+  pub here : drop (i - 1) (n .deps) ≡ e ∷ drop (suc (i - 1)) (n .deps)
+
 module _
-  (n : Nest) (before after : List ℕ) (i : ℕ) (counts : List ℕ) (uncut : ℕ)
-  (positive : 0 < i) (m : Moving n before after i counts uncut) (few : length (n .deps) ≤ DEPENDENCES)
-  (e : Dep) (here : drop (i - 1) (n .deps) ≡ e ∷ drop (suc (i - 1)) (n .deps))
+  {n : Nest} {before after : List ℕ} {i : ℕ} {counts : List ℕ} {uncut : ℕ} {e : Dep}
+  (t : Turn n before after i counts uncut e)
   where
   abbrev old-count : ℕ
   old-count = cutCount (n .points) e before
@@ -130,24 +135,24 @@ module _
   new-count = cutCount (n .points) e after
 
   turn : Moving n before after (suc (i - 1)) counts uncut
-  turn = let z : suc (i - 1) ≡ i = omega arith in rw z m
+  turn = let z : suc (i - 1) ≡ i = omega (arith, t .some) in rw z (t .moving)
 
   kept-is : getD counts (i - 1) 0 ≡ old-count
-  kept-is = kept-now n before after (i - 1) counts uncut turn e here
+  kept-is = kept-now n before after (i - 1) counts uncut turn e (t .here)
 
   inside : i - 1 < DEPENDENCES
-  inside = omega (arith, m .within)
+  inside = omega (arith, t .some, t .few, t .moving .within)
 
-  -- a dependence that has not the gap
+  -- a dependence whose count stays
   pub move-past : new-count ≡ old-count → Moving n before after (i - 1) counts uncut
-  move-past = past n before after (i - 1) counts uncut turn e here
+  move-past = past n before after (i - 1) counts uncut turn e (t .here)
 
   written-as
       : (c uncut′ : ℕ)
       → c ≡ new-count
       → uncut′ + one (eqb old-count 0) ≡ uncut + one (eqb new-count 0)
       → Moving n before after (i - 1) (set counts (i - 1) c) uncut′
-  written-as c uncut′ = write n before after (i - 1) counts uncut turn e here c uncut′ inside
+  written-as c uncut′ = write n before after (i - 1) counts uncut turn e (t .here) c uncut′ inside
 
   -- one more barrier cuts it
   module _ (more : new-count ≡ old-count + 1) where
@@ -157,7 +162,7 @@ module _
     pub rise-uncut : getD counts (i - 1) 0 ≡ 0 → 1 ≤ uncut
     rise-uncut z =
         let y : one (eqb old-count 0) ≡ 1 = ap one (eq-eqb old-count 0 (sym kept-is ∙ z)) in
-        omega (arith, uncut-now n before after (i - 1) counts uncut turn e here)
+        omega (arith, uncut-now n before after (i - 1) counts uncut turn e (t .here))
 
     pub rise-first
         : getD counts (i - 1) 0 ≡ 0
@@ -184,11 +189,12 @@ module _
     fall-uncut =
         omega (
           arith,
-          m .uncut-is,
+          t .moving .uncut-is,
           uncut-few (n .points) (take i (n .deps)) before,
           uncut-few (n .points) (drop i (n .deps)) after,
-          length-take-le i (n .deps) (m .within),
+          length-take-le i (n .deps) (t .moving .within),
           length-drop i (n .deps),
+          t .few,
         )
 
     pub fall-last

@@ -1,104 +1,161 @@
+use mathlib.Core.Path.{_≡_, sym, _∙_}
+use mathlib.Core.Bool.{Bool, true, false}
+use native.Mathlib.Omega.{arith}
+use borrow.Author.Needs.{needs}
+use Prim.Native.Nat.{_+_, _-_, _<_}
+use Rattle.laws.specs.Bits.{one}
+use Rattle.nests.specs.Nests.{Dep}
+use Rattle.nests.specs.Gaps.{hasGap}
+use Rattle.nests.specs.Stored.{depIn, nestIn}
+use Rattle.nests.proofs.Deps.{valid-is}
+use Rattle.nests.proofs.Stored.{counted-points}
+use Rattle.sitting.specs.GapLists.{withGap, without}
+use Rattle.sitting.specs.Counts.{cutCount}
+use Rattle.sitting.specs.Kept.{barriers}
+use Rattle.sitting.proofs.Found.{depAt, dep-here, dep-has, inside-of}
+use Rattle.sitting.proofs.Counts.{count-with}
+use Rattle.sitting.proofs.Moving.{Moving, Turn, move-start, move-past, move-done}
+use Rattle.sitting.proofs.Moving.{rise-fits, rise-uncut, rise-first, rise-more}
+use Rattle.sitting.proofs.Moving.{fall-fits, fall-uncut, fall-last, fall-more}
+use Rattle.sitting.proofs.Outcome.{put-short, put-says, put-back, lift-count, lift-says}
 use Rattle.sitting.proofs.lift.Statement.{statement}
 use Rattle.sitting.proofs.lift.Tie as tie
-use Rattle.sitting.proofs.lift.Reads as reads
-use Rattle.sitting.proofs.lift.Lts as lts
-use Rattle.sitting.proofs.has_gap.Reads as has-gap-reads
-use Rattle.sitting.proofs.lifted.Reads as lifted-reads
-use Rattle.sitting.proofs.loops_around.Reads as loops-around-reads
 
 abbrev Inv-loop : tie.InvT-loop
-Inv-loop s g nest count around counts₀ uncut₀ i₀ counts uncut i = ?
+Inv-loop s g nest count around counts₀ uncut₀ i₀ counts uncut i =
+    Moving (nestIn nest) (barriers s) (without g (barriers s)) i counts uncut
 
 abbrev μ-loop : tie.MeasureT-loop
-μ-loop s g nest count around counts₀ uncut₀ i₀ counts uncut i = ?
+μ-loop s g nest count around counts₀ uncut₀ i₀ counts uncut i = i
 
--- src/lib.rt:84:31
 array-share-prefix-points : tie.Need-array-share-prefix-points Inv-loop μ-loop
-array-share-prefix-points c = ?
+array-share-prefix-points c = counted-points (c .before .args .t1) (c .before .pre .0)
 
--- src/lib.rt:84:31
 slice-aggregate-loops-around : tie.Need-slice-aggregate-loops-around Inv-loop μ-loop
-slice-aggregate-loops-around c = ?
+slice-aggregate-loops-around c = c .before .before .pre .0 .count-is
 
--- src/lib.rt:84:18
 loops-around-requires : tie.Need-loops-around-requires Inv-loop μ-loop
-loops-around-requires c κs = ?
+loops-around-requires c κs =
+    let p = c .before .before .pre in
+    let v = valid-is (nestIn (c .before .before .args .t1)) (p .1 .0) in
+    ((v .shape, v .few-points), (p .1 .1 .1 .0 .0, omega (arith, p .0 .count-is, p .1 .1 .1 .0 .1)))
 
--- src/lib.rt:88:5
 loop-holds : tie.Need-loop-holds Inv-loop μ-loop
-loop-holds c = ?
+loop-holds c =
+    let a = c .before .before .before .before .args in
+    let p = c .before .before .before .before .pre in
+    let k = p .1 .1 .0 in
+    move-start (nestIn (a .t1)) (barriers (a .s)) (without (a .g) (barriers (a .s))) (a .t1 .many) (a .s .counts) (a .s .uncut)
+    (p .0 .many-is) (search needs) (k .counts-are) (k .uncut-is)
 
--- src/lib.rt:89:9
 sub-i : tie.Need-sub-i Inv-loop μ-loop
-sub-i c = ?
+sub-i c = omega arith
 
--- src/lib.rt:90:17
 mul-e : tie.Need-mul-e Inv-loop μ-loop
-mul-e c = ?
+mul-e c = omega (arith, c .before .loop .inv .within, c .before .before .before .before .before .before .pre .0 .many-is, c .before .before .before .before .before .before .pre .0 .many-fits)
 
--- src/lib.rt:90:17
 element-copy-out-e : tie.Need-element-copy-out-e Inv-loop μ-loop
-element-copy-out-e c = ?
+element-copy-out-e c = omega (arith, c .before .loop .inv .within, c .before .before .before .before .before .before .pre .0 .many-is, c .before .before .before .before .before .before .pre .0 .many-fits)
 
--- src/lib.rt:91:17
 cast-d : tie.Need-cast-d Inv-loop μ-loop
-cast-d c = ?
+cast-d c = search needs
 
--- src/lib.rt:92:26
 array-read-has-gap : tie.Need-array-read-has-gap Inv-loop μ-loop
-array-read-has-gap c = ?
+array-read-has-gap c = search needs
 
--- src/lib.rt:92:12
 has-gap-requires : tie.Need-has-gap-requires Inv-loop μ-loop
-has-gap-requires c κs = ?
+has-gap-requires c κs = tt
 
--- src/lib.rt:93:21
+-- the dependence of a turn, and that it is there
+abbrev tried : (c : tie.After-has-gap Inv-loop μ-loop) → Dep
+tried c = depIn (depAt (c .before .before .before .before .before .before .before .before .before .args .t1) (c .before .before .before .before .loop .i - 1))
+
+there : (c : tie.After-has-gap Inv-loop μ-loop) → c .before .before .before .before .loop .i - 1 < c .before .before .before .before .before .before .before .before .before .args .t1 .many
+there c = omega (arith, c .before .before .before .before .loop .inv .within, c .before .before .before .before .before .before .before .before .before .pre .0 .many-is, c .before .before .before .loop-test .taken)
+
+turn
+    : (c : tie.After-has-gap Inv-loop μ-loop)
+    → let a = c .before .before .before .before .before .before .before .before .before .args in
+    let l = c .before .before .before .before .loop in
+    Turn (nestIn (a .t1)) (barriers (a .s)) (without (a .g) (barriers (a .s))) (l .i) (l .counts) (l .uncut) (tried c)
+turn c =
+    let p = c .before .before .before .before .before .before .before .before .before .pre in
+    let l = c .before .before .before .before .loop in
+    record {
+      some = c .before .before .before .loop-test .taken;
+      moving = l .inv;
+      few = omega (arith, p .0 .many-is, p .0 .many-fits);
+      here = dep-here (c .before .before .before .before .before .before .before .before .before .args .t1) (p .0) (p .1 .0) (l .i - 1) (there c);
+    }
+
+-- what the test says of it
+told
+    : (c : tie.After-has-gap Inv-loop μ-loop)
+    → c .has-gap .result ≡ hasGap (nestIn (c .before .before .before .before .before .before .before .before .before .args .t1) .points) (tried c) (c .before .before .before .before .before .before .before .before .before .args .g)
+told c =
+    let a = c .before .before .before .before .before .before .before .before .before .args in
+    let p = c .before .before .before .before .before .before .before .before .before .pre in
+    dep-has (a .t1) (p .0) (p .1 .0) (c .before .before .before .before .loop .i - 1) (there c) (a .g) (c .before .before .before .before .before .before .loops-around .result)
+    (c .has-gap .result) (c .before .before .before .before .before .before .loops-around .ensures) (c .has-gap .ensures)
+
+-- its count before the move
+counted
+    : (c : tie.After-has-gap Inv-loop μ-loop) (b : Bool)
+    → c .has-gap .result ≡ b
+    → let a = c .before .before .before .before .before .before .before .before .before .args in
+    let ps = nestIn (a .t1) .points in
+    cutCount ps (tried c) (barriers (a .s)) ≡ cutCount ps (tried c) (without (a .g) (barriers (a .s))) + one b
+counted c b z =
+    let a = c .before .before .before .before .before .before .before .before .before .args in
+    let p = c .before .before .before .before .before .before .before .before .before .pre in
+    let n = nestIn (a .t1) in
+    let v = valid-is n (p .1 .0) in
+    let y : hasGap (n .points) (tried c) (a .g) ≡ b = sym (told c) ∙ z in
+    lift-count n (a .g) (a .s) (p .1 .1 .0) (v .few-points) (p .1 .1 .1 .0 .0) (inside-of (p .0) (p .1 .1 .1 .0 .1)) (p .1 .1 .1 .1) (tried c) ∙ rw y
+
 array-read-c : tie.Need-array-read-c Inv-loop μ-loop
-array-read-c c = ?
+array-read-c c = omega (arith, c .before .before .before .before .before .loop .inv .within, c .before .before .before .before .before .before .before .before .before .before .pre .0 .many-is, c .before .before .before .before .before .before .before .before .before .before .pre .0 .many-fits)
 
--- src/lib.rt:94:25
 sub-counts : tie.Need-sub-counts Inv-loop μ-loop
-sub-counts c = ?
+sub-counts c = fall-fits (turn (c .before)) (counted (c .before) true (c .if1 .taken))
 
--- src/lib.rt:94:13
 array-write-counts : tie.Need-array-write-counts Inv-loop μ-loop
-array-write-counts c = ?
+array-write-counts c = omega (arith, c .before .before .before .before .before .loop .inv .within, c .before .before .before .before .before .before .before .before .before .before .pre .0 .many-is, c .before .before .before .before .before .before .before .before .before .before .pre .0 .many-fits)
 
--- src/lib.rt:96:17
 add-uncut : tie.Need-add-uncut Inv-loop μ-loop
-add-uncut c = ?
+add-uncut c = omega (arith, fall-uncut (turn (c .before .before)) (counted (c .before .before) true (c .before .if1 .taken)))
 
--- src/lib.rt:88:5
 loop-less : tie.Need-loop-less Inv-loop μ-loop
-loop-less c = ?
+loop-less c = omega arith
 
--- src/lib.rt:88:5
 loop-again : tie.Need-loop-again Inv-loop μ-loop
-loop-again c = ?
+loop-again c = fall-last (turn (c .before .before)) (counted (c .before .before) true (c .before .if1 .taken)) (c .if2 .taken)
 
--- src/lib.rt:88:5
 loop-less-2 : tie.Need-loop-less-2 Inv-loop μ-loop
-loop-less-2 c = ?
+loop-less-2 c = omega arith
 
--- src/lib.rt:88:5
 loop-again-2 : tie.Need-loop-again-2 Inv-loop μ-loop
-loop-again-2 c = ?
+loop-again-2 c = fall-more (turn (c .before .before)) (counted (c .before .before) true (c .before .if1 .taken)) (c .if2 .left)
 
--- src/lib.rt:88:5
 loop-less-3 : tie.Need-loop-less-3 Inv-loop μ-loop
-loop-less-3 c = ?
+loop-less-3 c = omega arith
 
--- src/lib.rt:88:5
 loop-again-3 : tie.Need-loop-again-3 Inv-loop μ-loop
-loop-again-3 c = ?
+loop-again-3 c = move-past (turn (c .before)) (omega (arith, counted (c .before) false (c .if1 .left)))
 
--- src/lib.rt:102:20
 lifted-requires : tie.Need-lifted-requires Inv-loop μ-loop
-lifted-requires c κs = ?
+lifted-requires c κs = (omega (arith, c .before .before .before .before .before .before .before .pre .0 .count-fits, c .before .before .before .before .before .before .before .pre .1 .1 .1 .0 .1), c .before .before .before .before .before .before .before .pre .1 .1 .1 .1)
 
--- src/lib.rt:74:1
 returns : tie.Need-returns Inv-loop μ-loop
-returns c = ?
+returns c =
+    let a = c .before .before .before .before .before .before .before .before .args in
+    let p = c .before .before .before .before .before .before .before .before .pre in
+    let n = nestIn (a .t1) in
+    let v = valid-is n (p .1 .0) in
+    let l = c .before .before .before .loop in
+    let d = move-done n (barriers (a .s)) (without (a .g) (barriers (a .s))) (l .i) (l .counts) (l .uncut) (c .before .before .loop-test .left) (l .inv) in
+    lift-says n (a .g) (a .s) (p .1 .1 .0) (v .few-points) (p .1 .1 .1 .0 .0) (inside-of (p .0) (p .1 .1 .1 .0 .1)) (p .1 .1 .1 .1)
+    (record { placement = c .lifted .result; counts = l .counts; uncut = l .uncut }) (c .lifted .ensures) (d .0) (d .1)
 
 pub lift-spec : {M : Type 1} → statement M
 lift-spec =
