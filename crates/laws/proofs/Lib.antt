@@ -6,3 +6,5 @@ pub mod Choices
 pub mod Members
 pub mod Implies
 pub mod Connectives
+pub mod Copies
+pub mod Xor

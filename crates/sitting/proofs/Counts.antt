@@ -1,20 +1,21 @@
 -- Laws of the fresh counts: a gap more adds one where the dependence has it.
 -- Main statements: `count-with`, `count-at-with`, `zero-uncut`, `count-short`, `count-at`, `count-beyond`,
--- `uncut-split`, `none-uncut`.
+-- `uncut-take`, `uncut-drop`, `none-uncut`, `correct-by-count`, `count-of-correct`.
 use mathlib.Core.Path.{_≡_, refl, sym, ap, _∙_}
-use mathlib.Core.Bool.{Bool, true, false, _||_, not}
+use mathlib.Core.Bool.{Bool, true, false, _&&_, _||_, not}
 use mathlib.Core.List.{List, [], _∷_, _++_}
 use mathlib.Core.Logic.{_⊎_, inl, inr, ⊎-elim}
 use Prim.Native.Nat.{ℕ, zero, suc, _+_, _≤_, _<_}
 use native.Mathlib.Omega.{arith}
 use lib.Dec.{eqb, ltb}
 use lib.ListN.{length, take, drop}
-use borrow.Author.Tests.{ne-eqb}
+use borrow.Author.Tests.{eqb-true, eq-eqb, ne-eqb}
 use Rattle.laws.specs.Choice.{pick}
 use Rattle.laws.specs.Bits.{one}
-use Rattle.nests.specs.Nests.{Dep}
+use Rattle.laws.proofs.Tests.{and-intro, and-true}
+use Rattle.nests.specs.Nests.{Dep, Nest}
 use Rattle.nests.specs.Gaps.{hasGap}
-use Rattle.placements.specs.Placements.{cuts}
+use Rattle.placements.specs.Placements.{cuts, uncutFrom, uncut, areGaps, isCorrect}
 use Rattle.sitting.specs.GapLists.{withGap, without}
 use Rattle.sitting.specs.Counts.{cutCount, countAt, hasGapAt, uncutCount}
 
@@ -118,3 +119,41 @@ module _ (ps : List ℕ) where
       go : (t : Bool) → uncutCount ps xs gs ≤ length xs → one t + uncutCount ps xs gs ≤ suc (length xs)
       go true h = omega arith
       go false h = omega arith
+
+  -- ---- of a correct placement
+
+  none-first : (i : ℕ) (ds : List Dep) (gs : List ℕ) → uncutCount ps ds gs ≡ 0 → uncutFrom i ps ds gs ≡ 0
+  none-first i [] gs h = refl
+  none-first i (e ∷ es) gs h = go (cuts ps e gs) h (none-first (suc i) es gs)
+    where
+      go
+          : (t : Bool)
+          → one (not t) + uncutCount ps es gs ≡ 0
+          → (uncutCount ps es gs ≡ 0 → uncutFrom (suc i) ps es gs ≡ 0)
+          → pick t (uncutFrom (suc i) ps es gs) (suc i) ≡ 0
+      go true q rest = rest (omega arith)
+      go false q rest = absurd (omega arith)
+
+  first-none : (i : ℕ) (ds : List Dep) (gs : List ℕ) → uncutFrom i ps ds gs ≡ 0 → uncutCount ps ds gs ≡ 0
+  first-none i [] gs h = refl
+  first-none i (e ∷ es) gs h = go (cuts ps e gs) h (first-none (suc i) es gs)
+    where
+      go
+          : (t : Bool)
+          → pick t (uncutFrom (suc i) ps es gs) (suc i) ≡ 0
+          → (uncutFrom (suc i) ps es gs ≡ 0 → uncutCount ps es gs ≡ 0)
+          → one (not t) + uncutCount ps es gs ≡ 0
+      go true q rest = omega (arith, rest q)
+      go false q rest = absurd (omega arith)
+
+-- none uncut is correct
+pub correct-by-count
+    : (n : Nest) (gs : List ℕ) → areGaps n gs ≡ true → uncutCount (n .points) (n .deps) gs ≡ 0 → isCorrect n gs ≡ true
+correct-by-count n gs h z =
+    and-intro h (eq-eqb (uncut n gs) 0 (none-first (n .points) 0 (n .deps) gs z))
+
+pub count-of-correct
+    : (n : Nest) (gs : List ℕ) → isCorrect n gs ≡ true → uncutCount (n .points) (n .deps) gs ≡ 0
+count-of-correct n gs h =
+    first-none (n .points) 0 (n .deps) gs
+    (eqb-true (uncut n gs) 0 (and-true (areGaps n gs) (eqb (uncut n gs) 0) h .1))

@@ -1,7 +1,8 @@
 -- Rising lists of gaps with one gap more or one less: putting and lifting undo each other.
--- Main statements: `in-with`, `rising-with`, `rising-without`, `without-with`, `with-without`, `rising-short`.
+-- Main statements: `in-with`, `rising-with`, `in-without`, `rising-without`, `without-with`, `with-without`,
+-- `rising-short`.
 use mathlib.Core.Path.{_≡_, refl, sym, ap, _∙_}
-use mathlib.Core.Bool.{Bool, true, false, _||_}
+use mathlib.Core.Bool.{Bool, true, false, _&&_, _||_, not}
 use mathlib.Core.List.{List, [], _∷_}
 use mathlib.Core.Logic.{_⊎_, inl, inr, ⊎-elim}
 use Prim.Native.Nat.{ℕ, suc, _+_, _≤_, _<_}
@@ -10,7 +11,8 @@ use lib.Dec.{eqb, ltb}
 use lib.ListN.{length}
 use borrow.Author.Tests.{eqb-true, eqb-false, eq-eqb, ne-eqb, lt-ltb, le-ltb, ltb-true, ltb-false}
 use Rattle.laws.specs.Choice.{pick, isIn}
-use Rattle.laws.proofs.Tests.{or-false, never, never-both}
+use Rattle.laws.proofs.Tests.{or-false, never}
+use Rattle.laws.proofs.Connectives.{and-off}
 use Rattle.placements.specs.Placements.{areGapsFrom}
 use Rattle.placements.proofs.Rising.{Rises, rises, rising-in, rising-out}
 use Rattle.sitting.specs.GapLists.{withGap, without}
@@ -82,6 +84,39 @@ rising-without last n g (x ∷ xs) h = go (eqb g x) (rises last n x xs h) (risin
         → areGapsFrom last n (pick t xs (x ∷ without g xs)) ≡ true
     go true r rest = rising-lower last x n xs (omega (arith, r .above)) (r .rest)
     go false r rest = rw (lt-ltb last x (r .above), lt-ltb x n (r .below)) (rest (r .rest))
+
+pub in-without
+    : (last n g i : ℕ) (gs : List ℕ)
+    → areGapsFrom last n gs ≡ true
+    → isIn i (without g gs) ≡ (not (eqb i g) && isIn i gs)
+in-without last n g i [] h = sym (and-off (not (eqb i g)))
+in-without last n g i (x ∷ xs) h = go (eqb g x) refl (rises last n x xs h) (in-without x n g i xs)
+  where
+    -- what is lifted stood only in front
+    front : x ≡ g → areGapsFrom x n xs ≡ true → (t : Bool) → eqb i g ≡ t → isIn i xs ≡ (not t && (t || isIn i xs))
+    front e r true q = let z : i ≡ g = eqb-true i g q in rising-out x n xs i r (omega arith)
+    front e r false q = refl
+
+    -- another gap stays in front
+    stays : (s t : Bool) → (s ≡ true → t ≡ false) → (s || (not t && isIn i xs)) ≡ (not t && (s || isIn i xs))
+    stays true true f = never (sym (f refl))
+    stays true false f = refl
+    stays false true f = refl
+    stays false false f = refl
+
+    go
+        : (b : Bool)
+        → eqb g x ≡ b
+        → Rises last n x xs
+        → (areGapsFrom x n xs ≡ true → isIn i (without g xs) ≡ (not (eqb i g) && isIn i xs))
+        → isIn i (pick b xs (x ∷ without g xs)) ≡ (not (eqb i g) && (eqb i x || isIn i xs))
+    go true e r rest =
+        let z : x ≡ g = sym (eqb-true g x e) in
+        rw z (front z (r .rest) (eqb i g) refl)
+    go false e r rest =
+        rw (rest (r .rest))
+        (stays (eqb i x) (eqb i g)
+        (λ p. let z : i ≡ x = eqb-true i x p in ne-eqb i g (λ q. eqb-false g x e (sym q ∙ z))))
 
 -- ---- each undoes the other
 

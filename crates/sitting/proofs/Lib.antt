@@ -1,7 +1,5 @@
 -- Laws of sittings: gap lists, counts, loops around a gap, what a move keeps.
-pub mod Copies
 pub mod GapLists
-pub mod Xor
 pub mod Words
 pub mod Counts
 pub mod Around

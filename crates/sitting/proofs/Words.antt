@@ -19,7 +19,7 @@ use Rattle.placements.specs.Words.{GAPS, holds, kept, gapsOf, gapsIn}
 use Rattle.placements.proofs.Words.{gapsOf-same, in-gaps}
 use Rattle.sitting.specs.GapLists.{withGap, without}
 use Rattle.sitting.proofs.GapLists.{without-with}
-use Rattle.sitting.proofs.Xor.{bit-xor}
+use Rattle.laws.proofs.Xor.{bit-xor}
 
 -- ---- lists
 

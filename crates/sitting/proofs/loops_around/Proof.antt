@@ -1,6 +1,6 @@
 use mathlib.Core.Path.{refl}
 use mathlib.Core.Bool.{false}
-use Rattle.sitting.proofs.Copies.{copies, copies-at}
+use Rattle.laws.proofs.Copies.{copies, copies-at}
 use native.Mathlib.Omega.{arith}
 use Rattle.sitting.proofs.Around.{Walked, walk-start, walk-around, walk-over-do, walk-over-end, walk-over-other, walk-done}
 use Rattle.sitting.proofs.loops_around.Statement.{statement}

@@ -1,7 +1,7 @@
 -- `Sitting::empty` meets its contract: an empty placement, an array of zeros.
 use borrow.Author.Needs.{needs}
 use Rattle.placements.proofs.Words.{gaps-none}
-use Rattle.sitting.proofs.Copies.{copies, copies-at}
+use Rattle.laws.proofs.Copies.{copies, copies-at}
 use Rattle.sitting.proofs.Sitting.empty.Statement.{statement}
 use Rattle.sitting.proofs.Sitting.empty.Tie as tie
 use mathlib.Core.Path.{refl}
