@@ -1,16 +1,16 @@
 -- Laws of the ring: a move is written where none of the latest 63 stands.
 -- Main statements: `moves-many`, `back-set`, `push-more`, `push-full`, `back-first`, `back-rest`.
 use mathlib.Core.Path.{_≡_, refl, sym, ap, _∙_}
-use mathlib.Core.List.{List, [], _∷_}
+use mathlib.Core.List.{List, _∷_}
 use mathlib.Core.Logic.{_⊎_, inl, inr}
 use mathlib.Core.Bool.{false}
 use Prim.Native.Nat.{ℕ, zero, suc, _+_, _-_, _≤_, _<_}
 use native.Mathlib.Omega.{arith}
-use lib.ListN.{length, getD, set, take, drop}
+use lib.ListN.{length, set, take, drop}
 use lib.Seq.{getD-set-same, getD-set-other, take-all}
 use Rattle.moves.specs.declared.Move as DM
 use Rattle.moves.specs.declared.Moves as DR
-use Rattle.moves.specs.Ring.{KEPT, before, moveAt, backFrom, movesIn, IsRing}
+use Rattle.moves.specs.Ring.{KEPT, before, moveAt, backFrom, movesIn}
 
 -- as many as asked for
 pub back-length : (ring : List DM.Move) (k i : ℕ) → length (backFrom ring k i) ≡ k

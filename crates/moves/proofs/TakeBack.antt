@@ -4,12 +4,12 @@
 -- `history-back`, `history-undone`.
 use mathlib.Core.Path.{_≡_, refl, sym, ap, _∙_}
 use mathlib.Core.List.{List, [], _∷_}
-use Prim.Native.Nat.{ℕ, zero, suc, _+_, _-_, _≤_, _<_}
+use Prim.Native.Nat.{ℕ, zero, suc, _+_, _-_, _≤_}
 use native.Mathlib.Omega.{arith}
 use lib.ListN.{length, take, drop, length-take, drop-of-length-le}
-use lib.Seq.{take-all, take-take, take-nil, drop-nil, length-take-le}
+use lib.Seq.{take-all, take-take, drop-nil, length-take-le}
 use Rattle.moves.specs.TakeBack.{Game, Play, play, moved, backTo, takenBack, allMoved, allTaken, AllFit}
-use Rattle.moves.specs.TakeBack.{Came, History, onto}
+use Rattle.moves.specs.TakeBack.{History, onto}
 
 -- ---- lists
 

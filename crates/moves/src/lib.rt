@@ -25,10 +25,7 @@ impl Moves {
         ensures { λ r. ⌜ EmptySays r ⌝ }
     {
         Moves {
-            ring: [Move {
-                gap: 0,
-                put: false,
-            }; Moves::KEPT],
+            ring: [Move { gap: 0, put: false }; Moves::KEPT],
             head: 0,
             many: 0,
         }

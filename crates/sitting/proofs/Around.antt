@@ -2,17 +2,17 @@
 -- Main statements: `Walked`, what a turn keeps; `walk-start`, `walk-around`, `walk-over-do`, `walk-over-end`,
 -- `walk-over-other`, `walk-done`; `line-has`, `line-before`, `ring-around`, `ring-within`, `ring-front`, `ring-out`.
 use mathlib.Core.Path.{_≡_, refl, sym, ap, _∙_}
-use mathlib.Core.Bool.{Bool, true, false, _&&_, _||_}
+use mathlib.Core.Bool.{Bool, true, false, _&&_}
 use mathlib.Core.List.{List}
-use mathlib.Core.Logic.{_⊎_, inl, inr, ⊎-elim}
+use mathlib.Core.Logic.{⊎-elim}
 use Prim.Native.Nat.{ℕ, zero, suc, _+_, _-_, _≤_, _<_}
 use native.Mathlib.Omega.{arith}
-use lib.Dec.{eqb, ltb, leb}
+use lib.Dec.{ltb, leb}
 use lib.ListN.{length, getD, set, length-set}
 use lib.Seq.{getD-set-same, getD-set-other}
-use borrow.Author.Tests.{eq-eqb, ne-eqb, lt-ltb, le-ltb, le-leb, lt-leb, leb-true, ltb-true}
+use borrow.Author.Tests.{eq-eqb, ne-eqb, lt-ltb, le-ltb, le-leb, lt-leb, leb-true}
 use Rattle.laws.specs.Choice.{between}
-use Rattle.laws.proofs.Tests.{le-or, lt-by, false-by, and-true, and-intro, or-left, or-right, never, test}
+use Rattle.laws.proofs.Tests.{le-or, false-by, and-true, and-intro, or-right, never, test}
 use Rattle.laws.proofs.Connectives.{and-off, or-off}
 use Rattle.nests.specs.Kinds.{DO, ENDDO, INDEPENDENT, POINTS}
 use Rattle.nests.specs.Nests.{Dep}

@@ -1,11 +1,10 @@
 -- Laws of the fresh counts: a gap more adds one where the dependence has it.
 -- Main statements: `count-with`, `count-at-with`, `zero-uncut`, `count-short`, `count-at`, `count-beyond`,
 -- `uncut-take`, `uncut-drop`, `none-uncut`, `correct-by-count`, `count-of-correct`.
-use mathlib.Core.Path.{_≡_, refl, sym, ap, _∙_}
-use mathlib.Core.Bool.{Bool, true, false, _&&_, _||_, not}
-use mathlib.Core.List.{List, [], _∷_, _++_}
-use mathlib.Core.Logic.{_⊎_, inl, inr, ⊎-elim}
-use Prim.Native.Nat.{ℕ, zero, suc, _+_, _≤_, _<_}
+use mathlib.Core.Path.{_≡_, refl}
+use mathlib.Core.Bool.{Bool, true, false, _||_, not}
+use mathlib.Core.List.{List, [], _∷_}
+use Prim.Native.Nat.{ℕ, zero, suc, _+_, _≤_}
 use native.Mathlib.Omega.{arith}
 use lib.Dec.{eqb, ltb}
 use lib.ListN.{length, take, drop}
@@ -16,7 +15,7 @@ use Rattle.laws.proofs.Tests.{and-intro, and-true}
 use Rattle.nests.specs.Nests.{Dep, Nest}
 use Rattle.nests.specs.Gaps.{hasGap}
 use Rattle.placements.specs.Placements.{cuts, uncutFrom, uncut, areGaps, isCorrect}
-use Rattle.sitting.specs.GapLists.{withGap, without}
+use Rattle.sitting.specs.GapLists.{withGap}
 use Rattle.sitting.specs.Counts.{cutCount, countAt, hasGapAt, uncutCount}
 
 -- ---- of one dependence

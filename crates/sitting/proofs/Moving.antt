@@ -3,10 +3,9 @@
 -- `rise-fits`, `rise-uncut`, `rise-first`, `rise-more`; where it falls, `fall-fits`, `fall-uncut`, `fall-last`,
 -- `fall-more`.
 use mathlib.Core.Path.{_≡_, refl, sym, ap, _∙_}
-use mathlib.Core.Bool.{Bool, true, false, not}
-use mathlib.Core.List.{List, [], _∷_}
-use mathlib.Core.Logic.{_⊎_, inl, inr, ⊎-elim}
-use Prim.Native.Nat.{ℕ, zero, suc, _+_, _-_, _≤_, _<_}
+use mathlib.Core.List.{List, _∷_}
+use mathlib.Core.Logic.{⊎-elim}
+use Prim.Native.Nat.{ℕ, suc, _+_, _-_, _≤_, _<_}
 use native.Mathlib.Omega.{arith}
 use lib.Dec.{eqb}
 use lib.ListN.{length, getD, set, take, drop, length-set, length-drop}
@@ -125,90 +124,90 @@ pub record Turn (n : Nest) (before after : List ℕ) (i : ℕ) (counts : List �
   pub here : drop (i - 1) (n .deps) ≡ e ∷ drop (suc (i - 1)) (n .deps)
 
 module _
-  {n : Nest} {before after : List ℕ} {i : ℕ} {counts : List ℕ} {uncut : ℕ} {e : Dep}
-  (t : Turn n before after i counts uncut e)
+    {n : Nest} {before after : List ℕ} {i : ℕ} {counts : List ℕ} {uncut : ℕ} {e : Dep}
+    (t : Turn n before after i counts uncut e)
   where
-  abbrev old-count : ℕ
-  old-count = cutCount (n .points) e before
+    abbrev old-count : ℕ
+    old-count = cutCount (n .points) e before
 
-  abbrev new-count : ℕ
-  new-count = cutCount (n .points) e after
+    abbrev new-count : ℕ
+    new-count = cutCount (n .points) e after
 
-  turn : Moving n before after (suc (i - 1)) counts uncut
-  turn = let z : suc (i - 1) ≡ i = omega (arith, t .some) in rw z (t .moving)
+    turn : Moving n before after (suc (i - 1)) counts uncut
+    turn = let z : suc (i - 1) ≡ i = omega (arith, t .some) in rw z (t .moving)
 
-  kept-is : getD counts (i - 1) 0 ≡ old-count
-  kept-is = kept-now n before after (i - 1) counts uncut turn e (t .here)
+    kept-is : getD counts (i - 1) 0 ≡ old-count
+    kept-is = kept-now n before after (i - 1) counts uncut turn e (t .here)
 
-  inside : i - 1 < DEPENDENCES
-  inside = omega (arith, t .some, t .few, t .moving .within)
+    inside : i - 1 < DEPENDENCES
+    inside = omega (arith, t .some, t .few, t .moving .within)
 
-  -- a dependence whose count stays
-  pub move-past : new-count ≡ old-count → Moving n before after (i - 1) counts uncut
-  move-past = past n before after (i - 1) counts uncut turn e (t .here)
+    -- a dependence whose count stays
+    pub move-past : new-count ≡ old-count → Moving n before after (i - 1) counts uncut
+    move-past = past n before after (i - 1) counts uncut turn e (t .here)
 
-  written-as
-      : (c uncut′ : ℕ)
-      → c ≡ new-count
-      → uncut′ + one (eqb old-count 0) ≡ uncut + one (eqb new-count 0)
-      → Moving n before after (i - 1) (set counts (i - 1) c) uncut′
-  written-as c uncut′ = write n before after (i - 1) counts uncut turn e (t .here) c uncut′ inside
+    written-as
+        : (c uncut′ : ℕ)
+        → c ≡ new-count
+        → uncut′ + one (eqb old-count 0) ≡ uncut + one (eqb new-count 0)
+        → Moving n before after (i - 1) (set counts (i - 1) c) uncut′
+    written-as c uncut′ = write n before after (i - 1) counts uncut turn e (t .here) c uncut′ inside
 
-  -- one more barrier cuts it
-  module _ (more : new-count ≡ old-count + 1) where
-    pub rise-fits : length after < 256 → getD counts (i - 1) 0 + 1 < 256
-    rise-fits h = omega (arith, kept-is, count-short (n .points) e after)
+    -- one more barrier cuts it
+    module _ (more : new-count ≡ old-count + 1) where
+      pub rise-fits : length after < 256 → getD counts (i - 1) 0 + 1 < 256
+      rise-fits h = omega (arith, kept-is, count-short (n .points) e after)
 
-    pub rise-uncut : getD counts (i - 1) 0 ≡ 0 → 1 ≤ uncut
-    rise-uncut z =
-        let y : one (eqb old-count 0) ≡ 1 = ap one (eq-eqb old-count 0 (sym kept-is ∙ z)) in
-        omega (arith, uncut-now n before after (i - 1) counts uncut turn e (t .here))
+      pub rise-uncut : getD counts (i - 1) 0 ≡ 0 → 1 ≤ uncut
+      rise-uncut z =
+          let y : one (eqb old-count 0) ≡ 1 = ap one (eq-eqb old-count 0 (sym kept-is ∙ z)) in
+          omega (arith, uncut-now n before after (i - 1) counts uncut turn e (t .here))
 
-    pub rise-first
-        : getD counts (i - 1) 0 ≡ 0
-        → Moving n before after (i - 1) (set counts (i - 1) (getD counts (i - 1) 0 + 1)) (uncut - 1)
-    rise-first z =
-        let y : one (eqb old-count 0) ≡ 1 = ap one (eq-eqb old-count 0 (sym kept-is ∙ z)) in
-        let x : one (eqb new-count 0) ≡ 0 = ap one (ne-eqb new-count 0 (λ w. omega arith)) in
-        written-as (getD counts (i - 1) 0 + 1) (uncut - 1) (omega (arith, kept-is)) (omega (arith, rise-uncut z))
+      pub rise-first
+          : getD counts (i - 1) 0 ≡ 0
+          → Moving n before after (i - 1) (set counts (i - 1) (getD counts (i - 1) 0 + 1)) (uncut - 1)
+      rise-first z =
+          let y : one (eqb old-count 0) ≡ 1 = ap one (eq-eqb old-count 0 (sym kept-is ∙ z)) in
+          let x : one (eqb new-count 0) ≡ 0 = ap one (ne-eqb new-count 0 (λ w. omega arith)) in
+          written-as (getD counts (i - 1) 0 + 1) (uncut - 1) (omega (arith, kept-is)) (omega (arith, rise-uncut z))
 
-    pub rise-more
-        : (getD counts (i - 1) 0 ≡ 0 → ⊥)
-        → Moving n before after (i - 1) (set counts (i - 1) (getD counts (i - 1) 0 + 1)) uncut
-    rise-more z =
-        let y : one (eqb old-count 0) ≡ 0 = ap one (ne-eqb old-count 0 (λ w. z (kept-is ∙ w))) in
-        let x : one (eqb new-count 0) ≡ 0 = ap one (ne-eqb new-count 0 (λ w. omega arith)) in
-        written-as (getD counts (i - 1) 0 + 1) uncut (omega (arith, kept-is)) (omega arith)
+      pub rise-more
+          : (getD counts (i - 1) 0 ≡ 0 → ⊥)
+          → Moving n before after (i - 1) (set counts (i - 1) (getD counts (i - 1) 0 + 1)) uncut
+      rise-more z =
+          let y : one (eqb old-count 0) ≡ 0 = ap one (ne-eqb old-count 0 (λ w. z (kept-is ∙ w))) in
+          let x : one (eqb new-count 0) ≡ 0 = ap one (ne-eqb new-count 0 (λ w. omega arith)) in
+          written-as (getD counts (i - 1) 0 + 1) uncut (omega (arith, kept-is)) (omega arith)
 
-  -- one barrier less cuts it
-  module _ (less : old-count ≡ new-count + 1) where
-    pub fall-fits : 1 ≤ getD counts (i - 1) 0
-    fall-fits = omega (arith, kept-is)
+    -- one barrier less cuts it
+    module _ (less : old-count ≡ new-count + 1) where
+      pub fall-fits : 1 ≤ getD counts (i - 1) 0
+      fall-fits = omega (arith, kept-is)
 
-    pub fall-uncut : uncut ≤ DEPENDENCES
-    fall-uncut =
-        omega (
-          arith,
-          t .moving .uncut-is,
-          uncut-few (n .points) (take i (n .deps)) before,
-          uncut-few (n .points) (drop i (n .deps)) after,
-          length-take-le i (n .deps) (t .moving .within),
-          length-drop i (n .deps),
-          t .few,
-        )
+      pub fall-uncut : uncut ≤ DEPENDENCES
+      fall-uncut =
+          omega (
+            arith,
+            t .moving .uncut-is,
+            uncut-few (n .points) (take i (n .deps)) before,
+            uncut-few (n .points) (drop i (n .deps)) after,
+            length-take-le i (n .deps) (t .moving .within),
+            length-drop i (n .deps),
+            t .few,
+          )
 
-    pub fall-last
-        : getD counts (i - 1) 0 ≡ 1
-        → Moving n before after (i - 1) (set counts (i - 1) (getD counts (i - 1) 0 - 1)) (uncut + 1)
-    fall-last z =
-        let y : one (eqb old-count 0) ≡ 0 = ap one (ne-eqb old-count 0 (λ w. omega arith)) in
-        let x : one (eqb new-count 0) ≡ 1 = ap one (eq-eqb new-count 0 (omega (arith, kept-is))) in
-        written-as (getD counts (i - 1) 0 - 1) (uncut + 1) (omega (arith, kept-is)) (omega arith)
+      pub fall-last
+          : getD counts (i - 1) 0 ≡ 1
+          → Moving n before after (i - 1) (set counts (i - 1) (getD counts (i - 1) 0 - 1)) (uncut + 1)
+      fall-last z =
+          let y : one (eqb old-count 0) ≡ 0 = ap one (ne-eqb old-count 0 (λ w. omega arith)) in
+          let x : one (eqb new-count 0) ≡ 1 = ap one (eq-eqb new-count 0 (omega (arith, kept-is))) in
+          written-as (getD counts (i - 1) 0 - 1) (uncut + 1) (omega (arith, kept-is)) (omega arith)
 
-    pub fall-more
-        : (getD counts (i - 1) 0 ≡ 1 → ⊥)
-        → Moving n before after (i - 1) (set counts (i - 1) (getD counts (i - 1) 0 - 1)) uncut
-    fall-more z =
-        let y : one (eqb old-count 0) ≡ 0 = ap one (ne-eqb old-count 0 (λ w. omega arith)) in
-        let x : one (eqb new-count 0) ≡ 0 = ap one (ne-eqb new-count 0 (λ w. z (omega (arith, kept-is)))) in
-        written-as (getD counts (i - 1) 0 - 1) uncut (omega (arith, kept-is)) (omega arith)
+      pub fall-more
+          : (getD counts (i - 1) 0 ≡ 1 → ⊥)
+          → Moving n before after (i - 1) (set counts (i - 1) (getD counts (i - 1) 0 - 1)) uncut
+      fall-more z =
+          let y : one (eqb old-count 0) ≡ 0 = ap one (ne-eqb old-count 0 (λ w. omega arith)) in
+          let x : one (eqb new-count 0) ≡ 0 = ap one (ne-eqb new-count 0 (λ w. z (omega (arith, kept-is)))) in
+          written-as (getD counts (i - 1) 0 - 1) uncut (omega (arith, kept-is)) (omega arith)

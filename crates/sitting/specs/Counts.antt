@@ -4,7 +4,7 @@ use mathlib.Core.Bool.{Bool, false, not}
 use mathlib.Core.List.{List, [], _∷_}
 use Prim.Native.Nat.{ℕ, zero, suc, _+_}
 use Rattle.laws.specs.Bits.{one}
-use Rattle.nests.specs.Nests.{Dep, Nest}
+use Rattle.nests.specs.Nests.{Dep}
 use Rattle.nests.specs.Gaps.{hasGap}
 use Rattle.placements.specs.Placements.{cuts}
 

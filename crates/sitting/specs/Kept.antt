@@ -1,13 +1,16 @@
 -- What a sitting keeps, and what the moves make of it.
--- Main definitions: `gapsOf`, `Kept`, `EmptySays`, `PutSays`, `LiftSays`.
+-- Main definitions: `barriers`, `Kept`, `Ready`, `EmptySays`, `PutSays`, `LiftSays`.
 use mathlib.Core.Path.{_≡_}
 use mathlib.Core.Bool.{true, _&&_, _||_, not}
 use mathlib.Core.List.{List, []}
-use Prim.Native.Nat.{ℕ, _+_}
+use Prim.Native.Nat.{ℕ, _+_, _<_}
 use lib.Dec.{eqb}
 use lib.ListN.{getD}
 use Rattle.laws.specs.Bits.{one}
+use Rattle.nests.specs.declared.Nest as DN
 use Rattle.nests.specs.Nests.{Nest}
+use Rattle.nests.specs.Valid.{isValid}
+use Rattle.nests.specs.Stored.{nestIn, IsCounted}
 use Rattle.placements.specs.Placements.{areGaps}
 use Rattle.placements.specs.Words.{holds, gapsIn}
 use Rattle.sitting.specs.declared.Sitting as DS
@@ -24,6 +27,14 @@ pub record Kept (n : Nest) (s : DS.Sitting) : Type 0 where
   pub gaps-fit : areGaps n (barriers s) ≡ true
   pub counts-are : (i : ℕ) → getD (s .counts) i 0 ≡ countAt (n .points) (n .deps) (barriers s) i
   pub uncut-is : s .uncut ≡ uncutCount (n .points) (n .deps) (barriers s)
+
+-- what a move of gap g asks of the nest and the sitting
+pub record Ready (nest : DN.Nest) (s : DS.Sitting) (g : ℕ) : Type 0 where
+  pub counted : IsCounted nest
+  pub valid : isValid (nestIn nest) ≡ true
+  pub kept : Kept (nestIn nest) s
+  pub first : 0 < g
+  pub inside : g < nest .count
 
 -- no barrier, no cut, `many` uncut
 pub record EmptySays (many : ℕ) (r : DS.Sitting) : Type 0 where

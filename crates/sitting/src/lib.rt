@@ -3,16 +3,16 @@ use nests::Dependence;
 use nests::Nest;
 use placements::Placement;
 ghost use mathlib.Core.Path.{_≡_};
-ghost use mathlib.Core.Bool.{true, false, _||_, _&&_, not};
+ghost use mathlib.Core.Bool.{true, false, _&&_, not};
 ghost use Prim.Native.Nat.{ℕ, _<_, _≤_};
 ghost use lib.Dec.{eqb};
 ghost use lib.ListN.{length};
 ghost use Rattle.nests.specs.Kinds.{POINTS};
-ghost use Rattle.nests.specs.Valid.{isShape, isValid};
-ghost use Rattle.nests.specs.Stored.{nestIn, IsCounted};
+ghost use Rattle.nests.specs.Valid.{isShape};
+ghost use Rattle.nests.specs.Stored.{nestIn};
 ghost use Rattle.placements.specs.Words.{GAPS, holds};
 ghost use Rattle.sitting.specs.Around.{AreAround, GapSays};
-ghost use Rattle.sitting.specs.Kept.{EmptySays, Kept, PutSays, LiftSays};
+ghost use Rattle.sitting.specs.Kept.{Ready, EmptySays, PutSays, LiftSays};
 
 // The placement; for each dependence how many of its barriers cut it; how many dependences none cuts. A dependence has
 // at most the gaps 1 to 255, so that its count fits a byte.
@@ -37,10 +37,7 @@ impl Sitting {
 
 // The sitting with a barrier at gap g as well.
 pub fn put(nest: Nest, s: Sitting, g: usize) -> Sitting
-    requires { ⌜ IsCounted nest ⌝ }
-    requires { ⌜ isValid (nestIn nest) ≡ true ⌝ }
-    requires { ⌜ Kept (nestIn nest) s ⌝ }
-    requires { ⌜ (0 < g) × (g < nest .count) ⌝ }
+    requires { ⌜ Ready nest s g ⌝ }
     requires { ⌜ holds (s .placement .words) g ≡ false ⌝ }
     ensures { λ r. ⌜ PutSays (nestIn nest) g s r ⌝ }
 {
@@ -72,10 +69,7 @@ pub fn put(nest: Nest, s: Sitting, g: usize) -> Sitting
 
 // The sitting without the barrier at gap g.
 pub fn lift(nest: Nest, s: Sitting, g: usize) -> Sitting
-    requires { ⌜ IsCounted nest ⌝ }
-    requires { ⌜ isValid (nestIn nest) ≡ true ⌝ }
-    requires { ⌜ Kept (nestIn nest) s ⌝ }
-    requires { ⌜ (0 < g) × (g < nest .count) ⌝ }
+    requires { ⌜ Ready nest s g ⌝ }
     requires { ⌜ holds (s .placement .words) g ≡ true ⌝ }
     ensures { λ r. ⌜ LiftSays (nestIn nest) g s r ⌝ }
 {

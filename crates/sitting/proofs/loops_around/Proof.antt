@@ -1,12 +1,12 @@
+-- `loops_around` meets its contract. The invariant: back to i the table is filled (`Walked`). The measure is i.
 use mathlib.Core.Path.{refl}
 use mathlib.Core.Bool.{false}
-use Rattle.laws.proofs.Copies.{copies, copies-at}
 use native.Mathlib.Omega.{arith}
-use Rattle.sitting.proofs.Around.{Walked, walk-start, walk-around, walk-over-do, walk-over-end, walk-over-other, walk-done}
+use Rattle.laws.proofs.Copies.{copies, copies-at}
+use Rattle.sitting.proofs.Around.{Walked, walk-start, walk-around, walk-done}
+use Rattle.sitting.proofs.Around.{walk-over-do, walk-over-end, walk-over-other}
 use Rattle.sitting.proofs.loops_around.Statement.{statement}
 use Rattle.sitting.proofs.loops_around.Tie as tie
-use Rattle.sitting.proofs.loops_around.Reads as reads
-use Rattle.sitting.proofs.loops_around.Lts as lts
 
 abbrev Inv-loop : tie.InvT-loop
 Inv-loop points g around₀ depth₀ i₀ around depth i = Walked points g depth i around
@@ -14,29 +14,23 @@ Inv-loop points g around₀ depth₀ i₀ around depth i = Walked points g depth
 abbrev μ-loop : tie.MeasureT-loop
 μ-loop points g around₀ depth₀ i₀ around depth i = i
 
--- src/lib.rt:117:5
 loop-holds : tie.Need-loop-holds Inv-loop μ-loop
 unfolding copies
 loop-holds c =
     walk-start (c .args .points .now) (c .args .g) (copies 256 false) refl (copies-at 256 false)
 
--- src/lib.rt:118:9
 sub-i : tie.Need-sub-i Inv-loop μ-loop
 sub-i c = omega arith
 
--- src/lib.rt:119:17
 shared-slice-read-p : tie.Need-shared-slice-read-p Inv-loop μ-loop
 shared-slice-read-p c = omega arith
 
--- src/lib.rt:122:17
 array-write-around : tie.Need-array-write-around Inv-loop μ-loop
 array-write-around c = omega arith
 
--- src/lib.rt:117:5
 loop-less : tie.Need-loop-less Inv-loop μ-loop
 loop-less c = omega arith
 
--- src/lib.rt:117:5
 loop-again : tie.Need-loop-again Inv-loop μ-loop
 loop-again c =
     let b3 = c .before .before .before in
@@ -46,15 +40,12 @@ loop-again c =
     walk-around (b5 .args .points .now) (b5 .pre .0 .0) (b5 .args .g) (b5 .pre .0 .1) (b5 .pre .1 .1)
     (l .depth) (l .i) (l .around) (b3 .loop-test .taken) (l .inv) (c .before .if1 .taken) (c .if2 .taken)
 
--- src/lib.rt:124:17
 sub-depth : tie.Need-sub-depth Inv-loop μ-loop
 sub-depth c = omega arith
 
--- src/lib.rt:117:5
 loop-less-2 : tie.Need-loop-less-2 Inv-loop μ-loop
 loop-less-2 c = omega arith
 
--- src/lib.rt:117:5
 loop-again-2 : tie.Need-loop-again-2 Inv-loop μ-loop
 loop-again-2 c =
     let b3 = c .before .before .before in
@@ -64,15 +55,12 @@ loop-again-2 c =
     walk-over-do (b5 .args .points .now) (b5 .pre .0 .0) (b5 .args .g) (b5 .pre .0 .1) (b5 .pre .1 .1)
     (l .depth) (l .i) (l .around) (b3 .loop-test .taken) (l .inv) (c .before .if1 .taken) (c .if2 .left)
 
--- src/lib.rt:127:13
 add-depth : tie.Need-add-depth Inv-loop μ-loop
 add-depth c = omega arith
 
--- src/lib.rt:117:5
 loop-less-3 : tie.Need-loop-less-3 Inv-loop μ-loop
 loop-less-3 c = omega arith
 
--- src/lib.rt:117:5
 loop-again-3 : tie.Need-loop-again-3 Inv-loop μ-loop
 loop-again-3 c =
     let b3 = c .before .before .before in
@@ -82,11 +70,9 @@ loop-again-3 c =
     walk-over-end (b5 .args .points .now) (b5 .pre .0 .0) (b5 .args .g) (b5 .pre .0 .1) (b5 .pre .1 .1)
     (l .depth) (l .i) (l .around) (b3 .loop-test .taken) (l .inv) (c .if3 .taken)
 
--- src/lib.rt:117:5
 loop-less-4 : tie.Need-loop-less-4 Inv-loop μ-loop
 loop-less-4 c = omega arith
 
--- src/lib.rt:117:5
 loop-again-4 : tie.Need-loop-again-4 Inv-loop μ-loop
 loop-again-4 c =
     let b3 = c .before .before .before in
@@ -96,7 +82,6 @@ loop-again-4 c =
     walk-over-other (b5 .args .points .now) (b5 .pre .0 .0) (b5 .args .g) (b5 .pre .0 .1) (b5 .pre .1 .1)
     (l .depth) (l .i) (l .around) (b3 .loop-test .taken) (l .inv) (c .before .if1 .left) (c .if3 .left)
 
--- src/lib.rt:109:1
 returns : tie.Need-returns Inv-loop μ-loop
 returns c =
     let l = c .before .loop in

@@ -1,10 +1,10 @@
 -- `Sitting::empty` meets its contract: an empty placement, an array of zeros.
+use mathlib.Core.Path.{refl}
 use borrow.Author.Needs.{needs}
-use Rattle.placements.proofs.Words.{gaps-none}
 use Rattle.laws.proofs.Copies.{copies, copies-at}
+use Rattle.placements.proofs.Words.{gaps-none}
 use Rattle.sitting.proofs.Sitting.empty.Statement.{statement}
 use Rattle.sitting.proofs.Sitting.empty.Tie as tie
-use mathlib.Core.Path.{refl}
 
 empty-requires : tie.Need-empty-requires
 empty-requires c κs = search needs
