@@ -8,3 +8,5 @@ pub mod Stores
 pub mod Implies
 pub mod Connectives
 pub mod Ors
+pub mod Copies
+pub mod Xor
