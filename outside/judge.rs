@@ -37,8 +37,8 @@ const BARRIER: u8 = 0x21;
 const COUNT: u8 = 0x22;
 const REFUSAL: u8 = 0x2f;
 
-/// Whether a carried dependence may have s before t. Today it gets number 7.
-const FORWARD: bool = false;
+/// Whether a carried dependence may have s before t. Before request 1 it got number 7.
+const FORWARD: bool = true;
 
 /// Nests of at most so many points are searched whole; random ones mostly have SMALL points or fewer.
 const SEARCHED: usize = 15;

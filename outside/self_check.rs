@@ -44,6 +44,9 @@ fn check_cases(checks: &mut Checks) {
     let (ninth, tenth) = (nest("01 03 02 12000101"), nest("01 02"));
     checks.that("case 9", ninth.gaps(&ninth.dependences[0]) == [1, 2] && search(&ninth) == [[1], [2]]);
     checks.that("case 10", search(&tenth) == [[0; 0]] && answer_text(&tenth, &[]) == words("220000"));
+    let (ring, beside) = (nest("01 03 03 03 02 12000103"), nest(&format!("{P} 12010304")));
+    checks.that("forward over the ring, alone", search(&ring) == [[1], [2], [3], [4]] && one_loop_count(&ring) == 1);
+    checks.that("forward over the ring, beside P's", search(&beside) == [[5, 11]]);
     checks.that("case 11", judge(&standard(b""), b"2f040001\n", false).is_ok());
     checks.that("case 13, gap 13", read_placement(14, b"210d\n") == Ok(vec![13]));
     checks.that("case 13, gap 14", read_placement(14, b"210e\n") == Err(Refusal { number: 8, line: 1 }));

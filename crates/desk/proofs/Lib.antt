@@ -6,3 +6,4 @@ pub mod Answers
 pub mod Judged
 pub mod Made
 pub mod Plans
+pub mod ListCases

@@ -10,6 +10,7 @@ use lib.ListN.{length}
 use Rattle.nests.specs.Nests.{Nest}
 use Rattle.nests.specs.Valid.{isValid}
 use Rattle.nests.proofs.Cases.{paper-P, paper-Q, paper-R, paper-turn, paper-bare, paper-ring, paper-inner}
+use Rattle.nests.proofs.Cases.{paper-forward, paper-P-forward}
 use Rattle.nests.proofs.Deps.{valid-is}
 use Rattle.placements.specs.Keys.{IsKey}
 use Rattle.placements.specs.Words.{gapsOf}
@@ -37,13 +38,25 @@ pub record Computed : Type 0 where
   pub of-bare : keyOf paper-bare ≡ []
   pub of-ring : keyOf paper-ring ≡ 2 ∷ []
   pub of-inner : keyOf paper-inner ≡ 2 ∷ []
+  pub of-forward : keyOf paper-forward ≡ 1 ∷ []
+  pub of-P-forward : keyOf paper-P-forward ≡ 5 ∷ 11 ∷ []
 
 pub computed-keys : Computed
 unfolding keyOf gapsOf keyIn leastEnd reachOf limitOf hasAt Plan.keyOf tableOf tableFrom withRow noTables needOf put
     stepPlain seek free inner outer childAt stepChild next step walk sweep close value least better best childSome
     someOf costOf frontOf leftOf choiceOf layOf
 computed-keys =
-    record { of-P = refl; of-Q = refl; of-R = refl; of-turn = refl; of-bare = refl; of-ring = refl; of-inner = refl }
+    record {
+      of-P = refl;
+      of-Q = refl;
+      of-R = refl;
+      of-turn = refl;
+      of-bare = refl;
+      of-ring = refl;
+      of-inner = refl;
+      of-forward = refl;
+      of-P-forward = refl;
+    }
 
 -- a placement is a key of the paper, and all keys have its counts, in order of the loops' DO, and its number of gaps
 pub record HasKey (n : Nest) (key counts : List ℕ) : Type 0 where
@@ -94,14 +107,54 @@ ring-key = by-theorem paper-ring (2 ∷ []) (1 ∷ []) refl (computed-keys .of-r
 pub inner-key : HasKey paper-inner (2 ∷ []) (0 ∷ 1 ∷ [])
 inner-key = by-theorem paper-inner (2 ∷ []) (0 ∷ 1 ∷ []) refl (computed-keys .of-inner) refl
 
+-- forward over the ring: any gap of the loop serves, and the key is the first of them
+pub forward-key : HasKey paper-forward (1 ∷ []) (1 ∷ [])
+forward-key = by-theorem paper-forward (1 ∷ []) (1 ∷ []) refl (computed-keys .of-forward) refl
+
+-- beside P's own: the key of P serves
+pub P-forward-key : HasKey paper-P-forward (5 ∷ 11 ∷ []) (0 ∷ 1 ∷ 1 ∷ [])
+P-forward-key = by-theorem paper-P-forward (5 ∷ 11 ∷ []) (0 ∷ 1 ∷ 1 ∷ []) refl (computed-keys .of-P-forward) refl
+
 -- what the table of cases names as keys and counts
 abbrev pub HaveKeys : List Case → Type 0
 HaveKeys [] = Unit {0}
 HaveKeys (c ∷ cs) = HasKey (c .paper) (c .key) (c .counts) × HaveKeys cs
 
 pub starred-keys : HaveKeys table
-starred-keys =
-    (P-key, (P-key, (P-key, (P-key, (P-key, (Q-key, (Q-key, (R-key, (turn-key, (bare-key, (ring-key, tt)))))))))))
+starred-keys = (
+  P-key,
+  (
+    P-key,
+    (
+      P-key,
+      (
+        P-key,
+        (
+          P-key,
+          (
+            Q-key,
+            (
+              Q-key,
+              (
+                R-key,
+                (
+                  turn-key,
+                  (
+                    bare-key,
+                    (
+                      ring-key,
+                      (forward-key, (P-forward-key, tt)),
+                    ),
+                  ),
+                ),
+              ),
+            ),
+          ),
+        ),
+      ),
+    ),
+  ),
+)
 
 -- case 1: the program writes 2105, 210b, 220000, 220101, 220701 for P
 pub case-1-program

@@ -52,6 +52,14 @@ paper-ring = nest (1 ∷ 3 ∷ 2 ∷ []) (forward 1 2 ∷ carried 0 1 1 ∷ [])
 abbrev pub paper-inner : Nest
 paper-inner = nest (1 ∷ 1 ∷ 3 ∷ 2 ∷ 2 ∷ []) (carried 1 2 2 ∷ [])
 
+-- 01 03 03 03 02 with 12000103: carried, and s before t, so any gap of the loop serves
+abbrev pub paper-forward : Nest
+paper-forward = nest (1 ∷ 3 ∷ 3 ∷ 3 ∷ 2 ∷ []) (carried 0 1 3 ∷ [])
+
+-- P with 12010304 beside its own
+abbrev pub paper-P-forward : Nest
+paper-P-forward = nest (paper-P .points) (paper-P .deps ++ (carried 1 3 4 ∷ []))
+
 -- numbers listed for each number below a bound, and compared
 abbrev pub sameList : List ℕ → List ℕ → Bool
 sameList [] [] = true
@@ -82,7 +90,11 @@ deep k = replicate k DO ++ replicate k ENDDO
 -- the papers break no rule; loops 8 deep are accepted, 9 are not, nor a point after the outermost loop, nor a loop left
 -- open
 abbrev valid-papers : Bool
-valid-papers = isValid paper-P && (isValid paper-Q && (isValid paper-R && (isValid paper-turn && isValid paper-bare)))
+valid-papers =
+    isValid paper-P &&
+    (isValid paper-Q &&
+    (isValid paper-R &&
+    (isValid paper-turn && (isValid paper-bare && (isValid paper-forward && isValid paper-P-forward)))))
 
 abbrev shapes : Bool
 shapes =
@@ -99,22 +111,26 @@ loops =
     (eqb (endOf (paper-Q .points) 3) 6 &&
     sameList (eachFrom (ownerOf (paper-Q .points)) 9 1) (0 ∷ 0 ∷ 2 ∷ 3 ∷ 3 ∷ 3 ∷ 2 ∷ 2 ∷ 0 ∷ [])))
 
--- s + 1 to t; d + 1 to t and s + 1 to e; case 9: gaps 1 and 2; case 8: each two share a gap, all three none
+-- s + 1 to t; d + 1 to t and s + 1 to e, which is d + 1 to e where s is before t; case 9: gaps 1 and 2; case 8: each
+-- two share a gap, all three none
 abbrev gaps : Bool
 gaps =
     share paper-P (forward 4 9 ∷ []) (5 ∷ 6 ∷ 7 ∷ 8 ∷ 9 ∷ []) &&
     (share paper-P (carried 7 10 9 ∷ []) (8 ∷ 9 ∷ 11 ∷ 12 ∷ []) &&
+    (share paper-forward (carried 0 1 3 ∷ []) (1 ∷ 2 ∷ 3 ∷ 4 ∷ []) &&
+    (share paper-P-forward (carried 1 3 4 ∷ []) (2 ∷ 3 ∷ 4 ∷ 5 ∷ 6 ∷ []) &&
     (share paper-turn (carried 0 1 1 ∷ []) (1 ∷ 2 ∷ []) &&
     (share paper-R (forward 1 4 ∷ forward 3 6 ∷ []) (4 ∷ []) &&
     (share paper-R (forward 3 6 ∷ carried 0 5 2 ∷ []) (6 ∷ []) &&
-    (share paper-R (forward 1 4 ∷ carried 0 5 2 ∷ []) (2 ∷ []) && share paper-R (paper-R .deps) [])))))
+    (share paper-R (forward 1 4 ∷ carried 0 5 2 ∷ []) (2 ∷ []) && share paper-R (paper-R .deps) [])))))))
 
 abbrev eachFault : List Dep → List ℕ
 eachFault [] = []
 eachFault (e ∷ es) = depFault (paper-Q .points) e ∷ eachFault es
 
 -- numbers 6 and 7 of dependences on Q's points: a good one; no point 10; s an ENDDO; t a DO; d no DO; independent with
--- s at t; carried with s before t; s not inside; s at t is no fault of a carried one
+-- s at t; carried with s before t is none, nor s at t; s not inside; t not inside; s the loop's own DO; t its own ENDDO;
+-- from the one to the other
 abbrev faults : Bool
 faults =
     sameList
@@ -126,10 +142,14 @@ faults =
     carried 4 5 5 ∷
     forward 4 4 ∷
     carried 2 4 7 ∷
-    carried 3 7 4 ∷
     carried 3 5 5 ∷
+    carried 3 7 4 ∷
+    carried 3 4 7 ∷
+    carried 2 2 7 ∷
+    carried 2 4 8 ∷
+    carried 2 2 8 ∷
     []))
-    (0 ∷ 6 ∷ 6 ∷ 6 ∷ 6 ∷ 7 ∷ 7 ∷ 7 ∷ 0 ∷ [])
+    (0 ∷ 6 ∷ 6 ∷ 6 ∷ 6 ∷ 7 ∷ 0 ∷ 0 ∷ 7 ∷ 7 ∷ 7 ∷ 7 ∷ 7 ∷ [])
 
 pub worked-cases : (valid-papers && (shapes && (loops && (gaps && faults)))) ≡ true
 worked-cases = refl

@@ -1,8 +1,8 @@
 -- Dependences that are placed well: an independent one runs forward, a carried one has both points inside its loop. The
 -- order of a carried one's two points plays no part.
 -- Main definition: `Fits`. Main statements: `dep-fits`, `deps-fit`, `valid-is`, and the gaps as facts:
--- `line-gap`, `gap-of-line`, `back-gap`, `gap-before-target`, `gap-after-source`, `target-gap`.
-use mathlib.Core.Path.{_≡_}
+-- `line-gap`, `gap-of-line`, `back-gap`, `gap-before-target`, `gap-after-source`, `target-gap`, `forward-ring`.
+use mathlib.Core.Path.{_≡_, sym, _∙_}
 use mathlib.Core.Bool.{true, _&&_, _||_, not}
 use mathlib.Core.List.{List, [], _∷_}
 use mathlib.Core.Logic.{_⊎_, inl, inr, ⊎-elim}
@@ -14,7 +14,7 @@ use borrow.Author.Tests.{ltb-true, eqb-true, leb-true}
 use Rattle.laws.specs.Choice.{between}
 use Rattle.laws.specs.Members.{Among}
 use Rattle.laws.proofs.Ranges.{in-between, between-in}
-use Rattle.laws.proofs.Tests.{and-true, or-true, or-left, or-right}
+use Rattle.laws.proofs.Tests.{le-or, bool-by, and-true, or-true, or-left, or-right}
 use Rattle.nests.specs.Kinds.{STATEMENT, ENDDO, INDEPENDENT, CARRIED, POINTS, DEPENDENCES}
 use Rattle.nests.specs.Nests.{Dep, Nest}
 use Rattle.nests.specs.Loops.{isDo, endOf, inLoop}
@@ -60,9 +60,8 @@ module _ (ps : List ℕ) (e : Dep) (names : namesPoints ps e ≡ true) (right : 
 
   back-fits : e .kind ≡ CARRIED → Back ps e
   back-fits k =
-      let c : (leb (e .t) (e .s) && (inLoop ps (e .d) (e .s) && inLoop ps (e .d) (e .t))) ≡ true = rw k at right in
-      let f = and-true (leb (e .t) (e .s)) (inLoop ps (e .d) (e .s) && inLoop ps (e .d) (e .t)) c in
-      let g = and-true (inLoop ps (e .d) (e .s)) (inLoop ps (e .d) (e .t)) (f .1) in
+      let c : (inLoop ps (e .d) (e .s) && inLoop ps (e .d) (e .t)) ≡ true = rw k at right in
+      let g = and-true (inLoop ps (e .d) (e .s)) (inLoop ps (e .d) (e .t)) c in
       let s = in-loop ps (e .d) (e .s) (g .0) in
       let t = in-loop ps (e .d) (e .t) (g .1) in
       record {
@@ -143,3 +142,34 @@ gap-after-source ps e g k p q =
 pub target-gap : (ps : List ℕ) (e : Dep) → Fits ps e → hasGap ps e (e .t) ≡ true
 target-gap ps e (inl l) = gap-of-line ps e (e .t) (l .kind-is) (l .forward) (omega arith)
 target-gap ps e (inr b) = gap-before-target ps e (e .t) (b .kind-is) (b .target-after) (omega arith)
+
+-- a carried one that runs forward has every gap of its loop
+whole-loop : (ps : List ℕ) (e : Dep) → Back ps e → e .s < e .t → (g : ℕ) →
+    hasGap ps e g ≡ between (suc (e .d)) g (endOf ps (e .d))
+whole-loop ps e b f g = bool-by (hasGap ps e g) (between (suc (e .d)) g (endOf ps (e .d))) to from
+  where
+    to : hasGap ps e g ≡ true → between (suc (e .d)) g (endOf ps (e .d)) ≡ true
+    to h = ⊎-elim
+        (λ (z : (e .d < g) × (g ≤ e .t)). between-in (suc (e .d)) g (endOf ps (e .d)) (z .0)
+        (omega (arith, b .target-before)))
+        (λ (z : (e .s < g) × (g ≤ endOf ps (e .d))).
+        between-in (suc (e .d)) g (endOf ps (e .d)) (omega (arith, b .source-after)) (z .1))
+        (back-gap ps e g (b .kind-is) h)
+
+    from : between (suc (e .d)) g (endOf ps (e .d)) ≡ true → hasGap ps e g ≡ true
+    from h =
+        let y = in-between (suc (e .d)) g (endOf ps (e .d)) h in
+        ⊎-elim
+        (λ (z : g ≤ e .t). gap-before-target ps e g (b .kind-is) (y .0) z)
+        (λ (z : e .t < g). gap-after-source ps e g (b .kind-is) (omega arith) (y .1))
+        (le-or g (e .t))
+
+-- 02, job 1: of a carried dependence with s before t the gaps are all gaps from d + 1 to e
+pub forward-ring :
+    (ps : List ℕ) (e : Dep) → isDep ps e ≡ true → e .kind ≡ CARRIED → e .s < e .t → (g : ℕ) →
+    hasGap ps e g ≡ between (suc (e .d)) g (endOf ps (e .d))
+forward-ring ps e h k f g = go (dep-fits ps e h)
+  where
+    go : Fits ps e → hasGap ps e g ≡ between (suc (e .d)) g (endOf ps (e .d))
+    go (inl l) = let z : _≡_ {A = ℕ} INDEPENDENT CARRIED = sym (l .kind-is) ∙ k in absurd (omega arith)
+    go (inr b) = whole-loop ps e b f g

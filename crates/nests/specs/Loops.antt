@@ -44,8 +44,11 @@ abbrev pub ownerOf : List ℕ → ℕ → ℕ
 ownerOf ps g = ownerFrom g g ps
 
 -- 01, "The nest and its gaps": a point lies inside a loop if it is strictly between that DO and its ENDDO
+abbrev pub isInside : ℕ → ℕ → ℕ → Bool
+isInside d end p = ltb d p && ltb p end
+
 abbrev pub inLoop : List ℕ → ℕ → ℕ → Bool
-inLoop ps d p = ltb d p && ltb p (endOf ps d)
+inLoop ps d p = isInside d (endOf ps d) p
 
 -- all points are there: begun, and the outermost loop closed
 abbrev pub isClosed : List ℕ → Bool

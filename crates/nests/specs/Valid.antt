@@ -37,12 +37,13 @@ isTarget ps t = ltb t (length ps) && (eqb (getD ps t 0) STATEMENT || eqb (getD p
 abbrev pub namesPoints : List ℕ → Dep → Bool
 namesPoints ps e = isSource ps (e .s) && (isTarget ps (e .t) && (not (eqb (e .kind) CARRIED) || isDo ps (e .d)))
 
--- 01, "Numbers from the input", 7: independent with s at or after t; carried with s before t, or a point not inside L
+-- 01, "Numbers from the input", 7, as 02, job 1, leaves it: independent with s at or after t; carried with a point not
+-- inside L
 abbrev pub runsRight : List ℕ → Dep → Bool
 runsRight ps e =
     pick
     (eqb (e .kind) CARRIED)
-    (leb (e .t) (e .s) && (inLoop ps (e .d) (e .s) && inLoop ps (e .d) (e .t)))
+    (inLoop ps (e .d) (e .s) && inLoop ps (e .d) (e .t))
     (ltb (e .s) (e .t))
 
 -- 6 or 7, of a dependence of either kind; 0 for none

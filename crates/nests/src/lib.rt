@@ -4,7 +4,7 @@ ghost use mathlib.Core.Bool.{true};
 ghost use Prim.Native.Nat.{ℕ, _+_, _^_, _<_, _≤_};
 ghost use lib.ListN.{length, getD};
 ghost use Rattle.nests.specs.Kinds.{POINTS, DEPENDENCES};
-ghost use Rattle.nests.specs.Loops.{deeper, endOf, ownerOf, isDo};
+ghost use Rattle.nests.specs.Loops.{deeper, endOf, ownerOf, isDo, isInside};
 ghost use Rattle.nests.specs.Valid.{isShape, isSource, isTarget, depFault};
 ghost use Rattle.nests.specs.Stored.{depIn, IsCounted, IsEmpty, PointAdded, DependenceAdded};
 
@@ -205,6 +205,16 @@ pub fn is_target(points: &[u8], t: usize) -> bool
     false
 }
 
+// The point lies strictly between a loop's DO and its ENDDO.
+pub fn is_inside(d: usize, end: usize, p: usize) -> bool
+    ensures { λ r. ⌜ r ≡ isInside d end p ⌝ }
+{
+    if d < p {
+        return p < end;
+    }
+    false
+}
+
 // The refusal of a dependence, 6 or 7, or 0 for none.
 pub fn dep_fault(points: &[u8], e: Dependence) -> u8
     ensures { λ r. ⌜ r ≡ depFault (now (points .entry)) (depIn e) ⌝ }
@@ -219,12 +229,11 @@ pub fn dep_fault(points: &[u8], e: Dependence) -> u8
             if e.kind == CARRIED {
                 let starts = is_do(points, d);
                 if starts {
-                    if s < t {
-                        return 7;
-                    }
                     let end = end_of(points, d);
-                    if d < t {
-                        if s < end {
+                    let from_inside = is_inside(d, end, s);
+                    if from_inside {
+                        let to_inside = is_inside(d, end, t);
+                        if to_inside {
                             return 0;
                         }
                     }

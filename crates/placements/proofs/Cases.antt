@@ -13,7 +13,7 @@ use Rattle.nests.specs.Nests.{Nest}
 use Rattle.nests.specs.Loops.{isDo}
 use Rattle.nests.specs.Valid.{isValid}
 use Rattle.nests.proofs.Cases.{forward, carried, paper-P, paper-Q, paper-R, paper-turn, paper-bare, paper-ring}
-use Rattle.nests.proofs.Cases.{sameList, share}
+use Rattle.nests.proofs.Cases.{paper-forward, paper-P-forward, sameList, share}
 use Rattle.placements.specs.Placements.{isCorrect, loopCount, asGood}
 use Rattle.placements.specs.Trees.{node, bare, beside, treeOf, asGoodTree}
 use Rattle.placements.specs.Verdicts.{Verdict, Uncut, Dearer, Best, markOf}
@@ -85,6 +85,12 @@ pairs-only =
 abbrev both-gaps : Bool
 both-gaps = share paper-turn (carried 0 1 1 ∷ []) (1 ∷ 2 ∷ [])
 
+-- forward over the ring: each gap of the loop serves
+abbrev any-gap : Bool
+any-gap =
+    isCorrect paper-forward (1 ∷ []) &&
+    (isCorrect paper-forward (2 ∷ []) && (isCorrect paper-forward (3 ∷ []) && isCorrect paper-forward (4 ∷ [])))
+
 abbrev pub table : List Case
 table =
     row 1 paper-P (5 ∷ 11 ∷ []) (0 ∷ 1 ∷ 1 ∷ []) (5 ∷ 11 ∷ []) Best true ∷
@@ -99,6 +105,9 @@ table =
     row 10 paper-bare [] (0 ∷ []) [] Best true ∷
     -- beside them: the ring on which greedy cutting from the first interval end takes 1 and 2
     row 0 paper-ring (2 ∷ []) (1 ∷ []) (1 ∷ 2 ∷ []) (Dearer 0 2 1) true ∷
+    -- and 02, job 1: a carried dependence with s before t, alone and beside P's
+    row 0 paper-forward (1 ∷ []) (1 ∷ []) (4 ∷ []) Best any-gap ∷
+    row 0 paper-P-forward (5 ∷ 11 ∷ []) (0 ∷ 1 ∷ 1 ∷ []) (5 ∷ 6 ∷ 11 ∷ []) (Dearer 1 2 1) true ∷
     []
 
 -- document 01's starred cases hold of the definitions

@@ -1,6 +1,7 @@
 -- 01, "Papers with known results", as texts: P, Q, R and the short papers are read, frame by frame as given there, and
 -- what the program writes for P is computed. Nothing is used but the definitions.
--- Main statements: `P-read`, `Q-read`, `R-read`, `case-1-written`, cases 9 to 11, the limits of case 12, case 13.
+-- Main statements: `P-read`, `Q-read`, `R-read`, `case-1-written`, cases 9 to 11, the limits of case 12, case 13; of
+-- 02, job 1, `forward-read`, `P-forward-read`, `own-ends-read`.
 use mathlib.Core.Path.{_≡_, refl}
 use mathlib.Core.List.{List, [], _∷_, _++_}
 use Prim.Native.Nat.{ℕ}
@@ -88,6 +89,26 @@ pub case-9-read
     ≡ got 0 0 (nest (1 ∷ 3 ∷ 2 ∷ []) (dep CARRIED 0 1 1 ∷ []))
 unfolding readNest readLines linesOf frameOf
 case-9-read = refl
+
+-- 02, job 1: a carried dependence with s before t is accepted, alone and beside P's; from a loop's own DO to its own
+-- ENDDO is 7 as before
+pub forward-read
+    : readNest
+    (framesText
+    ((0x01 ∷ []) ∷ (0x03 ∷ []) ∷ (0x03 ∷ []) ∷ (0x03 ∷ []) ∷ (0x02 ∷ []) ∷ (0x12 ∷ 0x00 ∷ 0x01 ∷ 0x03 ∷ []) ∷ []))
+    ≡ got 0 0 (nest (1 ∷ 3 ∷ 3 ∷ 3 ∷ 2 ∷ []) (dep CARRIED 0 1 3 ∷ []))
+unfolding readNest readLines linesOf frameOf
+forward-read = refl
+
+pub P-forward-read
+    : readNest (P-lines ++ framesText ((0x12 ∷ 0x01 ∷ 0x03 ∷ 0x04 ∷ []) ∷ []))
+    ≡ got 0 0 (nest (P .points) (P .deps ++ (dep CARRIED 1 3 4 ∷ [])))
+unfolding readNest readLines linesOf frameOf
+P-forward-read = refl
+
+pub own-ends-read : readNest (P-lines ++ framesText ((0x12 ∷ 0x01 ∷ 0x01 ∷ 0x06 ∷ []) ∷ [])) ≡ got 7 21 empty
+unfolding readNest readLines linesOf frameOf
+own-ends-read = refl
 
 -- case 10: 01, 02
 pub case-10-read : readNest (framesText ((0x01 ∷ []) ∷ (0x02 ∷ []) ∷ [])) ≡ got 0 0 (nest (1 ∷ 2 ∷ []) [])

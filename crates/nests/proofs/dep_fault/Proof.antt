@@ -5,7 +5,7 @@ use native.Mathlib.Omega.{arith}
 use borrow.Author.Needs.{needs}
 use Rattle.nests.specs.Stored.{depIn}
 use Rattle.nests.proofs.Faults.{no-source, no-target, no-loop}
-use Rattle.nests.proofs.Faults.{back-before, back-inside, back-outside, line-forward, line-back}
+use Rattle.nests.proofs.Faults.{back-inside, source-outside, target-outside, line-forward, line-back}
 use Rattle.nests.proofs.dep_fault.Statement.{statement}
 use Rattle.nests.proofs.dep_fault.Tie as tie
 
@@ -27,60 +27,61 @@ is-target-requires c κs = search needs
 is-do-requires : tie.Need-is-do-requires
 is-do-requires c κs = search needs
 
+end-of-requires : tie.Need-end-of-requires
+end-of-requires c κs = search needs
+
+is-inside-requires : tie.Need-is-inside-requires
+is-inside-requires c κs = search needs
+
+is-inside-requires-2 : tie.Need-is-inside-requires-2
+is-inside-requires-2 c κs = search needs
+
 returns : tie.Need-returns
 returns c =
     let b1 = c .before in
     let b2 = b1 .before in
     let b3 = b2 .before in
-    let b5 = b3 .before .before in
+    let b4 = b3 .before in
+    let b5 = b4 .before in
     let b6 = b5 .before in
     let b7 = b6 .before in
-    let b8 = b7 .before in
-    let b13 = b8 .before .before .before .before .before in
-    let a = b13 .args in
-    back-before (a .points .now) (depIn (a .e)) (sym (b8 .is-source .ensures) ∙ b7 .if1 .taken)
-    (sym (b6 .is-target .ensures) ∙ b5 .if2 .taken) (b3 .if3 .taken) (sym (b2 .is-do .ensures) ∙ b1 .if4 .taken)
-    (c .if5 .taken)
-
-end-of-requires : tie.Need-end-of-requires
-end-of-requires c κs = search needs
+    let b9 = b7 .before .before in
+    let b10 = b9 .before in
+    let b11 = b10 .before in
+    let b12 = b11 .before in
+    let b17 = b12 .before .before .before .before .before in
+    let a = b17 .args in
+    let end = b4 .end-of .ensures in
+    back-inside (a .points .now) (depIn (a .e)) (sym (b12 .is-source .ensures) ∙ b11 .if1 .taken)
+    (sym (b10 .is-target .ensures) ∙ b9 .if2 .taken) (b7 .if3 .taken) (sym (b6 .is-do .ensures) ∙ b5 .if4 .taken)
+    (rw end at (sym (b3 .is-inside .ensures) ∙ b2 .if5 .taken))
+    (rw end at (sym (b1 .is-inside2 .ensures) ∙ c .if6 .taken))
 
 returns-2 : tie.Need-returns-2
 returns-2 c =
     let b1 = c .before in
-    let b3 = b1 .before .before in
+    let b2 = b1 .before in
+    let b3 = b2 .before in
     let b4 = b3 .before in
     let b5 = b4 .before in
     let b6 = b5 .before in
-    let b8 = b6 .before .before in
-    let b9 = b8 .before in
+    let b7 = b6 .before in
+    let b9 = b7 .before .before in
     let b10 = b9 .before in
     let b11 = b10 .before in
-    let b16 = b11 .before .before .before .before .before in
-    let a = b16 .args in
-    back-inside (a .points .now) (depIn (a .e)) (sym (b11 .is-source .ensures) ∙ b10 .if1 .taken)
-    (sym (b9 .is-target .ensures) ∙ b8 .if2 .taken) (b6 .if3 .taken) (sym (b5 .is-do .ensures) ∙ b4 .if4 .taken)
-    (b3 .if5 .left) (b1 .if6 .taken) (omega arith)
+    let b12 = b11 .before in
+    let b17 = b12 .before .before .before .before .before in
+    let a = b17 .args in
+    let end = b4 .end-of .ensures in
+    target-outside (a .points .now) (depIn (a .e)) (sym (b12 .is-source .ensures) ∙ b11 .if1 .taken)
+    (sym (b10 .is-target .ensures) ∙ b9 .if2 .taken) (b7 .if3 .taken) (sym (b6 .is-do .ensures) ∙ b5 .if4 .taken)
+    (rw end at (sym (b3 .is-inside .ensures) ∙ b2 .if5 .taken))
+    (rw end at (sym (b1 .is-inside2 .ensures) ∙ c .if6 .left))
 
 returns-3 : tie.Need-returns-3
 returns-3 c =
-    let b3 = c .before .before .before in
-    let b4 = b3 .before in
-    let b5 = b4 .before in
-    let b6 = b5 .before in
-    let b8 = b6 .before .before in
-    let b9 = b8 .before in
-    let b10 = b9 .before in
-    let b11 = b10 .before in
-    let b16 = b11 .before .before .before .before .before in
-    let a = b16 .args in
-    back-outside (a .points .now) (depIn (a .e)) (sym (b11 .is-source .ensures) ∙ b10 .if1 .taken)
-    (sym (b9 .is-target .ensures) ∙ b8 .if2 .taken) (b6 .if3 .taken) (sym (b5 .is-do .ensures) ∙ b4 .if4 .taken)
-    (b3 .if5 .left) (inr (omega arith))
-
-returns-4 : tie.Need-returns-4
-returns-4 c =
-    let b2 = c .before .before in
+    let b1 = c .before in
+    let b2 = b1 .before in
     let b3 = b2 .before in
     let b4 = b3 .before in
     let b5 = b4 .before in
@@ -90,12 +91,12 @@ returns-4 c =
     let b10 = b9 .before in
     let b15 = b10 .before .before .before .before .before in
     let a = b15 .args in
-    back-outside (a .points .now) (depIn (a .e)) (sym (b10 .is-source .ensures) ∙ b9 .if1 .taken)
+    source-outside (a .points .now) (depIn (a .e)) (sym (b10 .is-source .ensures) ∙ b9 .if1 .taken)
     (sym (b8 .is-target .ensures) ∙ b7 .if2 .taken) (b5 .if3 .taken) (sym (b4 .is-do .ensures) ∙ b3 .if4 .taken)
-    (b2 .if5 .left) (inl (c .if6 .left))
+    (rw (b2 .end-of .ensures) at (sym (b1 .is-inside .ensures) ∙ c .if5 .left))
 
-returns-5 : tie.Need-returns-5
-returns-5 c =
+returns-4 : tie.Need-returns-4
+returns-4 c =
     let b1 = c .before in
     let b2 = b1 .before in
     let b4 = b2 .before .before in
@@ -107,6 +108,18 @@ returns-5 c =
     no-loop (a .points .now) (depIn (a .e)) (sym (b7 .is-source .ensures) ∙ b6 .if1 .taken)
     (sym (b5 .is-target .ensures) ∙ b4 .if2 .taken) (b2 .if3 .taken) (sym (b1 .is-do .ensures) ∙ c .if4 .left)
 
+returns-5 : tie.Need-returns-5
+returns-5 c =
+    let b1 = c .before in
+    let b3 = b1 .before .before in
+    let b4 = b3 .before in
+    let b5 = b4 .before in
+    let b6 = b5 .before in
+    let b11 = b6 .before .before .before .before .before in
+    let a = b11 .args in
+    line-forward (a .points .now) (depIn (a .e)) (sym (b6 .is-source .ensures) ∙ b5 .if1 .taken)
+    (sym (b4 .is-target .ensures) ∙ b3 .if2 .taken) (b1 .if3 .left) (c .if7 .taken)
+
 returns-6 : tie.Need-returns-6
 returns-6 c =
     let b1 = c .before in
@@ -116,23 +129,11 @@ returns-6 c =
     let b6 = b5 .before in
     let b11 = b6 .before .before .before .before .before in
     let a = b11 .args in
-    line-forward (a .points .now) (depIn (a .e)) (sym (b6 .is-source .ensures) ∙ b5 .if1 .taken)
-    (sym (b4 .is-target .ensures) ∙ b3 .if2 .taken) (b1 .if3 .left) (c .if8 .taken)
+    line-back (a .points .now) (depIn (a .e)) (sym (b6 .is-source .ensures) ∙ b5 .if1 .taken)
+    (sym (b4 .is-target .ensures) ∙ b3 .if2 .taken) (b1 .if3 .left) (c .if7 .left)
 
 returns-7 : tie.Need-returns-7
 returns-7 c =
-    let b1 = c .before in
-    let b3 = b1 .before .before in
-    let b4 = b3 .before in
-    let b5 = b4 .before in
-    let b6 = b5 .before in
-    let b11 = b6 .before .before .before .before .before in
-    let a = b11 .args in
-    line-back (a .points .now) (depIn (a .e)) (sym (b6 .is-source .ensures) ∙ b5 .if1 .taken)
-    (sym (b4 .is-target .ensures) ∙ b3 .if2 .taken) (b1 .if3 .left) (c .if8 .left)
-
-returns-8 : tie.Need-returns-8
-returns-8 c =
     let b1 = c .before in
     let b2 = b1 .before in
     let b3 = b2 .before in
@@ -141,8 +142,8 @@ returns-8 c =
     no-target (a .points .now) (depIn (a .e)) (sym (b3 .is-source .ensures) ∙ b2 .if1 .taken)
     (sym (b1 .is-target .ensures) ∙ c .if2 .left)
 
-returns-9 : tie.Need-returns-9
-returns-9 c =
+returns-8 : tie.Need-returns-8
+returns-8 c =
     let a = c .before .before .before .before .before .before .args in
     no-source (a .points .now) (depIn (a .e)) (sym (c .before .is-source .ensures) ∙ c .if1 .left)
 
@@ -156,13 +157,14 @@ dep-fault-spec =
     is-source-requires
     is-target-requires
     is-do-requires
-    returns
     end-of-requires
+    is-inside-requires
+    is-inside-requires-2
+    returns
     returns-2
     returns-3
     returns-4
     returns-5
     returns-6
     returns-7
-    returns-8
-    returns-9)
+    returns-8)
