@@ -138,8 +138,10 @@ fn read_lines(mut text: &[u8], mut take: impl FnMut(&[u8]) -> Result<(), u8>) ->
     Ok(line)
 }
 
+/// An empty text means the nest 01, 02, the blank paper.
 fn read_nest(text: &[u8]) -> Result<Nest, Refusal> {
     if text.len() > INPUT { return Err(Refusal { number: 5, line: 0 }) }
+    let text = if text.is_empty() { &b"01\n02\n"[..] } else { text };
     let mut nest = Nest::default();
     let line = read_lines(text, |frame| take_frame(&mut nest, frame))?;
     if nest.closed() { Ok(nest) } else { Err(Refusal { number: 4, line }) }

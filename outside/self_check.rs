@@ -47,7 +47,9 @@ fn check_cases(checks: &mut Checks) {
     let (ring, beside) = (nest("01 03 03 03 02 12000103"), nest(&format!("{P} 12010304")));
     checks.that("forward over the ring, alone", search(&ring) == [[1], [2], [3], [4]] && one_loop_count(&ring) == 1);
     checks.that("forward over the ring, beside P's", search(&beside) == [[5, 11]]);
-    checks.that("case 11", judge(&standard(b""), b"2f040001\n", false).is_ok());
+    let blank = read_nest(b"").unwrap();
+    checks.that("case 11, nest", blank.points == [DO, ENDDO] && blank.dependences.is_empty());
+    checks.that("case 11, answer", judge(&standard(b""), b"220000\n", true).is_ok());
     checks.that("case 13, gap 13", read_placement(14, b"210d\n") == Ok(vec![13]));
     checks.that("case 13, gap 14", read_placement(14, b"210e\n") == Err(Refusal { number: 8, line: 1 }));
     checks.that("gaps must rise", read_placement(14, b"2105\n2105\n") == Err(Refusal { number: 8, line: 2 }));
@@ -94,9 +96,15 @@ fn check_wrong_answers(checks: &mut Checks) {
         ("refusal of a good text", "2f040001"), ("nothing at all", ""),
     ] { checks.that(&format!("noticed: {what}"), !admits(P, &words(answer), false)) }
     checks.that("noticed: no last 0a", !admits(P, b"2105\n210b\n220000\n220101\n220701", false));
-    for answer in &["2f050001", "2f040002", "2f040101", "2F040001", "220000", "2f040001 2f040001", ""] {
+    for answer in &["2f040001", "220001", "220100", "2101 220001", "2200", "220000 220000", "220000 220100", ""] {
         checks.that(&format!("noticed: {answer} for the empty text"), !admits("", &words(answer), false));
     }
+    checks.that("refusals are still admitted", admits("110001", b"2f040001\n", false));
+    for answer in &["2f050001", "2f040002", "2f040101", "2F040001", "220000", "2f040001 2f040001", ""] {
+        checks.that(&format!("noticed: {answer} for a dependence first"), !admits("110001", &words(answer), false));
+    }
+    checks.that("a lone 0a has number 1", judge(&standard(b"\n"), b"2f010001\n", false).is_ok());
+    checks.that("noticed: a lone 0a accepted", judge(&standard(b"\n"), b"220000\n", false).is_err());
     let admits_ninth = |answer, first| admits("01 03 02 12000101", &words(answer), first);
     checks.that("both keys of case 9", admits_ninth("2101 220001", false) && admits_ninth("2102 220001", false));
     checks.that("the first of them", admits_ninth("2101 220001", true) && !admits_ninth("2102 220001", true));

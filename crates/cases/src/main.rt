@@ -22,7 +22,7 @@ fn main() {
     report(8, case_8());
     report(9, case_9());
     report(10, case_10());
-    report(11, is_refused(b"", 4, 1));
+    report(11, case_11());
     report(12, case_12());
     report(13, case_13());
 }
@@ -101,6 +101,16 @@ fn case_9() -> bool {
 fn case_10() -> bool {
     let desk = planned(b"01\n02\n");
     has_key(desk, b"") && has_count(desk, 0, 0)
+}
+
+// The empty text: the nest 01, 02, whose key is empty. A lone 0a is 1, a dependence first is 4.
+fn case_11() -> bool {
+    let blank = planned(b"");
+    is_refused(b"", 0, 0)
+        && has_key(blank, b"")
+        && has_count(blank, 0, 0)
+        && is_refused(b"\n", 1, 1)
+        && is_refused(b"110001\n", 4, 1)
 }
 
 // The limits: accepted, and one more of each.

@@ -1,6 +1,6 @@
 -- 01, "Papers with known results": the keys of the starred cases. Each is computed from `keyOf`, is a key by the
 -- planner's theorem, and every other key of its paper has the same counts.
--- Main statements: `computed-keys`, `starred-keys` (over the table of cases), `case-1-program`.
+-- Main statements: `computed-keys`, `starred-keys` (over the table of cases), `case-1-program`, `case-11-program`.
 use mathlib.Core.Path.{_≡_, refl, _∙_}
 use mathlib.Core.Bool.{true}
 use mathlib.Core.List.{List, [], _∷_}
@@ -16,9 +16,9 @@ use Rattle.placements.specs.Keys.{IsKey}
 use Rattle.placements.specs.Words.{gapsOf}
 use Rattle.placements.proofs.Cases.{countsOf, Case, table}
 use Rattle.lines.proofs.Spelling.{framesText}
-use Rattle.texts.specs.NestTexts.{readNest}
+use Rattle.texts.specs.NestTexts.{blank, readNest}
 use Rattle.texts.specs.Program.{programText}
-use Rattle.texts.proofs.TextCases.{P-lines, P-read, case-1-written}
+use Rattle.texts.proofs.TextCases.{P-lines, P-read, case-1-written, case-11-read, case-11-written}
 use Rattle.planner.specs.Home.{leastEnd, reachOf, limitOf, hasAt, keyIn}
 use Rattle.planner.specs.Sweep.{needOf, put, stepPlain, seek, free, inner, outer, childAt}
 use Rattle.planner.specs.Sweep.{stepChild, next, step, walk, sweep, close, value, least, better, best}
@@ -167,3 +167,11 @@ pub case-1-program
     (0x22 ∷ 0x07 ∷ 0x01 ∷ []) ∷
     [])
 case-1-program = rw (P-read, computed-keys .of-P) case-1-written
+
+-- case 11: the key of the blank paper is empty, and the program writes 220000 for the empty text
+pub blank-key : HasKey blank [] (0 ∷ [])
+blank-key = bare-key
+
+pub case-11-program
+    : programText [] (keyOf (readNest [] .nest-is)) ≡ framesText ((0x22 ∷ 0x00 ∷ 0x00 ∷ []) ∷ [])
+case-11-program = rw (case-11-read, computed-keys .of-bare) case-11-written

@@ -1,10 +1,11 @@
--- A nest text is accepted if and only if it breaks no rule: it is accepted with a nest exactly where that nest is valid
--- and the text is its spelling. While lines are read without a fault, the nest so
--- far has points that begin a shape, valid dependences only after all points, and the text so far is its spelling.
+-- A nest text is accepted if and only if it breaks no rule: it is accepted with a nest exactly where it is empty and
+-- the nest is the blank paper, or the nest is valid and the text is its spelling. While lines are read without a fault,
+-- the nest so far has points that begin a shape, valid dependences only after all points, and the text so far is its
+-- spelling.
 -- Main statements: `accepted-spelling`, `accepted-valid`, `accepted-text`, `one-nest`, `one-spelling`.
 use mathlib.Core.Path.{_≡_, refl, sym, ap, _∙_}
 use mathlib.Core.Bool.{Bool, true, false, _&&_, _||_, not}
-use mathlib.Core.Logic.{_↔_}
+use mathlib.Core.Logic.{_↔_, _⊎_, inl, inr}
 use mathlib.Core.List.{List, [], _∷_, _++_, append-assoc, append-nil}
 use Prim.Native.Nat.{ℕ, suc, _≤_, _<_}
 use native.Mathlib.Omega.{arith}
@@ -21,8 +22,9 @@ use Rattle.nests.specs.Valid.{namesPoints, runsRight, isDep, areDeps, isValid, 
 use Rattle.lines.specs.Lines.{Line, linesOf, isGood, frameOf, lineText}
 use Rattle.lines.proofs.Spelling.{lineBytes, linesText, lines-text, good-bytes}
 use Rattle.texts.specs.NestTexts.{kindOf, isPoint, kindGood, depOf, pointFault, dependenceFault, frameFault}
-use Rattle.texts.specs.NestTexts.{withFrame, lineFault, Got, got, readLines, readNest}
+use Rattle.texts.specs.NestTexts.{withFrame, lineFault, Got, got, readLines, blank, readNest}
 use Rattle.texts.specs.NestTexts.{depFrame, pointsText, depsText, nestText}
+use Rattle.texts.proofs.BlankPaper.{blank-read}
 use Rattle.texts.proofs.Shapes.{Begins, begins-none, begins-first, begins-more, begins-closed}
 use Rattle.texts.proofs.NestFrames.{Sort, opens, ends, states, runs, carries, sort-of}
 use Rattle.texts.proofs.NestFrames.{points-text-more, deps-text-more}
@@ -202,28 +204,44 @@ lines-accepted k n (l ∷ ls) m b h =
         }
     go false e q rest = absurd (eqb-false (lineFault n l) 0 e (ap (λ (g : Got). g .number) q))
 
-text-accepted : (s : List ℕ) (n : Nest) → readNest s ≡ got 0 0 n → Spells s n
+-- the nest that a text means: of an empty one the blank paper, of every other one the nest that it spells
+abbrev pub Means : List ℕ → Nest → Type 0
+Means s n = ((s ≡ []) × (n ≡ blank)) ⊎ Spells s n
+
+text-accepted : (s : List ℕ) (n : Nest) → readNest s ≡ got 0 0 n → Means s n
 unfolding readNest nestText pointsText depsText
-text-accepted s n h = rw lines-text at (lines-accepted 1 empty (linesOf s) n begun-empty h)
+text-accepted [] n h = inl (refl, sym (ap (λ (g : Got). g .nest-is) h))
+text-accepted (b ∷ s) n h = inr (rw lines-text at (lines-accepted 1 empty (linesOf (b ∷ s)) n begun-empty h))
 
-spelling-accepted : (s : List ℕ) (n : Nest) → Spells s n → readNest s ≡ got 0 0 n
-spelling-accepted s n h = rw (h .text) (valid-accepted n (h .valid))
+meaning-accepted : (s : List ℕ) (n : Nest) → Means s n → readNest s ≡ got 0 0 n
+meaning-accepted s n (inl e) = rw (e .0, e .1) (blank-read [] refl)
+meaning-accepted s n (inr h) = rw (h .text) (valid-accepted n (h .valid))
 
--- "a nest text is accepted if and only if it breaks no rule": it then spells a valid nest, the one that is read
-pub accepted-spelling : (s : List ℕ) (n : Nest) → (readNest s ≡ got 0 0 n) ↔ Spells s n
-accepted-spelling s n = (text-accepted s n, spelling-accepted s n)
+-- "a nest text is accepted if and only if it breaks no rule": it then spells a valid nest, the one that is read, or it
+-- is empty and the nest is 01, 02
+pub accepted-spelling : (s : List ℕ) (n : Nest) → (readNest s ≡ got 0 0 n) ↔ Means s n
+accepted-spelling s n = (text-accepted s n, meaning-accepted s n)
 
 -- the same of a text that is accepted, with the nest that it gives
-pub accepted-spells : (s : List ℕ) → readNest s .number ≡ 0 → Spells s (readNest s .nest-is)
-accepted-spells s h = text-accepted s (readNest s .nest-is) (accepted-got s h)
+pub accepted-means : (s : List ℕ) → readNest s .number ≡ 0 → Means s (readNest s .nest-is)
+accepted-means s h = text-accepted s (readNest s .nest-is) (accepted-got s h)
 
 pub accepted-valid : (s : List ℕ) → readNest s .number ≡ 0 → isValid (readNest s .nest-is) ≡ true
-accepted-valid s h = accepted-spells s h .valid
+accepted-valid s h = go (readNest s .nest-is) (accepted-means s h)
+  where
+    go : (n : Nest) → Means s n → isValid n ≡ true
+    go n (inl e) = rw (e .1)
+    go n (inr e) = e .valid
 
-pub accepted-text : (s : List ℕ) → readNest s .number ≡ 0 → s ≡ nestText (readNest s .nest-is)
-accepted-text s h = accepted-spells s h .text
+-- a text that is accepted and not empty is the spelling of its nest
+pub accepted-text : (s : List ℕ) → 0 < length s → readNest s .number ≡ 0 → s ≡ nestText (readNest s .nest-is)
+accepted-text s some h = go (accepted-means s h)
+  where
+    go : Means s (readNest s .nest-is) → s ≡ nestText (readNest s .nest-is)
+    go (inl e) = absurd (omega (arith, ap length (e .0)))
+    go (inr e) = e .text
 
--- a valid nest has one spelling, and no other nest has it
+-- a valid nest has one spelling, and no other nest has it; of texts that are not empty no two give the same nest
 pub one-nest : (n m : Nest) → isValid n ≡ true → isValid m ≡ true → nestText n ≡ nestText m → n ≡ m
 one-nest n m v w h =
     let same : got 0 0 n ≡ got 0 0 m = sym (valid-accepted n v) ∙ ap readNest h ∙ valid-accepted m w in
@@ -231,8 +249,10 @@ one-nest n m v w h =
 
 pub one-spelling
     : (s t : List ℕ)
+    → 0 < length s
+    → 0 < length t
     → readNest s .number ≡ 0
     → readNest t .number ≡ 0
     → readNest s .nest-is ≡ readNest t .nest-is
     → s ≡ t
-one-spelling s t a b h = accepted-text s a ∙ ap nestText h ∙ sym (accepted-text t b)
+one-spelling s t x y a b h = accepted-text s x a ∙ ap nestText h ∙ sym (accepted-text t y b)

@@ -1,6 +1,7 @@
 -- Laws of texts.
 pub mod Shapes
 pub mod NestFrames
+pub mod BlankPaper
 pub mod Spelled
 pub mod Refusals
 pub mod Accepted

@@ -1,5 +1,5 @@
 -- Nest texts read line by line: what a turn of the reader keeps, and one law for each way through a turn.
--- Main statements: `begun`, `at-end`, `at-refusal`, `at-fault`, `has-room`, `on`.
+-- Main statements: `at-blank`, `begun`, `at-end`, `at-refusal`, `at-fault`, `has-room`, `on`.
 use mathlib.Core.Path.{_≡_, refl, sym, _∙_, ap}
 use mathlib.Core.Bool.{Bool, true, false, _&&_, not}
 use mathlib.Core.List.{List, [], _∷_, _++_}
@@ -28,6 +28,7 @@ use Rattle.texts.specs.NestTexts.{isPoint, kindOf, kindGood, depOf, poin
 use Rattle.texts.specs.NestTexts.{withFrame, lineFault, Got, got, readLines, readNest}
 use Rattle.texts.specs.Reads.{IsRead, RefusedAs, EndedAs, HasNumbers, closedBy, misplacedBy, tooManyBy}
 use Rattle.texts.specs.Reads.{FrameFault, HasRoom, FrameAdded}
+use Rattle.texts.proofs.BlankPaper.{lines-read}
 use Rattle.texts.proofs.Shapes.{depth-more}
 use Rattle.texts.proofs.Faults.{bad-first, good-first}
 use Rattle.texts.proofs.Frames.{is-point}
@@ -134,15 +135,19 @@ pub record Loading (s : List ℕ) (n : DN.Nest) (deep at line : ℕ) : Type 0 wh
   pub lines : line ≤ at + 1
   pub rest : readLines line (nestIn n) (linesOf (drop at s)) ≡ readNest s
 
-pub begun : (s : List ℕ) (n : DN.Nest) → IsEmpty n → Loading s n 0 0 1
-unfolding readNest
-begun s n e =
+-- an empty text
+pub at-blank : (s : List ℕ) (r : Reading) → length s ≡ 0 → IsRead [] r → IsRead s r
+at-blank [] r h p = p
+at-blank (b ∷ s) r h p = absurd (omega arith)
+
+pub begun : (s : List ℕ) (n : DN.Nest) → 0 < length s → IsEmpty n → Loading s n 0 0 1
+begun s n some e =
     record {
       counted = e .counted;
       deep-is = ap (λ (x : Nest). depth (x .points)) (sym (e .nest-is));
       inside = omega arith;
       lines = omega arith;
-      rest = ap (λ (x : Nest). readLines 1 x (linesOf s)) (e .nest-is);
+      rest = ap (λ (x : Nest). readLines 1 x (linesOf s)) (e .nest-is) ∙ sym (lines-read s some);
     }
 
 module _ (s : List ℕ) (n : DN.Nest) (deep at line : ℕ) (p : Loading s n deep at line) where

@@ -1,6 +1,7 @@
 -- What the program writes, case by case: a valid nest's spelling is never too long for it, so its key and counts are
 -- written.
--- Main statements: `spelling-short`, `program-accepted`, `program-refused`, `program-long`, `refusal-bytes`.
+-- Main statements: `spelling-short`, `program-accepted`, `program-blank`, `program-refused`, `program-long`,
+-- `refusal-bytes`.
 use mathlib.Core.Path.{_≡_, refl}
 use mathlib.Core.Bool.{Bool, true, false}
 use mathlib.Core.List.{List, [], _∷_, _++_}
@@ -16,7 +17,7 @@ use Rattle.nests.specs.Nests.{Dep, Nest}
 use Rattle.nests.specs.Valid.{isValid}
 use Rattle.lines.specs.Lines.{lineText}
 use Rattle.lines.proofs.Spelling.{areBytes}
-use Rattle.texts.specs.NestTexts.{readNest, depFrame, pointsText, depsText, nestText}
+use Rattle.texts.specs.NestTexts.{blank, readNest, depFrame, pointsText, depsText, nestText}
 use Rattle.texts.specs.PlacementTexts.{keyText}
 use Rattle.texts.specs.Program.{REFUSAL, LONGEST, refusalText, countsText, programText}
 use Rattle.texts.proofs.Refusals.{numbers-to-7, place-within}
@@ -59,6 +60,11 @@ pub program-accepted
     → programText (nestText n) key ≡ keyText key ++ countsText n key
 unfolding programText
 program-accepted n key h = rw (le-ltb LONGEST (length (nestText n)) (spelling-short n h), valid-accepted n h)
+
+-- the blank paper: the same
+pub program-blank : (key : List ℕ) → programText [] key ≡ keyText key ++ countsText blank key
+unfolding programText readNest
+program-blank key = refl
 
 -- a text that is not accepted: its number and its line
 pub program-refused

@@ -19,6 +19,7 @@ use Rattle.lines.specs.Lines.{linesOf}
 use Rattle.lines.proofs.Spelling.{areBytes}
 use Rattle.texts.specs.NestTexts.{isPoint, pointFault, frameFault, withFrame, got, readLines, readNest}
 use Rattle.texts.specs.NestTexts.{depFrame, pointsText, depsText, nestText}
+use Rattle.texts.proofs.BlankPaper.{lines-read}
 use Rattle.texts.proofs.Shapes.{closes-step, depth-more, shape-closed}
 use Rattle.texts.proofs.NestFrames.{read-frame, DepSort, run, carry, dep-sort, dep-below, dep-bytes}
 
@@ -168,7 +169,7 @@ spelling-read
     : (ps : List ℕ) (ds : List Dep)
     → Keeps (nest ps ds)
     → readNest (nestText (nest ps ds)) ≡ got 0 0 (nest ps ds)
-unfolding readNest nestText pointsText
+unfolding nestText pointsText
 spelling-read [] ds k = never (k .shape)
 spelling-read (p ∷ r) ds k =
     let z = and-true (eqb p DO) (closes 1 r) (k .shape) in
@@ -181,7 +182,8 @@ spelling-read (p ∷ r) ds k =
     let points = points-read 2 (p ∷ []) r (depsText ds) (omega arith) (omega (arith, k .few)) deep in
     let closed = shape-closed (p ∷ r) (k .shape) in
     let deps = deps-read (2 + length r) (p ∷ r) [] ds closed (k .few) (omega (arith, k .many)) (k .deps) in
-    rw append-assoc (first ∙ rw (with-point empty p point) (points ∙ deps))
+    lines-read (nestText (nest (p ∷ r) ds)) (omega arith)
+    ∙ rw append-assoc (first ∙ rw (with-point empty p point) (points ∙ deps))
 
 -- a valid nest's spelling is accepted with that nest
 pub valid-accepted : (n : Nest) → isValid n ≡ true → readNest (nestText n) ≡ got 0 0 n

@@ -10,10 +10,9 @@ use Rattle.nests.specs.Kinds.{INDEPENDENT, CARRIED}
 use Rattle.nests.specs.Nests.{dep, Nest, nest, empty}
 use Rattle.lines.specs.Lines.{linesOf, frameOf}
 use Rattle.lines.proofs.Spelling.{framesText}
-use Rattle.texts.specs.NestTexts.{got, readLines, readNest, pointsText, depsText, nestText}
+use Rattle.texts.specs.NestTexts.{got, readLines, blank, readNest, pointsText, depsText, nestText}
 use Rattle.texts.specs.PlacementTexts.{placed, placeLines, readPlacement, keyText}
 use Rattle.texts.specs.Program.{countsFrom, programText}
-use Rattle.texts.proofs.Refusals.{no-text}
 use Rattle.texts.proofs.Spelled.{valid-accepted}
 
 -- P is 01 01 03 03 03 03 02 01 03 03 03 03 02 02 with 110205, 12010403, 11080b, 12070a09, 12000a02, 110409
@@ -115,9 +114,23 @@ pub case-10-read : readNest (framesText ((0x01 ∷ []) ∷ (0x02 ∷ []) ∷ [])
 unfolding readNest readLines linesOf frameOf
 case-10-read = refl
 
--- case 11: the empty nest text has number 4, line 1
-pub case-11-read : readNest [] ≡ got 4 1 empty
-case-11-read = no-text
+-- case 11: the empty nest text means 01, 02, and the program writes 220000, ended by 0a
+pub case-11-read : readNest [] ≡ got 0 0 blank
+unfolding readNest
+case-11-read = refl
+
+pub case-11-written : programText [] [] ≡ 0x32 ∷ 0x32 ∷ 0x30 ∷ 0x30 ∷ 0x30 ∷ 0x30 ∷ 0x0a ∷ []
+unfolding programText readNest keyText countsFrom
+case-11-written = refl
+
+-- a text with lines but no point is refused as before: a lone 0a has number 1, a dependence first number 4
+pub feed-alone : readNest (0x0a ∷ []) ≡ got 1 1 empty
+unfolding readNest readLines linesOf
+feed-alone = refl
+
+pub dependence-first : readNest (framesText ((0x11 ∷ 0x00 ∷ 0x01 ∷ []) ∷ [])) ≡ got 4 1 empty
+unfolding readNest readLines linesOf frameOf
+dependence-first = refl
 
 -- case 12: 256 points and 512 dependences are accepted; a 257th point with a loop still open, or a 513th dependence,
 -- has number 5, and a point right after a closed nest number 4

@@ -1,12 +1,12 @@
 -- Nest texts: read line by line with refusals 1 to 7, and spelled, a frame a line.
--- Main definitions: `readNest`, `nestText`.
+-- Main definitions: `readNest`, `blank`, `nestText`.
 use mathlib.Core.Bool.{Bool, true, false, _&&_, _||_, not}
 use mathlib.Core.List.{List, [], _∷_, _++_}
 use Prim.Native.Nat.{ℕ, zero, suc}
 use lib.Dec.{eqb, leb}
 use lib.ListN.{length, getD}
 use Rattle.laws.specs.Choice.{pick, when, firstOf, between}
-use Rattle.nests.specs.Kinds.{DO, STATEMENT, INDEPENDENT, CARRIED, POINTS, DEPTH, DEPENDENCES}
+use Rattle.nests.specs.Kinds.{DO, ENDDO, STATEMENT, INDEPENDENT, CARRIED, POINTS, DEPTH, DEPENDENCES}
 use Rattle.nests.specs.Nests.{Dep, dep, Nest, nest, empty}
 use Rattle.nests.specs.Loops.{depth, isClosed}
 use Rattle.nests.specs.Valid.{depFault}
@@ -85,8 +85,14 @@ readLines k n (l ∷ ls) =
     (readLines (suc k) (withFrame n (frameOf (l .bytes))) ls)
     (got (lineFault n l) k empty)
 
+-- the blank paper: a loop with nothing in it, and no dependence
+abbrev pub blank : Nest
+blank = nest (DO ∷ ENDDO ∷ []) []
+
+-- 02, job 3: an empty text, of no byte at all, means the blank paper; every other text is read line by line
 unfoldable pub readNest : List ℕ → Got
-readNest s = readLines 1 empty (linesOf s)
+readNest [] = got 0 0 blank
+readNest (b ∷ s) = readLines 1 empty (linesOf (b ∷ s))
 
 -- a dependence as a frame
 abbrev pub depFrame : Dep → List ℕ

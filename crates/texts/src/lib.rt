@@ -1,5 +1,6 @@
 // Nest texts and placement texts, read line by line.
 ghost use mathlib.Core.Path.{_≡_};
+ghost use mathlib.Core.List.{[]};
 ghost use Prim.Native.Nat.{_≤_};
 ghost use lib.ListN.{length, take};
 ghost use Rattle.nests.specs.Stored.{IsCounted};
@@ -41,10 +42,13 @@ pub struct PlacementReading {
 // The kind of barriers.
 pub const BARRIER: u8 = 33;
 
-// Reads a nest text up to its first faulty line.
+// Reads a nest text up to its first faulty line. An empty text is the blank paper.
 pub fn read_nest(text: &[u8]) -> Reading
     ensures { λ r. ⌜ IsRead (now (text .entry)) r ⌝ }
 {
+    if text.len() == 0 {
+        return blank();
+    }
     let mut nest = Nest::empty();
     let mut depth: usize = 0;
     let mut at: usize = 0;
@@ -98,6 +102,20 @@ pub fn read_placement(points: usize, text: &[u8]) -> PlacementReading
                 line += 1;
             }
         }
+    }
+}
+
+// The reading of an empty nest text: the blank paper, a loop with nothing in it.
+fn blank() -> Reading
+    ensures { λ r. ⌜ IsRead [] r ⌝ }
+{
+    let none = Nest::empty();
+    let open = none.with_point(DO);
+    let closed = open.with_point(ENDDO);
+    Reading {
+        number: 0,
+        line: 0,
+        nest: closed,
     }
 }
 

@@ -1,10 +1,11 @@
--- Each turn reads one line: it keeps the nest so far, or is the text's refusal, or its end.
+-- An empty text is the blank paper; else each turn reads one line: it keeps the nest so far, or is the text's refusal,
+-- or its end.
 use mathlib.Core.Path.{sym, _∙_}
 use Prim.Native.Nat.{_-_}
 use native.Mathlib.Omega.{arith}
 use lib.ListN.{length}
-use Rattle.texts.proofs.Loading.{Loading, begun, count-inside, deep-fits, at-end, at-refusal, at-fault, has-room}
-use Rattle.texts.proofs.Loading.{next-inside, on}
+use Rattle.texts.proofs.Loading.{Loading, at-blank, begun, count-inside, deep-fits, at-end, at-refusal}
+use Rattle.texts.proofs.Loading.{at-fault, has-room, next-inside, on}
 use Rattle.texts.proofs.read_nest.Statement.{statement}
 use Rattle.texts.proofs.read_nest.Tie as tie
 
@@ -14,11 +15,17 @@ Inv-loop text nest₀ depth₀ at₀ line₀ nest depth at line = Loading text n
 abbrev μ-loop : tie.MeasureT-loop
 μ-loop text nest₀ depth₀ at₀ line₀ nest depth at line = length text - at
 
+blank-requires : tie.Need-blank-requires Inv-loop μ-loop
+blank-requires c κs = tt
+
+returns : tie.Need-returns Inv-loop μ-loop
+returns c = at-blank (c .before .before .before .args .text .now) (c .blank .result) (omega arith) (c .blank .ensures)
+
 empty-requires : tie.Need-empty-requires Inv-loop μ-loop
 empty-requires c κs = tt
 
 loop-holds : tie.Need-loop-holds Inv-loop μ-loop
-loop-holds c = begun (c .before .before .args .text .now) (c .empty .result) (c .empty .ensures)
+loop-holds c = begun (c .before .before .before .args .text .now) (c .empty .result) (omega arith) (c .empty .ensures)
 
 read-line-requires : tie.Need-read-line-requires Inv-loop μ-loop
 read-line-requires c κs = tt
@@ -29,11 +36,11 @@ enum-told c = c .match .keys1
 ended-requires : tie.Need-ended-requires Inv-loop μ-loop
 ended-requires c κs = c .before .before .before .loop .inv .counted
 
-returns : tie.Need-returns Inv-loop μ-loop
-returns c =
+returns-2 : tie.Need-returns-2 Inv-loop μ-loop
+returns-2 c =
     let r = c .before .before .before in
     let l = r .before .loop in
-    let s = r .before .before .before .before in
+    let s = r .before .before .before .before .before in
     at-end
     (s .args .text .now)
     (l .nest)
@@ -51,12 +58,12 @@ enum-known-next c = c .match .keys2
 refused-requires : tie.Need-refused-requires Inv-loop μ-loop
 refused-requires c κs = tt
 
-returns-2 : tie.Need-returns-2 Inv-loop μ-loop
-returns-2 c =
+returns-3 : tie.Need-returns-3 Inv-loop μ-loop
+returns-3 c =
     let n = c .before .before .next in
     let r = c .before .before .before .before in
     let l = r .before .loop in
-    let s = r .before .before .before .before in
+    let s = r .before .before .before .before .before in
     at-refusal
     (s .args .text .now)
     (l .nest)
@@ -76,7 +83,7 @@ frame-fault-requires : tie.Need-frame-fault-requires Inv-loop μ-loop
 frame-fault-requires c κs =
     let r = c .before .before .before .before .before .before in
     let l = r .before .loop in
-    let s = r .before .before .before .before in
+    let s = r .before .before .before .before .before in
     count-inside
     (s .args .text .now)
     (l .nest)
@@ -88,13 +95,13 @@ frame-fault-requires c κs =
 refused-requires-2 : tie.Need-refused-requires-2 Inv-loop μ-loop
 refused-requires-2 c κs = tt
 
-returns-3 : tie.Need-returns-3 Inv-loop μ-loop
-returns-3 c =
+returns-4 : tie.Need-returns-4 Inv-loop μ-loop
+returns-4 c =
     let k = c .before .before in
     let f = k .before .before .before .before .before .next2 in
     let r = k .before .before .before .before .before .before .before in
     let l = r .before .loop in
-    let s = r .before .before .before .before in
+    let s = r .before .before .before .before .before in
     at-fault
     (s .args .text .now)
     (l .nest)
@@ -107,7 +114,7 @@ returns-3 c =
     (k .frame-fault .result)
     (k .frame-fault .ensures)
     (c .refused2 .result)
-    (c .before .if1 .taken)
+    (c .before .if2 .taken)
     (c .refused2 .ensures)
 
 with-frame-requires : tie.Need-with-frame-requires Inv-loop μ-loop
@@ -116,7 +123,7 @@ with-frame-requires c κs =
     let f = k .before .before .before .before .before .next2 in
     let r = k .before .before .before .before .before .before .before in
     let l = r .before .loop in
-    let s = r .before .before .before .before in
+    let s = r .before .before .before .before .before in
     has-room
     (s .args .text .now)
     (l .nest)
@@ -128,13 +135,13 @@ with-frame-requires c κs =
     (sym (r .read-line .ensures) ∙ f .given .1)
     (k .frame-fault .result)
     (k .frame-fault .ensures)
-    (c .if1 .left)
+    (c .if2 .left)
 
 deeper-requires : tie.Need-deeper-requires Inv-loop μ-loop
 deeper-requires c κs =
     let r = c .before .before .before .before .before .before .before .before .before in
     let l = r .before .loop in
-    let s = r .before .before .before .before in
+    let s = r .before .before .before .before .before in
     deep-fits
     (s .args .text .now)
     (l .nest)
@@ -147,7 +154,7 @@ add-line : tie.Need-add-line Inv-loop μ-loop
 add-line c =
     let r = c .before .before .before .before .before .before .before .before .before .before in
     let l = r .before .loop in
-    let s = r .before .before .before .before in
+    let s = r .before .before .before .before .before in
     omega (arith, l .inv .inside, l .inv .lines, s .good .0)
 
 loop-less : tie.Need-loop-less Inv-loop μ-loop
@@ -156,7 +163,7 @@ loop-less c =
     let f = k .before .before .before .before .before .next2 in
     let r = k .before .before .before .before .before .before .before in
     let l = r .before .loop in
-    let s = r .before .before .before .before in
+    let s = r .before .before .before .before .before in
     let n = next-inside
     (s .args .text .now)
     (l .nest)
@@ -176,7 +183,7 @@ loop-again c =
     let f = k .before .before .before .before .before .next2 in
     let r = k .before .before .before .before .before .before .before in
     let l = r .before .loop in
-    let s = r .before .before .before .before in
+    let s = r .before .before .before .before .before in
     on
     (s .args .text .now)
     (l .nest)
@@ -190,7 +197,7 @@ loop-again c =
     (k .frame-fault .ensures)
     (c .before .with-frame .result)
     (c .deeper .result)
-    (c .before .before .if1 .left)
+    (c .before .before .if2 .left)
     (c .before .with-frame .ensures)
     (c .deeper .ensures)
 
@@ -200,19 +207,21 @@ read-nest-spec =
     (tie.spec
     Inv-loop
     μ-loop
+    blank-requires
+    returns
     empty-requires
     loop-holds
     read-line-requires
     enum-told
     ended-requires
-    returns
+    returns-2
     enum-known-next
     refused-requires
-    returns-2
+    returns-3
     enum-known-next-2
     frame-fault-requires
     refused-requires-2
-    returns-3
+    returns-4
     with-frame-requires
     deeper-requires
     add-line
