@@ -58,70 +58,52 @@ lay-μ-loop points own ends reach limit left choice d q h base e last need k₀ 
 -- the numbers that the call stays below
 facts :
     (t : ℕ) (c : lay-lts.Start (callees t) (lay-at t) lay.Post lay-Inv-loop lay-μ-loop) →
-    Sizes
-    (c .args .points .now)
-    (c .args .own .now)
-    (c .args .ends .now)
-    (c .args .reach .now)
-    (c .args .limit .now)
-    (c .args .left .now)
-    (c .args .choice .now)
-    (c .args .d)
-    (c .args .q)
-    (c .args .h)
+    Sizes (c .args .points .now) (c .args .own .now) (c .args .ends .now) (c .args .reach .now)
+    (c .args .limit .now) (c .args .left .now) (c .args .choice .now) (c .args .d) (c .args .q) (c .args .h)
 facts t c = let i = c .args in sizes (i .points .now) (i .own .now) (i .ends .now) (i .reach .now) (i .limit .now)
     (i .left .now) (i .choice .now) (i .d) (i .q) (i .h) (c .pre .1)
 
 lay-mul-base : (t : ℕ) → lay-lts.Need-mul-base (callees t) (lay-at t) lay.Post lay-Inv-loop lay-μ-loop
 lay-mul-base t c =
-    let z = facts t (c .before .before .before .before .before .before .before) in
-    omega arith
+    let z = facts t (c .before .before .before .before .before .before .before) in omega arith
 
 lay-add-if1 : (t : ℕ) → lay-lts.Need-add-if1 (callees t) (lay-at t) lay.Post lay-Inv-loop lay-μ-loop
 lay-add-if1 t c =
-    let z = facts t (c .before .before .before .before .before .before .before) in
-    omega arith
+    let z = facts t (c .before .before .before .before .before .before .before) in omega arith
 
 lay-mul-if1 : (t : ℕ) → lay-lts.Need-mul-if1 (callees t) (lay-at t) lay.Post lay-Inv-loop lay-μ-loop
 lay-mul-if1 t c =
-    let z = facts t (c .before .before .before .before .before .before .before) in
-    omega arith
+    let z = facts t (c .before .before .before .before .before .before .before) in omega arith
 
 lay-shared-slice-read-if1 : (t : ℕ) → lay-lts.Need-shared-slice-read-if1 (callees t) (lay-at t) lay.Post
     lay-Inv-loop lay-μ-loop
 lay-shared-slice-read-if1 t c =
-    let z = facts t (c .before .before .before .before .before .before .before .before) in
-    omega arith
+    let z = facts t (c .before .before .before .before .before .before .before .before) in omega arith
 
 lay-returns : (t : ℕ) → lay-lts.Need-returns (callees t) (lay-at t) lay.Post lay-Inv-loop lay-μ-loop
 lay-returns t c =
     let b9 = c .before .before .before .before .before .before .before .before .before in
-    let i = b9 .args in
-    let p = b9 .pre .1 in
+    let i = b9 .args in let p = b9 .pre .1 in
     blank (i .points .now) (i .own .now) (i .ends .now) (i .reach .now) (i .limit .now) (i .left .now)
     (i .choice .now) (p .0) (i .d) (i .q) (i .h) (p .1 .1 .0) (p .1 .1 .1 .0) (p .1 .1 .1 .1 .0)
     (p .1 .1 .1 .1 .1 .0) (i .key .words) (c .if1 .taken)
 
 lay-mul-e : (t : ℕ) → lay-lts.Need-mul-e (callees t) (lay-at t) lay.Post lay-Inv-loop lay-μ-loop
 lay-mul-e t c =
-    let z = facts t (c .before .before .before .before .before .before .before .before .before) in
-    omega arith
+    let z = facts t (c .before .before .before .before .before .before .before .before .before) in omega arith
 
 lay-shared-slice-read-e : (t : ℕ) → lay-lts.Need-shared-slice-read-e (callees t) (lay-at t) lay.Post lay-Inv-loop
     lay-μ-loop
 lay-shared-slice-read-e t c =
-    let z = facts t (c .before .before .before .before .before .before .before .before .before .before) in
-    omega arith
+    let z = facts t (c .before .before .before .before .before .before .before .before .before .before) in omega arith
 
 lay-add-last : (t : ℕ) → lay-lts.Need-add-last (callees t) (lay-at t) lay.Post lay-Inv-loop lay-μ-loop
 lay-add-last t c =
-    let z = facts t (c .before .before .before .before .before .before .before .before .before .before) in
-    omega arith
+    let z = facts t (c .before .before .before .before .before .before .before .before .before .before) in omega arith
 
 lay-mul-last : (t : ℕ) → lay-lts.Need-mul-last (callees t) (lay-at t) lay.Post lay-Inv-loop lay-μ-loop
 lay-mul-last t c =
-    let z = facts t (c .before .before .before .before .before .before .before .before .before .before) in
-    omega arith
+    let z = facts t (c .before .before .before .before .before .before .before .before .before .before) in omega arith
 
 lay-shared-slice-read-last : (t : ℕ) → lay-lts.Need-shared-slice-read-last (callees t) (lay-at t) lay.Post
     lay-Inv-loop lay-μ-loop
@@ -137,8 +119,7 @@ lay-copy-row-requires : (t : ℕ) → lay-lts.Need-copy-row-requires (callees t)
     lay-μ-loop
 lay-copy-row-requires t c κs =
     let b12 = c .before .before .before .before .before .before .before .before .before .before .before .before in
-    let i = b12 .args in
-    let p = b12 .pre .1 in
+    let i = b12 .args in let p = b12 .pre .1 in
     let z = facts t b12 in
     (omega arith, (omega arith, z .long))
 
@@ -146,8 +127,7 @@ lay-mul-smaller : (t : ℕ) → lay-lts.Need-mul-smaller (callees t) (lay-at t) 
 lay-mul-smaller t c =
     let b5 = c .before .before .before .before .before in
     let b14 = b5 .before .before .before .before .before .before .before .before .before in
-    let i = b14 .args in
-    let p = b14 .pre .1 in
+    let i = b14 .args in let p = b14 .pre .1 in
     let z = facts t b14 in
     let x = picked (i .points .now) (i .own .now) (i .ends .now) (i .reach .now) (i .limit .now) (i .left .now)
     (i .choice .now) (i .d) (i .q) (i .h) p (b5 .if1 .left) in
@@ -158,8 +138,7 @@ lay-array-read-smaller : (t : ℕ) → lay-lts.Need-array-read-smaller (callees 
 lay-array-read-smaller t c =
     let b5 = c .before .before .before .before .before in
     let b14 = b5 .before .before .before .before .before .before .before .before .before in
-    let i = b14 .args in
-    let p = b14 .pre .1 in
+    let i = b14 .args in let p = b14 .pre .1 in
     let z = facts t b14 in
     let x = picked (i .points .now) (i .own .now) (i .ends .now) (i .reach .now) (i .limit .now) (i .left .now)
     (i .choice .now) (i .d) (i .q) (i .h) p (b5 .if1 .left) in
@@ -172,8 +151,7 @@ lay-mul-need : (t : ℕ) → lay-lts.Need-mul-need (callees t) (lay-at t) lay.Po
 lay-mul-need t c =
     let b6 = c .before .before .before .before .before .before in
     let b15 = b6 .before .before .before .before .before .before .before .before .before in
-    let i = b15 .args in
-    let p = b15 .pre .1 in
+    let i = b15 .args in let p = b15 .pre .1 in
     let z = facts t b15 in
     let x = picked (i .points .now) (i .own .now) (i .ends .now) (i .reach .now) (i .limit .now) (i .left .now)
     (i .choice .now) (i .d) (i .q) (i .h) p (b6 .if1 .left) in
@@ -183,8 +161,7 @@ lay-array-write-need : (t : ℕ) → lay-lts.Need-array-write-need (callees t) (
 lay-array-write-need t c =
     let b6 = c .before .before .before .before .before .before in
     let b15 = b6 .before .before .before .before .before .before .before .before .before in
-    let i = b15 .args in
-    let p = b15 .pre .1 in
+    let i = b15 .args in let p = b15 .pre .1 in
     let z = facts t b15 in
     let x = picked (i .points .now) (i .own .now) (i .ends .now) (i .reach .now) (i .limit .now) (i .left .now)
     (i .choice .now) (i .d) (i .q) (i .h) p (b6 .if1 .left) in
@@ -202,8 +179,7 @@ lay-loop-holds t c =
     let b2 = c .before .before in
     let b14 = b2 .before .before .before .before .before .before .before .before .before .before .before .before in
     let b15 = b14 .before in
-    let i = b15 .args in
-    let p = b15 .pre .1 in
+    let i = b15 .args in let p = b15 .pre .1 in
     let z = facts t b15 in
     turns.begin (i .points .now) (i .own .now) (i .ends .now) (i .reach .now) (i .limit .now) (i .left .now)
     (i .choice .now) (p .0) (i .d) (i .h) (p .1 .1 .0) (p .1 .1 .1 .0) (at (i .ends .now) (i .d)) (z .e-is)
@@ -255,8 +231,7 @@ lay-step-child-requires t c κs =
     let b8 = b6 .before .before in
     let b20 = b8 .before .before .before .before .before .before .before .before .before .before .before .before in
     let b21 = b20 .before in
-    let i = b21 .args in
-    let p = b21 .pre .1 in
+    let i = b21 .args in let p = b21 .pre .1 in
     let z = facts t b21 in
     let l = b5 .loop in
     let m = p .0 .own-low (l .p - 1) in
@@ -290,8 +265,7 @@ lay-lay-requires t c κs =
     let b10 = b8 .before .before in
     let b22 = b10 .before .before .before .before .before .before .before .before .before .before .before .before in
     let b23 = b22 .before in
-    let i = b23 .args in
-    let p = b23 .pre .1 in
+    let i = b23 .args in let p = b23 .pre .1 in
     let z = facts t b23 in
     let l = b7 .loop in
     let more = b6 .loop-test .taken in
@@ -315,8 +289,7 @@ lay-loop-less t c =
     let b11 = b9 .before .before in
     let b23 = b11 .before .before .before .before .before .before .before .before .before .before .before .before in
     let b24 = b23 .before in
-    let i = b24 .args in
-    let p = b24 .pre .1 in
+    let i = b24 .args in let p = b24 .pre .1 in
     let z = facts t b24 in
     let l = b8 .loop in
     let more = b7 .loop-test .taken in
@@ -341,8 +314,7 @@ lay-loop-again t c =
     let b11 = b9 .before .before in
     let b23 = b11 .before .before .before .before .before .before .before .before .before .before .before .before in
     let b24 = b23 .before in
-    let i = b24 .args in
-    let p = b24 .pre .1 in
+    let i = b24 .args in let p = b24 .pre .1 in
     let z = facts t b24 in
     let l = b8 .loop in
     let more = b7 .loop-test .taken in
@@ -382,8 +354,7 @@ lay-add-c t c =
     let b5 = c .before .before .before .before .before in
     let b17 = b5 .before .before .before .before .before .before .before .before .before .before .before .before in
     let b21 = b17 .before .before .before .before in
-    let i = b21 .args in
-    let p = b21 .pre .1 in
+    let i = b21 .args in let p = b21 .pre .1 in
     let z = facts t b21 in
     omega (arith, b5 .loop .inv .small)
 
@@ -400,8 +371,7 @@ lay-loop-again-2 t c =
     let b8 = b6 .before .before in
     let b20 = b8 .before .before .before .before .before .before .before .before .before .before .before .before in
     let b21 = b20 .before in
-    let i = b21 .args in
-    let p = b21 .pre .1 in
+    let i = b21 .args in let p = b21 .pre .1 in
     let z = facts t b21 in
     let l = b5 .loop in
     let more = b4 .loop-test .taken in
@@ -423,8 +393,7 @@ lay-loop-again-3 t c =
     let b7 = b5 .before .before in
     let b19 = b7 .before .before .before .before .before .before .before .before .before .before .before .before in
     let b20 = b19 .before in
-    let i = b20 .args in
-    let p = b20 .pre .1 in
+    let i = b20 .args in let p = b20 .pre .1 in
     let z = facts t b20 in
     let l = b4 .loop in
     let more = b3 .loop-test .taken in
@@ -438,8 +407,7 @@ lay-add-put-where : (t : ℕ) → lay-lts.Need-add-put-where (callees t) (lay-at
 lay-add-put-where t c =
     let b8 = c .before .before .before .before .before .before .before .before in
     let b17 = b8 .before .before .before .before .before .before .before .before .before in
-    let i = b17 .args in
-    let p = b17 .pre .1 in
+    let i = b17 .args in let p = b17 .pre .1 in
     let z = facts t b17 in
     let x = picked (i .points .now) (i .own .now) (i .ends .now) (i .reach .now) (i .limit .now) (i .left .now)
     (i .choice .now) (i .d) (i .q) (i .h) p (b8 .if1 .left) in
@@ -449,8 +417,7 @@ lay-mul-put-where : (t : ℕ) → lay-lts.Need-mul-put-where (callees t) (lay-at
 lay-mul-put-where t c =
     let b8 = c .before .before .before .before .before .before .before .before in
     let b17 = b8 .before .before .before .before .before .before .before .before .before in
-    let i = b17 .args in
-    let p = b17 .pre .1 in
+    let i = b17 .args in let p = b17 .pre .1 in
     let z = facts t b17 in
     let x = picked (i .points .now) (i .own .now) (i .ends .now) (i .reach .now) (i .limit .now) (i .left .now)
     (i .choice .now) (i .d) (i .q) (i .h) p (b8 .if1 .left) in
@@ -461,8 +428,7 @@ lay-shared-slice-read-put-where : (t : ℕ) → lay-lts.Need-shared-slice-read-p
 lay-shared-slice-read-put-where t c =
     let b9 = c .before .before .before .before .before .before .before .before .before in
     let b18 = b9 .before .before .before .before .before .before .before .before .before in
-    let i = b18 .args in
-    let p = b18 .pre .1 in
+    let i = b18 .args in let p = b18 .pre .1 in
     let z = facts t b18 in
     let x = picked (i .points .now) (i .own .now) (i .ends .now) (i .reach .now) (i .limit .now) (i .left .now)
     (i .choice .now) (i .d) (i .q) (i .h) p (b9 .if1 .left) in
@@ -491,8 +457,7 @@ lay-returns-2 t c =
     let b6 = b4 .before .before in
     let b10 = b6 .before .before .before .before in
     let b19 = b10 .before .before .before .before .before .before .before .before .before in
-    let i = b19 .args in
-    let p = b19 .pre .1 in
+    let i = b19 .args in let p = b19 .pre .1 in
     let z = facts t b19 in
     let l = b3 .loop in
     let x = picked (i .points .now) (i .own .now) (i .ends .now) (i .reach .now) (i .limit .now) (i .left .now)
@@ -510,52 +475,13 @@ lay-returns-2 t c =
 
 pub +lay-spec : {M : Type 1} → statement M
 +lay-spec = close μ-lay λ t. lay-lts.spec (callees t)
-    (lay-at t)
-    lay.Post
-    lay-Inv-loop
-    lay-μ-loop
-    (lay-mul-base t)
-    (lay-add-if1 t)
-    (lay-mul-if1 t)
-    (lay-shared-slice-read-if1 t)
-    (lay-returns t)
-    (lay-mul-e t)
-    (lay-shared-slice-read-e t)
-    (lay-add-last t)
-    (lay-mul-last t)
-    (lay-shared-slice-read-last t)
-    (lay-slice-aggregate-copy-row t)
-    (lay-copy-row-requires t)
-    (lay-mul-smaller t)
-    (lay-array-read-smaller t)
-    (lay-smaller-requires t)
-    (lay-mul-need t)
-    (lay-array-write-need t)
-    (lay-add-f t)
-    (lay-loop-holds t)
-    (lay-sub-before t)
-    (lay-shared-slice-read-if2 t)
-    (lay-mul-l t)
-    (lay-shared-slice-read-l t)
-    (lay-slice-aggregate-step-child t)
-    (lay-sub-step-child t)
-    (lay-step-child-requires t)
-    (lay-put-where-requires t)
-    (lay-sub-lay t)
-    (lay-lay-requires t)
-    (lay-loop-less t)
-    (lay-loop-again t)
-    (lay-mul-if3 t)
-    (lay-array-read-if3 t)
-    (lay-put-requires t)
-    (lay-add-c t)
-    (lay-loop-less-2 t)
-    (lay-loop-again-2 t)
-    (lay-loop-less-3 t)
-    (lay-loop-again-3 t)
-    (lay-add-put-where t)
-    (lay-mul-put-where t)
-    (lay-shared-slice-read-put-where t)
-    (lay-add-put-where-2 t)
-    (lay-put-where-requires-2 t)
-    (lay-returns-2 t)
+    (lay-at t) lay.Post lay-Inv-loop lay-μ-loop (lay-mul-base t) (lay-add-if1 t) (lay-mul-if1 t)
+    (lay-shared-slice-read-if1 t) (lay-returns t) (lay-mul-e t) (lay-shared-slice-read-e t) (lay-add-last t)
+    (lay-mul-last t) (lay-shared-slice-read-last t) (lay-slice-aggregate-copy-row t) (lay-copy-row-requires t)
+    (lay-mul-smaller t) (lay-array-read-smaller t) (lay-smaller-requires t) (lay-mul-need t) (lay-array-write-need t)
+    (lay-add-f t) (lay-loop-holds t) (lay-sub-before t) (lay-shared-slice-read-if2 t) (lay-mul-l t)
+    (lay-shared-slice-read-l t) (lay-slice-aggregate-step-child t) (lay-sub-step-child t) (lay-step-child-requires t)
+    (lay-put-where-requires t) (lay-sub-lay t) (lay-lay-requires t) (lay-loop-less t) (lay-loop-again t)
+    (lay-mul-if3 t) (lay-array-read-if3 t) (lay-put-requires t) (lay-add-c t) (lay-loop-less-2 t) (lay-loop-again-2 t)
+    (lay-loop-less-3 t) (lay-loop-again-3 t) (lay-add-put-where t) (lay-mul-put-where t)
+    (lay-shared-slice-read-put-where t) (lay-add-put-where-2 t) (lay-put-where-requires-2 t) (lay-returns-2 t)
