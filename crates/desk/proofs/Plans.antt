@@ -1,5 +1,5 @@
 -- Plan: the planner's words are a key of the desk's nest.
--- Main statements: `plan-refused`, `plan-made`.
+-- Main statements: `planned-key`, `same-key-again`, `plan-refused`, `plan-made`.
 use mathlib.Core.Path.{_≡_, refl, sym, _∙_, ap, subst}
 use mathlib.Core.Bool.{Bool, true, false}
 use mathlib.Core.List.{List}
@@ -13,6 +13,7 @@ use Rattle.nests.specs.Stored.{nestIn, IsCounted}
 use Rattle.nests.proofs.Deps.{valid-is, deps-fit}
 use Rattle.placements.specs.Words.{GAPS, gapsIn, holds}
 use Rattle.placements.specs.Keys.{IsKey}
+use Rattle.placements.proofs.Words.{gaps-same}
 use Rattle.planner.specs.Home.{keyIn}
 use Rattle.keys.specs.KeyOf.{keyOf}
 use Rattle.keys.proofs.KeyGaps.{words-of-key}
@@ -28,6 +29,11 @@ pub planned-key : (n : Nest) (ws : List ℕ) → isValid n ≡ true → Planned.
 planned-key n ws v h =
     let w = valid-is n v in
     subst (λ (x : List ℕ). IsKey n x) (sym (words-of-key n (w .shape) (deps-fit (n .points) (n .deps) (w .all-deps)) ws (w .few-points) (λ g _. h g))) (key-is-key n v)
+
+-- the planner's words hold the same key each time, so Plan on a desk that has a key makes the same key again
+pub same-key-again
+    : (n : Nest) (ws vs : List ℕ) → Planned.PlanSays n ws → Planned.PlanSays n vs → gapsIn ws ≡ gapsIn vs
+same-key-again n ws vs h k = gaps-same ws vs (λ g _. h g ∙ sym (k g))
 
 module _ (d : DD.Desk) (r : DR.Reply) where
   pub plan-refused : d .loaded ≡ false → r .number ≡ 10 → r .line ≡ 0 → r .desk ≡ d → PlanSays d r
