@@ -1,8 +1,9 @@
 #!/usr/bin/env python3
 """Full-size papers for measuring: papers.py KIND POINTS writes a nest text, the same each time.
 
-KIND: deep (8 loops, one in the other), one (one loop), many (small loops side by side), mixed (a random tree).
-There are twice as many dependences as points, independent and carried in equal parts.
+KIND: deep (8 loops, one in the other), one (one loop), many (small loops side by side), mixed (a random tree), carried
+(empty loops side by side, 8 deep). There are twice as many dependences as points, independent and carried in equal
+parts; in a carried paper the outermost loop carries them all.
 """
 import random
 import sys
@@ -18,6 +19,8 @@ def points(kind, n, rng):
     if kind == 'many':
         inner = ([DO, ST, ST, END] * n)[:(n - 2) // 4 * 4]
         return [DO] + inner + [ST] * (n - 2 - len(inner)) + [END]
+    if kind == 'carried':
+        return [DO] * 7 + [DO, END] * ((n - 14) // 2) + [END] * 7
     ps, depth = [DO], 1
     while len(ps) < n - depth:
         r = rng.random()
@@ -53,12 +56,12 @@ def main():
         s, t = rng.randrange(n), rng.randrange(n)
         if ps[s] == END or ps[t] == DO:
             continue
-        if deps % 2 == 0:
+        if kind != 'carried' and deps % 2 == 0:
             if s < t and t - s < 40:
                 out.append('11%02x%02x' % (s, t))
                 deps += 1
         else:
-            d = rng.choice(loops)
+            d = 0 if kind == 'carried' else rng.choice(loops)
             if d < t <= s < end[d]:
                 out.append('12%02x%02x%02x' % (d, s, t))
                 deps += 1

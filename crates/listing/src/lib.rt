@@ -76,8 +76,11 @@ fn record_fault(points: &[u8], e: Dependence) -> u8
 {
     let kind = e.kind;
     match kind {
-        INDEPENDENT => nests::dep_fault(points, e),
-        CARRIED => nests::dep_fault(points, e),
+        INDEPENDENT => nests::dep_fault(points, 0, e),
+        CARRIED => {
+            let end = nests::end_of(points, e.d as usize);
+            nests::dep_fault(points, end, e)
+        }
         _ => 2,
     }
 }

@@ -11,7 +11,7 @@ use lib.Seq.{getD-set-same, getD-set-other}
 use borrow.Author.Tests.{ne-eqb}
 use Rattle.laws.proofs.Tests.{le-or, never}
 use Rattle.nests.specs.Kinds.{DO, POINTS}
-use Rattle.nests.specs.Loops.{isDo, endOf}
+use Rattle.nests.specs.Loops.{isDo, endOf, HasEnds}
 use Rattle.nests.proofs.Levels.{point-in}
 
 -- the entries of the DOs below k are there
@@ -48,5 +48,5 @@ module _ (ps ends : List ℕ) (k : ℕ) (p : Filled ps ends k) where
             (le-or (suc d) k);
       }
 
-  pub fill-done : length ps ≤ k → (d : ℕ) → isDo ps d ≡ true → getD ends d 0 ≡ endOf ps d
+  pub fill-done : length ps ≤ k → HasEnds ps ends
   fill-done h d m = p .at d (omega (arith, point-in ps d 0 m)) m

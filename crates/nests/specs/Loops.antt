@@ -1,5 +1,6 @@
 -- Loops: depth, the ENDDO of a DO, the loop that a gap belongs to.
--- Main definitions: `isDo`, `depth`, `endOf`, `ownerOf`, `inLoop`, `isClosed`.
+-- Main definitions: `isDo`, `depth`, `endOf`, `HasEnds`, `ownerOf`, `inLoop`, `isClosed`.
+use mathlib.Core.Path.{_≡_}
 use mathlib.Core.Bool.{Bool, true, false, _&&_}
 use mathlib.Core.List.{List, [], _∷_}
 use Prim.Native.Nat.{ℕ, zero, suc, _-_}
@@ -34,6 +35,10 @@ endFrom i d (p ∷ ps) = pick (eqb p ENDDO && eqb d 1) i (endFrom (suc i) (deepe
 -- 01, "The nest and its gaps": a loop is named by its DO's point d; this is the point of its ENDDO
 abbrev pub endOf : List ℕ → ℕ → ℕ
 endOf ps d = endFrom d 0 (drop d ps)
+
+-- the table has the ENDDO of every DO, by the DO's point
+abbrev pub HasEnds : List ℕ → List ℕ → Type 0
+HasEnds ps ends = (d : ℕ) → isDo ps d ≡ true → getD ends d 0 ≡ endOf ps d
 
 -- 01, "The nest and its gaps": gap g belongs to the innermost loop with DO below g and ENDDO at or above g
 abbrev pub ownerFrom : ℕ → ℕ → List ℕ → ℕ

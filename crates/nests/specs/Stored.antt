@@ -33,6 +33,7 @@ pub record IsEmpty (r : DN.Nest) : Type 0 where
   pub nest-is : nestIn r ≡ empty
   pub no-points : r .count ≡ 0
   pub no-deps : r .many ≡ 0
+  pub long : length (r .deps) ≡ DEPENDENCES
   pub counted : IsCounted r
 
 -- r is n with one point more

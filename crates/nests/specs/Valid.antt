@@ -1,5 +1,6 @@
 -- When a nest is valid, and numbers 6 and 7 of a dependence.
 -- Main definitions: `isShape`, `depFault`, `isDep`, `isValid`.
+use mathlib.Core.Path.{_≡_}
 use mathlib.Core.Bool.{Bool, true, false, _&&_, _||_, not}
 use mathlib.Core.List.{List, [], _∷_}
 use Prim.Native.Nat.{ℕ, zero, suc}
@@ -8,7 +9,7 @@ use lib.ListN.{length, getD}
 use Rattle.laws.specs.Choice.{pick, when, firstOf}
 use Rattle.nests.specs.Kinds.{DO, ENDDO, STATEMENT, INDEPENDENT, CARRIED, POINTS, DEPTH, DEPENDENCES}
 use Rattle.nests.specs.Nests.{Dep, Nest}
-use Rattle.nests.specs.Loops.{isDo, inLoop}
+use Rattle.nests.specs.Loops.{isDo, endOf, inLoop}
 
 -- the rest of a nest's points at depth d: every loop closes, none deeper than the limit, nothing after the outermost
 abbrev pub closes : ℕ → List ℕ → Bool
@@ -45,6 +46,10 @@ runsRight ps e =
     (eqb (e .kind) CARRIED)
     (inLoop ps (e .d) (e .s) && inLoop ps (e .d) (e .t))
     (ltb (e .s) (e .t))
+
+-- `end` is the ENDDO of the loop that carries the dependence; nothing is said of one that no loop carries
+abbrev pub CarriedTo : List ℕ → Dep → ℕ → Type 0
+CarriedTo ps e end = e .kind ≡ CARRIED → isDo ps (e .d) ≡ true → end ≡ endOf ps (e .d)
 
 -- 6 or 7, of a dependence of either kind; 0 for none
 abbrev pub depFault : List ℕ → Dep → ℕ

@@ -1,12 +1,12 @@
 // Nests: their points and dependences by value, and the tests of a dependence.
 ghost use mathlib.Core.Path.{_≡_};
 ghost use mathlib.Core.Bool.{true};
-ghost use Prim.Native.Nat.{ℕ, _+_, _^_, _<_, _≤_};
-ghost use lib.ListN.{length, getD};
-ghost use Rattle.nests.specs.Kinds.{POINTS, DEPENDENCES};
-ghost use Rattle.nests.specs.Loops.{deeper, endOf, ownerOf, isDo, isInside};
-ghost use Rattle.nests.specs.Valid.{isShape, isSource, isTarget, depFault};
-ghost use Rattle.nests.specs.Stored.{depIn, IsCounted, IsEmpty, PointAdded, DependenceAdded};
+ghost use Prim.Native.Nat.{_+_, _^_, _<_, _≤_};
+ghost use lib.ListN.{length};
+ghost use Rattle.nests.specs.Kinds.{POINTS};
+ghost use Rattle.nests.specs.Loops.{deeper, endOf, HasEnds, ownerOf, isDo, isInside};
+ghost use Rattle.nests.specs.Valid.{isShape, isSource, isTarget, CarriedTo, depFault};
+ghost use Rattle.nests.specs.Stored.{depIn, IsCounted, IsEmpty, PointAdded};
 
 // The kinds of points.
 pub const DO: u8 = 1;
@@ -72,19 +72,6 @@ impl Nest {
         n.count = at + 1;
         n
     }
-
-    // The nest with one dependence more.
-    pub fn with_dependence(self, e: Dependence) -> Nest
-        requires { ⌜ IsCounted self ⌝ }
-        requires { ⌜ self .many < DEPENDENCES ⌝ }
-        ensures { λ r. ⌜ DependenceAdded self e r ⌝ }
-    {
-        let mut n = self;
-        let at = n.many;
-        n.deps[at] = e;
-        n.many = at + 1;
-        n
-    }
 }
 
 // The depth after one more point.
@@ -126,7 +113,7 @@ pub fn end_of(points: &[u8], d: usize) -> usize
 // The ENDDO of every DO, by the DO's point.
 pub fn ends_of(points: &[u8]) -> [usize; Nest::POINTS]
     requires { ⌜ length (now points) ≤ POINTS ⌝ }
-    ensures { λ r. ⌜ ((d : ℕ) → isDo (now (points .entry)) d ≡ true → getD r d 0 ≡ endOf (now (points .entry)) d) ⌝ }
+    ensures { λ r. ⌜ HasEnds (now (points .entry)) r ⌝ }
 {
     let mut ends = [0; Nest::POINTS];
     let mut d = 0;
@@ -215,8 +202,9 @@ pub fn is_inside(d: usize, end: usize, p: usize) -> bool
     false
 }
 
-// The refusal of a dependence, 6 or 7, or 0 for none.
-pub fn dep_fault(points: &[u8], e: Dependence) -> u8
+// The refusal of a dependence, 6 or 7, or 0 for none; `end` is the ENDDO of the loop that carries it.
+pub fn dep_fault(points: &[u8], end: usize, e: Dependence) -> u8
+    requires { ⌜ CarriedTo (now points) (depIn e) end ⌝ }
     ensures { λ r. ⌜ r ≡ depFault (now (points .entry)) (depIn e) ⌝ }
 {
     let s = e.s as usize;
@@ -229,7 +217,6 @@ pub fn dep_fault(points: &[u8], e: Dependence) -> u8
             if e.kind == CARRIED {
                 let starts = is_do(points, d);
                 if starts {
-                    let end = end_of(points, d);
                     let from_inside = is_inside(d, end, s);
                     if from_inside {
                         let to_inside = is_inside(d, end, t);

@@ -5,8 +5,9 @@ use mathlib.Core.Bool.{Bool, true, false, not}
 use Prim.Native.Nat.{ℕ, _≤_, _<_}
 use native.Mathlib.Omega.{arith}
 use lib.Dec.{eqb, leb}
-use borrow.Author.Tests.{le-leb, lt-leb, eq-eqb, ne-eqb}
+use borrow.Author.Tests.{le-leb, lt-leb, eq-eqb, ne-eqb, eqb-true}
 use Rattle.laws.specs.Choice.{when, firstOf}
+use Rattle.laws.proofs.Tests.{and-true}
 use Rattle.laws.proofs.Connectives.{or-off}
 use Rattle.nests.specs.Kinds.{DO, POINTS, DEPTH, DEPENDENCES}
 use Rattle.nests.specs.Nests.{Dep, Nest}
@@ -29,6 +30,9 @@ pub closed-some : (count deep : ℕ) → (count ≡ 0 → ⊥) → eqb deep 0 �
 closed-some count deep h =
     let z : 1 ≤ count = omega arith in
     rw (le-leb 1 count z)
+
+pub closed-deep : (count deep : ℕ) → closedBy count deep ≡ true → deep ≡ 0
+closed-deep count deep h = eqb-true deep 0 (and-true (leb 1 count) (eqb deep 0) h .1)
 
 -- a point has no place
 pub misplaced-first : (count deep kind : ℕ) → count ≡ 0 → not (eqb kind DO) ≡ misplacedBy count deep kind

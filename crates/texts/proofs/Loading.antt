@@ -1,5 +1,6 @@
 -- Nest texts read line by line: what a turn of the reader keeps, and one law for each way through a turn.
--- Main statements: `at-blank`, `begun`, `at-end`, `at-refusal`, `at-fault`, `has-room`, `on`.
+-- Main statements: `at-blank`, `begun`, `at-end`, `at-refusal`, `at-fault`, `room-for-point`, `room-for-dependence`,
+-- `on-point`, `on-dependence`.
 use mathlib.Core.Path.{_≡_, refl, sym, _∙_, ap}
 use mathlib.Core.Bool.{Bool, true, false, _&&_, not}
 use mathlib.Core.List.{List, [], _∷_, _++_}
@@ -7,17 +8,19 @@ use Prim.Native.Nat.{ℕ, suc, _+_, _-_, _^_, _≤_, _<_}
 use native.Mathlib.Numerals.{add-one}
 use native.Mathlib.Omega.{arith}
 use lib.Dec.{eqb, leb}
-use lib.ListN.{length, take, drop, length-take}
+use lib.ListN.{length, take, drop, set, length-take, length-set}
 use borrow.Author.Tests.{leb-false, ne-eqb}
 use Rattle.laws.specs.Choice.{pick, when, firstOf}
 use Rattle.laws.proofs.Tests.{or-false, never}
 use Rattle.laws.proofs.Choices.{first-zero, when-zero}
 use Rattle.nests.specs.Kinds.{DO, ENDDO, POINTS, DEPTH, DEPENDENCES}
 use Rattle.nests.specs.Nests.{Dep, Nest, nest, empty}
-use Rattle.nests.specs.Loops.{deeper, depthFrom, depth, isClosed}
+use Rattle.nests.specs.Loops.{deeper, depthFrom, depth, isClosed, HasEnds}
 use Rattle.nests.specs.Valid.{depFault}
-use Rattle.nests.specs.Stored.{nestIn, IsCounted, IsEmpty}
+use Rattle.nests.specs.Stored.{depIn, nestIn, IsCounted, IsEmpty}
+use Rattle.nests.specs.declared.Dependence.{Dependence}
 use Rattle.nests.specs.declared.Nest as DN
+use Rattle.nests.proofs.Stored as stored
 use Rattle.lines.specs.declared.Frame.{Frame}
 use Rattle.lines.specs.declared.Read.the-variants as RV
 use Rattle.lines.specs.Lines.{Line, linesOf, isGood, frameOf}
@@ -27,11 +30,11 @@ use Rattle.texts.specs.declared.Reading.{Reading}
 use Rattle.texts.specs.NestTexts.{isPoint, kindOf, kindGood, depOf, pointFault, dependenceFault, frameFault}
 use Rattle.texts.specs.NestTexts.{withFrame, lineFault, Got, got, readLines, readNest}
 use Rattle.texts.specs.Reads.{IsRead, RefusedAs, EndedAs, HasNumbers, closedBy, misplacedBy, tooManyBy}
-use Rattle.texts.specs.Reads.{FrameFault, HasRoom, FrameAdded}
+use Rattle.texts.specs.Reads.{KnowsEnds, FrameFault, IsDependence}
 use Rattle.texts.proofs.BlankPaper.{lines-read}
 use Rattle.texts.proofs.Shapes.{depth-more}
 use Rattle.texts.proofs.Faults.{bad-first, good-first}
-use Rattle.texts.proofs.Frames.{is-point}
+use Rattle.texts.proofs.Frames.{is-point, with-point, with-dependence}
 
 -- the depth is at most the number of points
 deeper-grows : (d p : ℕ) → deeper d p ≤ suc d
@@ -127,10 +130,13 @@ module _ (k : ℕ) (n : Nest) (l : Line) (ls : List Line) where
   read-on : lineFault n l ≡ 0 → readLines k n (l ∷ ls) ≡ readLines (suc k) (withFrame n (frameOf (l .bytes))) ls
   read-on h = read-by 0 h
 
--- what a turn keeps: the nest so far, its depth, and that the rest of the lines decides as the whole text does
-pub record Loading (s : List ℕ) (n : DN.Nest) (deep at line : ℕ) : Type 0 where
+-- what a turn keeps: the nest so far, its depth and its ends, and that the rest of the lines decides as the whole text
+-- does
+pub record Loading (s : List ℕ) (n : DN.Nest) (ends : List ℕ) (deep at line : ℕ) : Type 0 where
   pub counted : IsCounted n
+  pub long : length (n .deps) ≡ DEPENDENCES
   pub deep-is : deep ≡ depth (nestIn n .points)
+  pub knows : KnowsEnds (nestIn n .points) deep ends
   pub inside : at ≤ length s
   pub lines : line ≤ at + 1
   pub rest : readLines line (nestIn n) (linesOf (drop at s)) ≡ readNest s
@@ -140,123 +146,194 @@ pub at-blank : (s : List ℕ) (r : Reading) → length s ≡ 0 → IsRead [] r �
 at-blank [] r h p = p
 at-blank (b ∷ s) r h p = absurd (omega arith)
 
-pub begun : (s : List ℕ) (n : DN.Nest) → 0 < length s → IsEmpty n → Loading s n 0 0 1
-begun s n some e =
+-- no point is a DO where there is none
+no-do : (ps ends : List ℕ) → ps ≡ [] → HasEnds ps ends
+no-do [] ends h d m = never m
+no-do (p ∷ ps) ends h d m =
+    let z : suc (length ps) ≡ 0 = ap length h in
+    absurd (omega arith)
+
+pub begun
+    : (s : List ℕ) (n : DN.Nest) (ends : List ℕ)
+    → 0 < length s
+    → IsEmpty n
+    → length ends ≡ POINTS
+    → Loading s n ends 0 0 1
+begun s n ends some e l =
     record {
       counted = e .counted;
+      long = e .long;
+      knows =
+          record {
+            long = l;
+            has-ends = λ z. no-do (nestIn n .points) ends (ap (λ (x : Nest). x .points) (e .nest-is));
+          };
       deep-is = ap (λ (x : Nest). depth (x .points)) (sym (e .nest-is));
       inside = omega arith;
       lines = omega arith;
       rest = ap (λ (x : Nest). readLines 1 x (linesOf s)) (e .nest-is) ∙ sym (lines-read s some);
     }
 
-module _ (s : List ℕ) (n : DN.Nest) (deep at line : ℕ) (p : Loading s n deep at line) where
-  abbrev ps : List ℕ
-  ps = take (n .count) (n .points)
+module _
+    (s : List ℕ) (n : DN.Nest) (ends : List ℕ) (deep at line : ℕ) (p : Loading s n ends deep at line)
+  where
+    abbrev ps : List ℕ
+    ps = take (n .count) (n .points)
 
-  numbers : HasNumbers (nestIn n) (length ps) (n .many) deep
-  numbers = record { count-is = refl; many-is = sym (p .counted .many-is); depth-is = sym (p .deep-is) }
+    numbers : HasNumbers (nestIn n) (length ps) (n .many) deep
+    numbers = record { count-is = refl; many-is = sym (p .counted .many-is); depth-is = sym (p .deep-is) }
 
-  -- the points that are counted are there
-  pub count-inside : n .count ≤ length (n .points)
-  count-inside = omega (arith, p .counted .count-is, length-take (n .count) (n .points))
+    -- the points that are counted are there
+    pub count-inside : n .count ≤ length (n .points)
+    count-inside = omega (arith, p .counted .count-is, length-take (n .count) (n .points))
 
-  pub deep-fits : deep + 1 < 2 ^ 64
-  deep-fits = omega (arith, p .deep-is, depth-bound 0 ps, p .counted .count-is, p .counted .count-fits)
+    pub deep-fits : deep + 1 < 2 ^ 64
+    deep-fits = omega (arith, p .deep-is, depth-bound 0 ps, p .counted .count-is, p .counted .count-fits)
 
-  pub at-end : (r : Reading) → lineAt s at ≡ RV.End → EndedAs n deep line r → IsRead s r
-  at-end r h e =
-      let closed : closedBy (n .count) deep ≡ isClosed ps =
-      ap (λ (x : ℕ). closedBy x deep) (p .counted .count-is) ∙ ap (closedBy (length ps)) (p .deep-is) in
-      record {
-        got-is =
-            e .got-is
-            ∙ ap (λ (b : Bool). pick b (got 0 0 (nestIn n)) (got 4 line empty)) closed
-            ∙ sym (read-none line (nestIn n))
-            ∙ ap (readLines line (nestIn n)) (sym (no-line s at h))
-            ∙ p .rest;
-        counted = e .counted;
-      }
-
-  pub at-refusal : (k : ℕ) (r : Reading) → lineAt s at ≡ RV.Refused k → RefusedAs k line r → IsRead s r
-  at-refusal k r h e =
-      let b = bad-line s at k h in
-      let fault = fault-bad (nestIn n) (b .first) (b .bad) in
-      record {
-        got-is =
-            e .got-is
-            ∙ ap (λ (x : ℕ). got x line empty) (b .number)
-            ∙ sym (read-stop line (nestIn n) (b .first) (b .rest) 1 fault (omega arith))
-            ∙ ap (readLines line (nestIn n)) (sym (b .lines))
-            ∙ p .rest;
-        counted = e .counted;
-      }
-
-  -- the frame of a good line
-  module _ (f : Frame) (h : lineAt s at ≡ RV.Frame f) (e : ℕ) (fault : FrameFault ps (n .many) deep f e) where
-    good : Good-line s at f
-    good = good-line s at f h
-
-    spelled : List ℕ
-    spelled = frameOf (good .first .bytes)
-
-    fault-is : e ≡ frameFault (nestIn n) spelled
-    unfolding spelled
-    fault-is = fault (nestIn n) spelled refl numbers (good .frame-is)
-
-    line-fault : lineFault (nestIn n) (good .first) ≡ e
-    unfolding spelled
-    line-fault = fault-good (nestIn n) (good .first) (good .good) ∙ sym fault-is
-
-    pub at-fault : (r : Reading) → (e ≡ 0 → ⊥) → RefusedAs e line r → IsRead s r
-    at-fault r z q =
+    pub at-end : (r : Reading) → lineAt s at ≡ RV.End → EndedAs n deep line r → IsRead s r
+    at-end r h e =
+        let closed : closedBy (n .count) deep ≡ isClosed ps =
+        ap (λ (x : ℕ). closedBy x deep) (p .counted .count-is) ∙ ap (closedBy (length ps)) (p .deep-is) in
         record {
           got-is =
-              q .got-is
-              ∙ sym (read-stop line (nestIn n) (good .first) (linesOf (drop (f .next) s)) e line-fault z)
-              ∙ ap (readLines line (nestIn n)) (sym (good .lines))
+              e .got-is
+              ∙ ap (λ (b : Bool). pick b (got 0 0 (nestIn n)) (got 4 line empty)) closed
+              ∙ sym (read-none line (nestIn n))
+              ∙ ap (readLines line (nestIn n)) (sym (no-line s at h))
               ∙ p .rest;
-          counted = q .counted;
+          counted = e .counted;
         }
 
-    pub has-room : e ≡ 0 → HasRoom n f
-    unfolding spelled
-    has-room z =
-        let none : frameFault (nestIn n) spelled ≡ 0 = sym fault-is ∙ z in
-        let kind : isPoint (f .kind) ≡ isPoint (kindOf spelled) = ap isPoint (good .frame-is .kind-is) in
+    pub at-refusal : (k : ℕ) (r : Reading) → lineAt s at ≡ RV.Refused k → RefusedAs k line r → IsRead s r
+    at-refusal k r h e =
+        let b = bad-line s at k h in
+        let fault = fault-bad (nestIn n) (b .first) (b .bad) in
         record {
-          counted = p .counted;
-          for-point = λ t. omega (arith, p .counted .count-is, room-point (nestIn n) spelled none (sym kind ∙ t));
-          for-dependence =
-              λ t. omega (arith, p .counted .many-is, room-dependence (nestIn n) spelled none (sym kind ∙ t));
-        }
-
-    pub next-inside : (at < f .next) × (f .next ≤ length s)
-    next-inside = omega (arith, good .on, good .inside)
-
-    pub on
-        : (m : DN.Nest) (d : ℕ)
-        → e ≡ 0
-        → FrameAdded n f m
-        → d ≡ deeper deep (f .kind)
-        → Loading s m d (f .next) (line + 1)
-    unfolding spelled
-    on m d z q w =
-        let added : nestIn m ≡ withFrame (nestIn n) spelled = q .nest-is spelled (good .frame-is) in
-        record {
-          counted = q .counted;
-          deep-is =
-              w
-              ∙ ap (λ (x : ℕ). deeper x (f .kind)) (p .deep-is)
-              ∙ ap (deeper (depth (nestIn n .points))) (good .frame-is .kind-is)
-              ∙ sym (depth-with (nestIn n) spelled)
-              ∙ ap (λ (x : Nest). depth (x .points)) (sym added);
-          inside = good .inside;
-          lines = omega (arith, p .lines, good .on);
-          rest =
-              ap (λ (x : ℕ). readLines x (nestIn m) (linesOf (drop (f .next) s))) (add-one line)
-              ∙ ap (λ (x : Nest). readLines (suc line) x (linesOf (drop (f .next) s))) added
-              ∙ sym (read-on line (nestIn n) (good .first) (linesOf (drop (f .next) s)) (line-fault ∙ z))
-              ∙ ap (readLines line (nestIn n)) (sym (good .lines))
+          got-is =
+              e .got-is
+              ∙ ap (λ (x : ℕ). got x line empty) (b .number)
+              ∙ sym (read-stop line (nestIn n) (b .first) (b .rest) 1 fault (omega arith))
+              ∙ ap (readLines line (nestIn n)) (sym (b .lines))
               ∙ p .rest;
+          counted = e .counted;
         }
+
+    -- the frame of a good line
+    module _ (f : Frame) (h : lineAt s at ≡ RV.Frame f) (e : ℕ) (fault : FrameFault ps (n .many) deep f e) where
+      good : Good-line s at f
+      good = good-line s at f h
+
+      spelled : List ℕ
+      spelled = frameOf (good .first .bytes)
+
+      fault-is : e ≡ frameFault (nestIn n) spelled
+      unfolding spelled
+      fault-is = fault (nestIn n) spelled refl numbers (good .frame-is)
+
+      line-fault : lineFault (nestIn n) (good .first) ≡ e
+      unfolding spelled
+      line-fault = fault-good (nestIn n) (good .first) (good .good) ∙ sym fault-is
+
+      pub at-fault : (r : Reading) → (e ≡ 0 → ⊥) → RefusedAs e line r → IsRead s r
+      at-fault r z q =
+          record {
+            got-is =
+                q .got-is
+                ∙ sym (read-stop line (nestIn n) (good .first) (linesOf (drop (f .next) s)) e line-fault z)
+                ∙ ap (readLines line (nestIn n)) (sym (good .lines))
+                ∙ p .rest;
+            counted = q .counted;
+          }
+
+      none : e ≡ 0 → frameFault (nestIn n) spelled ≡ 0
+      none z = sym fault-is ∙ z
+
+      kind-is : isPoint (f .kind) ≡ isPoint (kindOf spelled)
+      unfolding spelled
+      kind-is = ap isPoint (good .frame-is .kind-is)
+
+      pub room-for-point : e ≡ 0 → isPoint (f .kind) ≡ true → n .count < POINTS
+      room-for-point z t =
+          omega (arith, p .counted .count-is, room-point (nestIn n) spelled (none z) (sym kind-is ∙ t))
+
+      pub room-for-dependence : e ≡ 0 → isPoint (f .kind) ≡ false → n .many < DEPENDENCES
+      room-for-dependence z t =
+          omega (arith, p .counted .many-is, room-dependence (nestIn n) spelled (none z) (sym kind-is ∙ t))
+
+      pub next-inside : (at < f .next) × (f .next ≤ length s)
+      next-inside = omega (arith, good .on, good .inside)
+
+      on
+          : (m : DN.Nest) (ends′ : List ℕ) (d : ℕ)
+          → e ≡ 0
+          → nestIn m ≡ withFrame (nestIn n) spelled
+          → IsCounted m
+          → length (m .deps) ≡ DEPENDENCES
+          → d ≡ deeper deep (f .kind)
+          → KnowsEnds (nestIn m .points) d ends′
+          → Loading s m ends′ d (f .next) (line + 1)
+      unfolding spelled
+      on m ends′ d z added c l w t =
+          record {
+            counted = c;
+            long = l;
+            deep-is =
+                w
+                ∙ ap (λ (x : ℕ). deeper x (f .kind)) (p .deep-is)
+                ∙ ap (deeper (depth (nestIn n .points))) (good .frame-is .kind-is)
+                ∙ sym (depth-with (nestIn n) spelled)
+                ∙ ap (λ (x : Nest). depth (x .points)) (sym added);
+            knows = t;
+            inside = good .inside;
+            lines = omega (arith, p .lines, good .on);
+            rest =
+                ap (λ (x : ℕ). readLines x (nestIn m) (linesOf (drop (f .next) s))) (add-one line)
+                ∙ ap (λ (x : Nest). readLines (suc line) x (linesOf (drop (f .next) s))) added
+                ∙ sym (read-on line (nestIn n) (good .first) (linesOf (drop (f .next) s)) (line-fault ∙ z))
+                ∙ ap (readLines line (nestIn n)) (sym (good .lines))
+                ∙ p .rest;
+          }
+
+      -- a point more
+      pub on-point
+          : (ends′ : List ℕ) (d : ℕ)
+          → e ≡ 0
+          → isPoint (f .kind) ≡ true
+          → length (n .points) ≡ POINTS
+          → d ≡ deeper deep (f .kind)
+          → KnowsEnds (take (n .count + 1) (set (n .points) (n .count) (f .kind))) d ends′
+          → Loading s (stored.with-point n (p .counted) (f .kind)) ends′ d (f .next) (line + 1)
+      unfolding spelled
+      on-point ends′ d z t l w k =
+          let q = stored.point-added n (p .counted) (f .kind) (room-for-point z t) l in
+          on
+          (stored.with-point n (p .counted) (f .kind))
+          ends′
+          d
+          z
+          (q .nest-is ∙ with-point (nestIn n) f spelled (good .frame-is) t)
+          (q .counted)
+          (p .long)
+          w
+          k
+
+      -- a dependence more
+      pub on-dependence
+          : (g : Dependence)
+          → e ≡ 0
+          → isPoint (f .kind) ≡ false
+          → IsDependence f g
+          → Loading s (stored.with-dependence n (p .counted) g) ends deep (f .next) (line + 1)
+      unfolding spelled
+      on-dependence g z t i =
+          let q = stored.dependence-added n (p .counted) g (room-for-dependence z t) (p .long) in
+          on
+          (stored.with-dependence n (p .counted) g)
+          ends
+          deep
+          z
+          (q .nest-is ∙ with-dependence (nestIn n) f spelled (good .frame-is) (depIn g) t (i spelled (good .frame-is)))
+          (q .counted)
+          (length-set (n .deps) (n .many) g ∙ p .long)
+          (sym (stays-deep deep (f .kind) t))
+          (p .knows)

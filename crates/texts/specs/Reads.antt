@@ -1,15 +1,15 @@
 -- What the readers of whole texts promise, and what their steps promise of the nest so far.
--- Main definitions: `IsRead`, `IsPlaced`, `HasNumbers`, `PointFault`, `DependenceFault`, `FrameFault`, `FrameAdded`.
+-- Main definitions: `IsRead`, `IsPlaced`, `HasNumbers`, `KnowsEnds`, `PointFault`, `DependenceFault`, `FrameFault`.
 use mathlib.Core.Path.{_≡_}
 use mathlib.Core.Bool.{Bool, true, false, _&&_, _||_, not}
 use mathlib.Core.List.{List, []}
-use Prim.Native.Nat.{ℕ, _<_}
+use Prim.Native.Nat.{ℕ}
 use lib.Dec.{eqb, leb}
 use lib.ListN.{length}
 use Rattle.nests.specs.Kinds.{DO, POINTS, DEPTH, DEPENDENCES}
 use Rattle.laws.specs.Choice.{pick}
 use Rattle.nests.specs.Nests.{Nest, empty}
-use Rattle.nests.specs.Loops.{depth}
+use Rattle.nests.specs.Loops.{depth, HasEnds}
 use Rattle.nests.specs.Stored.{depIn, nestIn, IsCounted}
 use Rattle.nests.specs.declared.Dependence.{Dependence}
 use Rattle.nests.specs.declared.Nest as DN
@@ -18,7 +18,7 @@ use Rattle.lines.specs.Reading.{IsFrame}
 use Rattle.placements.specs.Words.{gapsIn}
 use Rattle.texts.specs.declared.Reading.{Reading}
 use Rattle.texts.specs.declared.PlacementReading.{PlacementReading}
-use Rattle.texts.specs.NestTexts.{isPoint, depOf, pointFault, dependenceFault, frameFault, withFrame}
+use Rattle.texts.specs.NestTexts.{depOf, pointFault, dependenceFault, frameFault}
 use Rattle.texts.specs.NestTexts.{got, readNest}
 use Rattle.texts.specs.PlacementTexts.{barrierFault, placed, readPlacement}
 
@@ -54,6 +54,11 @@ pub record HasNumbers (n : Nest) (count many deep : ℕ) : Type 0 where
   pub many-is : length (n .deps) ≡ many
   pub depth-is : depth (n .points) ≡ deep
 
+-- the table that the reader keeps: once all points are there, it has the ENDDO of every DO
+pub record KnowsEnds (ps : List ℕ) (deep : ℕ) (ends : List ℕ) : Type 0 where
+  pub long : length ends ≡ POINTS
+  pub has-ends : deep ≡ 0 → HasEnds ps ends
+
 -- r is the refusal of a point, a dependence, a frame, in each nest with these numbers
 abbrev pub PointFault : ℕ → ℕ → ℕ → ℕ → ℕ → Type 0
 PointFault count many deep kind r = (n : Nest) → HasNumbers n count many deep → r ≡ pointFault n kind
@@ -69,17 +74,6 @@ FrameFault ps many deep f r =
 -- the dependence that a frame spells
 abbrev pub IsDependence : Frame → Dependence → Type 0
 IsDependence f e = (l : List ℕ) → IsFrame f l → depIn e ≡ depOf l
-
--- there is room for the point or the dependence of a frame
-pub record HasRoom (n : DN.Nest) (f : Frame) : Type 0 where
-  pub counted : IsCounted n
-  pub for-point : isPoint (f .kind) ≡ true → n .count < POINTS
-  pub for-dependence : isPoint (f .kind) ≡ false → n .many < DEPENDENCES
-
--- r is n with one frame more
-pub record FrameAdded (n : DN.Nest) (f : Frame) (r : DN.Nest) : Type 0 where
-  pub nest-is : (l : List ℕ) → IsFrame f l → nestIn r ≡ withFrame (nestIn n) l
-  pub counted : IsCounted r
 
 -- the reading of a placement text: its number and line, and the gaps, of which there is none where the text is refused
 pub record IsPlaced (n : ℕ) (s : List ℕ) (r : PlacementReading) : Type 0 where

@@ -3,9 +3,12 @@ ghost use mathlib.Core.Path.{_≡_};
 ghost use mathlib.Core.List.{[]};
 ghost use Prim.Native.Nat.{_≤_};
 ghost use lib.ListN.{length, take};
+ghost use Rattle.nests.specs.Kinds.{POINTS};
+ghost use Rattle.nests.specs.Loops.{HasEnds};
 ghost use Rattle.nests.specs.Stored.{IsCounted};
+ghost use Rattle.texts.specs.NestTexts.{isPoint};
 ghost use Rattle.texts.specs.Reads.{IsRead, RefusedAs, EndedAs, closedBy, misplacedBy, tooManyBy, PointFault};
-ghost use Rattle.texts.specs.Reads.{DependenceFault, FrameFault, IsDependence, HasRoom, FrameAdded};
+ghost use Rattle.texts.specs.Reads.{KnowsEnds, DependenceFault, FrameFault, IsDependence};
 ghost use Rattle.lines.specs.Writing.{over};
 ghost use Rattle.placements.specs.Words.{gapsIn};
 ghost use Rattle.texts.specs.PlacementTexts.{keyText};
@@ -23,6 +26,7 @@ use nests::Nest;
 use nests::STATEMENT;
 use nests::deeper;
 use nests::dep_fault;
+use nests::ends_of;
 use placements::Placement;
 
 // A nest text's reading: the number and the line of its refusal, 0 and 0 for none, and the nest.
@@ -50,6 +54,7 @@ pub fn read_nest(text: &[u8]) -> Reading
         return blank();
     }
     let mut nest = Nest::empty();
+    let mut ends = [0; Nest::POINTS];
     let mut depth: usize = 0;
     let mut at: usize = 0;
     let mut line: usize = 1;
@@ -61,14 +66,24 @@ pub fn read_nest(text: &[u8]) -> Reading
             Read::Frame(f) => {
                 let count = nest.count;
                 let many = nest.many;
-                let number = frame_fault(&nest.points, count, many, depth, f);
+                let number = frame_fault(&nest.points, &ends, count, many, depth, f);
                 if number != 0 {
                     return refused(number, line);
                 }
-                nest = with_frame(nest, f);
-                depth = deeper(depth, f.kind);
                 at = f.next;
                 line += 1;
+                let kind = f.kind;
+                if is_point(kind) {
+                    nest.points[count] = kind;
+                    nest.count = count + 1;
+                    depth = deeper(depth, kind);
+                    if depth == 0 {
+                        ends = ends_within(&nest.points, nest.count);
+                    }
+                } else {
+                    nest.deps[many] = dependence_of(f);
+                    nest.many = many + 1;
+                }
             }
         }
     }
@@ -181,8 +196,9 @@ fn barrier_fault(last: usize, points: usize, f: Frame) -> u8
 }
 
 // The refusal of a frame after the first points, 2 to 7, or 0 for none.
-fn frame_fault(all: &[u8], count: usize, many: usize, depth: usize, f: Frame) -> u8
+fn frame_fault(all: &[u8], ends: &[usize], count: usize, many: usize, depth: usize, f: Frame) -> u8
     requires { ⌜ count ≤ length (now all) ⌝ }
+    requires { ⌜ KnowsEnds (take count (now all)) depth (now ends) ⌝ }
     ensures { λ r. ⌜ FrameFault (take count (now (all .entry))) many depth f r ⌝ }
 {
     let points = &all[..count];
@@ -197,14 +213,14 @@ fn frame_fault(all: &[u8], count: usize, many: usize, depth: usize, f: Frame) ->
         }
         INDEPENDENT => {
             if f.len == 3 {
-                dependence_fault(points, many, depth, dependence_of(f))
+                dependence_fault(points, ends, many, depth, dependence_of(f))
             } else {
                 2
             }
         }
         CARRIED => {
             if f.len == 4 {
-                dependence_fault(points, many, depth, dependence_of(f))
+                dependence_fault(points, ends, many, depth, dependence_of(f))
             } else {
                 2
             }
@@ -230,14 +246,15 @@ fn point_fault(count: usize, many: usize, depth: usize, kind: u8) -> u8
 }
 
 // The refusal of a dependence, 4 to 7, or 0 for none.
-fn dependence_fault(points: &[u8], many: usize, depth: usize, e: Dependence) -> u8
+fn dependence_fault(points: &[u8], ends: &[usize], many: usize, depth: usize, e: Dependence) -> u8
+    requires { ⌜ KnowsEnds (now points) depth (now ends) ⌝ }
     ensures { λ r. ⌜ DependenceFault (now (points .entry)) many depth e r ⌝ }
 {
     if is_closed(points.len(), depth) {
         if Nest::DEPENDENCES <= many {
             return 5;
         }
-        return dep_fault(points, e);
+        return dep_fault(points, ends[e.d as usize], e);
     }
     4
 }
@@ -275,15 +292,23 @@ fn is_too_many(count: usize, depth: usize, kind: u8) -> bool
     false
 }
 
-// The nest with one frame more.
-fn with_frame(nest: Nest, f: Frame) -> Nest
-    requires { ⌜ HasRoom nest f ⌝ }
-    ensures { λ r. ⌜ FrameAdded nest f r ⌝ }
+// The ENDDO of every DO among the first points, by the DO's point.
+fn ends_within(all: &[u8], count: usize) -> [usize; Nest::POINTS]
+    requires { ⌜ count ≤ length (now all) ⌝ }
+    requires { ⌜ count ≤ POINTS ⌝ }
+    ensures { λ r. ⌜ HasEnds (take count (now (all .entry))) r ⌝ }
 {
-    let kind = f.kind;
+    let points = &all[..count];
+    ends_of(points)
+}
+
+// The kind is a point's.
+fn is_point(kind: u8) -> bool
+    ensures { λ r. ⌜ r ≡ isPoint kind ⌝ }
+{
     match kind {
-        DO | ENDDO | STATEMENT => nest.with_point(kind),
-        _ => nest.with_dependence(dependence_of(f)),
+        DO | ENDDO | STATEMENT => true,
+        _ => false,
     }
 }
 

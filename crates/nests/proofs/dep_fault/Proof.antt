@@ -27,9 +27,6 @@ is-target-requires c κs = search needs
 is-do-requires : tie.Need-is-do-requires
 is-do-requires c κs = search needs
 
-end-of-requires : tie.Need-end-of-requires
-end-of-requires c κs = search needs
-
 is-inside-requires : tie.Need-is-inside-requires
 is-inside-requires c κs = search needs
 
@@ -44,16 +41,16 @@ returns c =
     let b4 = b3 .before in
     let b5 = b4 .before in
     let b6 = b5 .before in
-    let b7 = b6 .before in
-    let b9 = b7 .before .before in
+    let b8 = b6 .before .before in
+    let b9 = b8 .before in
     let b10 = b9 .before in
     let b11 = b10 .before in
-    let b12 = b11 .before in
-    let b17 = b12 .before .before .before .before .before in
-    let a = b17 .args in
-    let end = b4 .end-of .ensures in
-    back-inside (a .points .now) (depIn (a .e)) (sym (b12 .is-source .ensures) ∙ b11 .if1 .taken)
-    (sym (b10 .is-target .ensures) ∙ b9 .if2 .taken) (b7 .if3 .taken) (sym (b6 .is-do .ensures) ∙ b5 .if4 .taken)
+    let b16 = b11 .before .before .before .before .before in
+    let a = b16 .args in
+    let starts = sym (b5 .is-do .ensures) ∙ b4 .if4 .taken in
+    let end = b16 .pre (b6 .if3 .taken) starts in
+    back-inside (a .points .now) (depIn (a .e)) (sym (b11 .is-source .ensures) ∙ b10 .if1 .taken)
+    (sym (b9 .is-target .ensures) ∙ b8 .if2 .taken) (b6 .if3 .taken) starts
     (rw end at (sym (b3 .is-inside .ensures) ∙ b2 .if5 .taken))
     (rw end at (sym (b1 .is-inside2 .ensures) ∙ c .if6 .taken))
 
@@ -65,16 +62,16 @@ returns-2 c =
     let b4 = b3 .before in
     let b5 = b4 .before in
     let b6 = b5 .before in
-    let b7 = b6 .before in
-    let b9 = b7 .before .before in
+    let b8 = b6 .before .before in
+    let b9 = b8 .before in
     let b10 = b9 .before in
     let b11 = b10 .before in
-    let b12 = b11 .before in
-    let b17 = b12 .before .before .before .before .before in
-    let a = b17 .args in
-    let end = b4 .end-of .ensures in
-    target-outside (a .points .now) (depIn (a .e)) (sym (b12 .is-source .ensures) ∙ b11 .if1 .taken)
-    (sym (b10 .is-target .ensures) ∙ b9 .if2 .taken) (b7 .if3 .taken) (sym (b6 .is-do .ensures) ∙ b5 .if4 .taken)
+    let b16 = b11 .before .before .before .before .before in
+    let a = b16 .args in
+    let starts = sym (b5 .is-do .ensures) ∙ b4 .if4 .taken in
+    let end = b16 .pre (b6 .if3 .taken) starts in
+    target-outside (a .points .now) (depIn (a .e)) (sym (b11 .is-source .ensures) ∙ b10 .if1 .taken)
+    (sym (b9 .is-target .ensures) ∙ b8 .if2 .taken) (b6 .if3 .taken) starts
     (rw end at (sym (b3 .is-inside .ensures) ∙ b2 .if5 .taken))
     (rw end at (sym (b1 .is-inside2 .ensures) ∙ c .if6 .left))
 
@@ -84,16 +81,16 @@ returns-3 c =
     let b2 = b1 .before in
     let b3 = b2 .before in
     let b4 = b3 .before in
-    let b5 = b4 .before in
-    let b7 = b5 .before .before in
+    let b6 = b4 .before .before in
+    let b7 = b6 .before in
     let b8 = b7 .before in
     let b9 = b8 .before in
-    let b10 = b9 .before in
-    let b15 = b10 .before .before .before .before .before in
-    let a = b15 .args in
-    source-outside (a .points .now) (depIn (a .e)) (sym (b10 .is-source .ensures) ∙ b9 .if1 .taken)
-    (sym (b8 .is-target .ensures) ∙ b7 .if2 .taken) (b5 .if3 .taken) (sym (b4 .is-do .ensures) ∙ b3 .if4 .taken)
-    (rw (b2 .end-of .ensures) at (sym (b1 .is-inside .ensures) ∙ c .if5 .left))
+    let b14 = b9 .before .before .before .before .before in
+    let a = b14 .args in
+    let starts = sym (b3 .is-do .ensures) ∙ b2 .if4 .taken in
+    source-outside (a .points .now) (depIn (a .e)) (sym (b9 .is-source .ensures) ∙ b8 .if1 .taken)
+    (sym (b7 .is-target .ensures) ∙ b6 .if2 .taken) (b4 .if3 .taken) starts
+    (rw (b14 .pre (b4 .if3 .taken) starts) at (sym (b1 .is-inside .ensures) ∙ c .if5 .left))
 
 returns-4 : tie.Need-returns-4
 returns-4 c =
@@ -157,7 +154,6 @@ dep-fault-spec =
     is-source-requires
     is-target-requires
     is-do-requires
-    end-of-requires
     is-inside-requires
     is-inside-requires-2
     returns
