@@ -1,9 +1,10 @@
 //! The outside judge of the program `key`: a second reading of document 01, "The marking desk for barrier
 //! papers", that shares nothing with the code and the definitions that it judges.
 //!
-//!   rustc -O outside/judge.rs -o target/judge    (with self_check.rs and edges.txt beside it)
+//!   rustc -O outside/judge.rs -o target/judge    (with self_check.rs, sittings.rs and edges.txt beside it)
 //!   target/judge PROGRAM [SEED [SECONDS]]     compare PROGRAM with this reading (seed 1, 60 seconds)
 //!   target/judge --first PROGRAM ...          the same, and of several keys only the first in list order will do
+//!   target/judge --sittings PROGRAM [SEED [SITTINGS]]    compare the program `seat` (seed 1, 2000 sittings)
 //!   target/judge --self-check                 show that this reading has the cases of 01, and that it can fail
 //!   target/judge --keys [GAPS] < paper.hex    all keys of a small paper, and the mark of the placement GAPS (2,6)
 //!
@@ -15,6 +16,7 @@
 //! A difference is printed with the text that shows it, and the judge ends with status 1.
 
 mod self_check;
+mod sittings;
 
 use std::collections::BTreeMap;
 use std::io::{Read, Write};
@@ -644,8 +646,12 @@ fn main() {
     let well = match arguments.first().map(String::as_str) {
         Some("--self-check") => self_check::self_check(),
         Some("--keys") => show_keys(arguments.get(1)),
+        Some("--sittings") => sittings::compare_sittings(&arguments[1], number(2, 1), number(3, 2000)),
         Some(program) => compare(program, number(1, 1), number(2, 60), first),
-        None => { eprintln!("usage: judge [--first] PROGRAM [SEED [SECONDS]] | --self-check | --keys [GAPS]"); false }
+        None => {
+            eprintln!("usage: judge [--first] PROGRAM [SEED [SECONDS]] | --sittings SEAT | --self-check | --keys [GAPS]");
+            false
+        }
     };
     std::process::exit(if well { 0 } else { 1 });
 }

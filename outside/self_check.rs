@@ -19,6 +19,7 @@ pub fn self_check() -> bool {
     check_cases(&mut checks);
     check_explained(&mut checks);
     check_wrong_answers(&mut checks);
+    check_sitting(&mut checks);
     (0..400).for_each(|case| check_random(&mut checks, &mut Random::new(7, case)));
     finish(checks.passed, checks.failed)
 }
@@ -144,4 +145,18 @@ fn check_random(checks: &mut Checks, random: &mut Random) {
 /// at any depth, T's count is at most U's".
 fn as_good_loop_by_loop(nest: &Nest, t: &[usize], u: &[usize]) -> bool {
     nest.loops().iter().all(|&d| t[d + 1..nest.end[d]] != u[d + 1..nest.end[d]] || t[d] <= u[d])
+}
+
+/// P at the screen, by hand: 5 cuts three of the six, 11 the others; then 12, 8, 8, 12, 8; Plan; a Lift, a Put, over.
+fn check_sitting(checks: &mut Checks) {
+    let moves = [
+        (0x30, 5), (0x30, 11), (0x30, 5), (0x30, 0), (0x30, 14),
+        (0x31, 3), (0x31, 255), (0x32, 0), (0x31, 5), (0x30, 3),
+    ];
+    let wanted = "0 0\n0 3\n0 0\n12 0\n8 0\n8 0\n12 0\n8 0\n0 0\n0 3\n0 1\n0 1\n1 1\n2 1\n3 1\n4 1\n5 0\n";
+    checks.that("P at the screen", sittings::replies(&words(P), &moves) == wanted.as_bytes());
+    let over = sittings::replies(&words(P), &[(0x30, 5), (0x33, 0), (0x31, 5)]);
+    checks.that("gone over", over.starts_with(b"0 0\n0 3\n0 6\n12 0\n0 0\n"));
+    let none = sittings::replies(b"02\n", &[(0x30, 0), (0x31, 1), (0x32, 0)]);
+    checks.that("no nest", none == b"4 1\n10 0\n10 0\n10 0\n");
 }

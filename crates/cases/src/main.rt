@@ -1,4 +1,5 @@
-// The cases of document 01, "Papers with known results", run over the desk's calls and compared; a line for each.
+// The cases of document 01, "Papers with known results", run over the desk's calls and compared; a line for each. From
+// 14 on they are cases of the change requests.
 ghost use mathlib.Core.Path.{_≡_};
 ghost use Prim.Native.Nat.{_≤_};
 ghost use lib.ListN.{length};
@@ -6,6 +7,7 @@ ghost use Rattle.desk.specs.Desks.{IsMade};
 ghost use Rattle.io.specs.Counts.{Counts};
 use desk::Desk;
 use desk::Marked;
+use desk::PlainDesk;
 use desk::Verdict;
 use libc::STDOUT_FILENO;
 
@@ -25,6 +27,9 @@ fn main() {
     report(11, case_11());
     report(12, case_12());
     report(13, case_13());
+    report(14, case_14());
+    report(15, case_15());
+    report(16, case_16());
 }
 
 // Writes a case's line.
@@ -137,6 +142,130 @@ fn case_13() -> bool {
         && b.number == 9
         && b.line == 0
         && check::same(&nine, &[0u8; 9])
+}
+
+// P at the screen: barriers put and lifted, and how many dependences remain uncut.
+fn case_14() -> bool {
+    let p = paper_p();
+    let one = after_put(p, 5);
+    let two = after_put(one, 11);
+    let left = after_lift(two, 5);
+    puts(p, 5, 0, 3)
+        && puts(one, 11, 0, 0)
+        && lifts(two, 5, 0, 3)
+        && lifts(left, 11, 0, 6)
+        && puts(left, 3, 0, 1)
+        && puts(two, 13, 0, 0)
+}
+
+// Numbers at the screen: 10 before 8 before 12.
+fn case_15() -> bool {
+    let p = paper_p();
+    let empty = empty_desk();
+    let one = after_put(p, 5);
+    puts(empty, 0, 10, 0)
+        && lifts(empty, 0, 10, 0)
+        && puts(one, 0, 8, 0)
+        && puts(one, 14, 8, 0)
+        && puts(one, 256, 8, 0)
+        && lifts(one, 0, 8, 0)
+        && lifts(one, 14, 8, 0)
+        && puts(one, 5, 12, 0)
+        && lifts(one, 4, 12, 0)
+}
+
+// No key is needed; Plan does not touch the sitting; Load empties it, refused it stays; a desk that goes over has nest
+// and key, and an empty sitting.
+fn case_16() -> bool {
+    let p = paper_p();
+    let least = after_load(p, b"01\n02\n110001\n");
+    let one = after_put(least, 1);
+    let planned = after_plan(one);
+    let refused = after_load(planned, b"01\n");
+    let again = after_load(refused, b"01\n02\n110001\n");
+    let two = after_put(p, 5);
+    let gone = gone_over(two);
+    puts(least, 1, 0, 0)
+        && lifts(one, 1, 0, 1)
+        && has_key(planned, b"2101\n")
+        && puts(planned, 1, 12, 0)
+        && lifts(refused, 1, 0, 1)
+        && lifts(again, 1, 12, 0)
+        && puts(again, 1, 0, 0)
+        && has_key(gone, b"2105\n210b\n")
+        && lifts(gone, 5, 12, 0)
+        && puts(gone, 5, 0, 3)
+}
+
+// Put replies this.
+fn puts(desk: Desk, gap: usize, number: u8, uncut: usize) -> bool
+    requires { ⌜ IsMade desk ⌝ }
+{
+    let moved = screen::put_gap(desk, gap);
+    moved.number == number && moved.line == 0 && moved.uncut == uncut
+}
+
+// Lift replies this.
+fn lifts(desk: Desk, gap: usize, number: u8, uncut: usize) -> bool
+    requires { ⌜ IsMade desk ⌝ }
+{
+    let moved = screen::lift_gap(desk, gap);
+    moved.number == number && moved.line == 0 && moved.uncut == uncut
+}
+
+// A new desk.
+fn empty_desk() -> Desk
+    ensures { λ r. ⌜ IsMade r ⌝ }
+{
+    Desk::empty()
+}
+
+// The desk after a Put, a Lift, a Plan, a Load.
+fn after_put(desk: Desk, gap: usize) -> Desk
+    requires { ⌜ IsMade desk ⌝ }
+    ensures { λ r. ⌜ IsMade r ⌝ }
+{
+    let moved = screen::put_gap(desk, gap);
+    moved.desk
+}
+
+fn after_lift(desk: Desk, gap: usize) -> Desk
+    requires { ⌜ IsMade desk ⌝ }
+    ensures { λ r. ⌜ IsMade r ⌝ }
+{
+    let moved = screen::lift_gap(desk, gap);
+    moved.desk
+}
+
+fn after_plan(desk: Desk) -> Desk
+    requires { ⌜ IsMade desk ⌝ }
+    ensures { λ r. ⌜ IsMade r ⌝ }
+{
+    let reply = desk::plan_key(desk);
+    reply.desk
+}
+
+fn after_load(desk: Desk, text: &[u8]) -> Desk
+    requires { ⌜ IsMade desk ⌝ }
+    ensures { λ r. ⌜ IsMade r ⌝ }
+{
+    let reply = desk::load_nest(desk, text);
+    reply.desk
+}
+
+// The desk's nest and key as a desk of the kind before sittings, gone over.
+fn gone_over(desk: Desk) -> Desk
+    requires { ⌜ IsMade desk ⌝ }
+    ensures { λ r. ⌜ IsMade r ⌝ }
+{
+    let nest = desk.nest;
+    let key = desk.key;
+    desk::go_over(PlainDesk {
+        loaded: desk.loaded,
+        nest: nest,
+        planned: desk.planned,
+        key: key,
+    })
 }
 
 // A desk that has read a text and worked out its key.

@@ -1,26 +1,38 @@
--- What a desk holds, from what its parts hold.
+-- What a desk with an empty sitting holds, from what its parts hold.
 -- Main statements: `held`, `held-empty`.
-use mathlib.Core.Path.{_≡_, refl, sym, _∙_}
+use mathlib.Core.Path.{_≡_, refl, sym, _∙_, subst}
 use mathlib.Core.Bool.{Bool, true, false}
 use mathlib.Core.List.{List, []}
 use Prim.Native.Nat.{ℕ}
+use Rattle.nests.specs.declared.Nest as DN
 use Rattle.nests.specs.Nests.{Nest, empty}
 use Rattle.nests.specs.Stored.{nestIn, IsCounted, IsEmpty}
 use Rattle.placements.specs.Words.{holds, gapsIn}
 use Rattle.placements.proofs.Words.{gaps-none}
+use Rattle.sitting.specs.declared.Sitting as DS
+use Rattle.sitting.specs.Kept as Kept
+use Rattle.sitting.proofs.Outcome.{empty-kept}
 use Rattle.desk.specs.declared.Desk as DD
 use Rattle.desk.specs.Desks.{desk, deskIn, emptyDesk}
 use Rattle.desk.specs.Says.{Holds}
 
+-- an empty sitting keeps a fresh count of the nest for which it was made
+fresh-kept : (n : DN.Nest) (s : DS.Sitting) → IsCounted n → Kept.EmptySays (n .many) s → Kept.Kept (nestIn n) s
+fresh-kept n s c e = empty-kept (nestIn n) s (subst (λ (m : ℕ). Kept.EmptySays m s) (c .many-is) e)
+
 pub held
     : (d : DD.Desk) (a : Bool) (n : Nest) (b : Bool) (k : List ℕ)
     → d .loaded ≡ a → nestIn (d .nest) ≡ n → d .planned ≡ b → gapsIn (d .key .words) ≡ k → IsCounted (d .nest)
-    → Holds d (desk a n b k)
-held d a n b k p q r s c = record { holds = rw (p, q, r, s); counted = c }
+    → Kept.EmptySays (d .nest .many) (d .sitting)
+    → Holds d (desk a n b k [])
+held d a n b k p q r s c e =
+    record { holds = rw (p, q, r, s, e .no-gaps); counted = c; kept = fresh-kept (d .nest) (d .sitting) c e }
 
 pub held-empty
     : (d : DD.Desk)
     → d .loaded ≡ false → IsEmpty (d .nest) → d .planned ≡ false → ((i : ℕ) → holds (d .key .words) i ≡ false)
+    → Kept.EmptySays 0 (d .sitting)
     → Holds d emptyDesk
-held-empty d p e r h =
+held-empty d p e r h s =
     held d false empty false [] p (e .nest-is) r (gaps-none (d .key .words) (λ i l. h i)) (e .counted)
+    (subst (λ (m : ℕ). Kept.EmptySays m (d .sitting)) (sym (e .no-deps)) s)

@@ -1,5 +1,5 @@
 -- Every call's desk is made by calls if the one it got was, and demand 3 of the calls.
--- Main statements: `made-empty`, `made-load`, `made-plan`, `load-then-plan`.
+-- Main statements: `made-empty`, `made-load`, `made-plan`, `made-over`, `kept-fresh`, `load-then-plan`.
 use mathlib.Core.Path.{_≡_, refl, sym, _∙_, ap, subst}
 use mathlib.Core.Bool.{Bool, true, false, not}
 use mathlib.Core.List.{List, []}
@@ -7,6 +7,7 @@ use mathlib.Core.Logic.{_⊎_, ⊎-elim}
 use Prim.Native.Nat.{ℕ, zero, suc}
 use native.Mathlib.Omega.{arith}
 use lib.Dec.{eqb}
+use lib.ListN.{getD}
 use borrow.Author.Tests.{eq-eqb, ne-eqb}
 use Rattle.laws.specs.Choice.{pickT, when, firstOf}
 use Rattle.laws.proofs.Tests.{never-both, eq-or}
@@ -15,44 +16,81 @@ use Rattle.nests.specs.Valid.{isValid}
 use Rattle.nests.proofs.Deps.{valid-is}
 use Rattle.placements.specs.Keys.{IsKey, By-loops}
 use Rattle.placements.proofs.Keys.{by-loops}
+use Rattle.sitting.specs.declared.Sitting as DS
+use Rattle.sitting.specs.Counts.{countAt, uncutCount}
+use Rattle.sitting.specs.Kept.{Kept}
 use Rattle.texts.specs.NestTexts.{readNest}
 use Rattle.texts.proofs.Accepted.{accepted-valid}
 use Rattle.desk.specs.declared.Desk as DD
+use Rattle.desk.specs.declared.PlainDesk as OD
 use Rattle.desk.specs.declared.Reply as DR
-use Rattle.desk.specs.Desks.{Desk, desk, emptyDesk, deskIn, IsMade, stateFault}
-use Rattle.desk.specs.Says.{Holds, EmptySays, LoadSays, PlannedAs, PlanSays}
+use Rattle.desk.specs.Desks.{Desk, emptyDesk, loadedDesk, withSitting, deskIn, plainIn, stateFault}
+use Rattle.desk.specs.Desks.{IsPaper, IsMade, IsMadePlain}
+use Rattle.desk.specs.Says.{Holds, EmptySays, LoadSays, PlannedAs, PlanSays, OverSays}
 use Rattle.desk.specs.Since.{Since, PlansKey, LoadThenPlan}
 
+-- a desk that holds what calls leave
+pub made-holds : (d : DD.Desk) (x : Desk) → IsPaper x → Holds d x → IsMade d
+made-holds d x p h =
+    record { counted = h .counted; paper = subst (λ (y : Desk). IsPaper y) (sym (h .holds)) p; kept = h .kept }
+
 pub made-empty : (d : DD.Desk) → EmptySays d → IsMade d
-made-empty d h =
-    let a : d .loaded ≡ false = ap (λ (x : Desk). x .hasNest) (h .holds) in
-    let b : d .planned ≡ false = ap (λ (x : Desk). x .hasKey) (h .holds) in
+made-empty d h = made-holds d emptyDesk
+    (record {
+      valid = λ z. never-both z refl;
+      no-nest = λ _. refl;
+      is-key = λ z. never-both z refl;
+      no-key = λ _. refl;
+    })
+    h
+
+-- a valid nest and no key
+loaded-paper : (n : Nest) → isValid n ≡ true → IsPaper (loadedDesk n)
+loaded-paper n v =
+    record { valid = λ _. v; no-nest = λ z. never-both refl z; is-key = λ z. never-both z refl; no-key = λ _. refl }
+
+-- another sitting on a desk with a nest
+pub seated-paper : (x : Desk) (gs : List ℕ) → x .hasNest ≡ true → IsPaper x → IsPaper (withSitting gs x)
+seated-paper x gs a p =
+    record { valid = p .valid; no-nest = λ z. never-both a z; is-key = p .is-key; no-key = p .no-key }
+
+-- going over
+pub made-over : (old : OD.PlainDesk) (r : DD.Desk) → IsMadePlain old → OverSays old r → IsMade r
+made-over old r m h = made-holds r (plainIn old) (m .paper) h
+
+-- nest and key of a desk, as one of the kind before sittings
+pub made-plain
+    : (d : DD.Desk) → IsMade d
+    → IsMadePlain (record { loaded = d .loaded; nest = d .nest; planned = d .planned; key = d .key })
+made-plain d m =
+    let p = m .paper in
     record {
-      counted = h .counted;
-      valid = λ z. never-both z a;
-      no-nest = λ _. h .holds;
-      is-key = λ z. never-both z b;
-      no-key = λ _. ap (λ (x : Desk). x .key) (h .holds);
+      counted = m .counted;
+      paper =
+          record {
+            valid = p .valid;
+            no-nest = λ z. ap (λ (x : Desk). withSitting [] x) (p .no-nest z);
+            is-key = p .is-key;
+            no-key = p .no-key;
+          };
     }
 
--- a desk that holds a valid nest and no key
-made-loaded : (d : DD.Desk) (n : Nest) → isValid n ≡ true → Holds d (desk true n false []) → IsMade d
-made-loaded d n v h =
-    let a : d .loaded ≡ true = ap (λ (x : Desk). x .hasNest) (h .holds) in
-    let b : d .planned ≡ false = ap (λ (x : Desk). x .hasKey) (h .holds) in
-    let m : deskIn d .nest-is ≡ n = ap (λ (x : Desk). x .nest-is) (h .holds) in
-    record {
-      counted = h .counted;
-      valid = λ _. subst (λ (x : Nest). isValid x ≡ true) (sym m) v;
-      no-nest = λ z. never-both a z;
-      is-key = λ z. never-both z b;
-      no-key = λ _. ap (λ (x : Desk). x .key) (h .holds);
-    }
+-- 02, job 4: for every dependence the desk keeps how many barriers cut it, and the number uncut; what is kept always
+-- equals a fresh count over the placement
+pub kept-fresh
+    : (d : DD.Desk) → IsMade d
+    → let n = deskIn d .nest-is in
+    ((i : ℕ) → getD (d .sitting .counts) i 0 ≡ countAt (n .points) (n .deps) (deskIn d .sitting) i) ×
+    (d .sitting .uncut ≡ uncutCount (n .points) (n .deps) (deskIn d .sitting))
+kept-fresh d m = (m .kept .counts-are, m .kept .uncut-is)
+
+kept-by : {n n′ : Nest} {s s′ : DS.Sitting} → n ≡ n′ → s ≡ s′ → Kept n s → Kept n′ s′
+kept-by e g k = rw (← e, ← g) k
 
 -- an accepted Load's desk holds the nest that was read; a refused one's is the desk of before
 pub loaded-holds
     : (d : DD.Desk) (s : List ℕ) (r : DR.Reply) → LoadSays d s r → r .number ≡ 0
-    → Holds (r .desk) (desk true (readNest s .nest-is) false [])
+    → Holds (r .desk) (loadedDesk (readNest s .nest-is))
 loaded-holds d s r h z = rw (eq-eqb (readNest s .number) 0 (sym (h .number-is) ∙ z)) at (h .desk-is)
 
 pub refused-keeps
@@ -62,7 +100,9 @@ refused-keeps d s r h z = rw (ne-eqb (readNest s .number) 0 (λ q. z (h .number-
 pub made-load : (d : DD.Desk) (s : List ℕ) (r : DR.Reply) → IsMade d → LoadSays d s r → IsMade (r .desk)
 made-load d s r m h = ⊎-elim
     (λ (z : r .number ≡ 0).
-    made-loaded (r .desk) (readNest s .nest-is) (accepted-valid s (sym (h .number-is) ∙ z)) (loaded-holds d s r h z))
+    made-holds (r .desk) (loadedDesk (readNest s .nest-is))
+    (loaded-paper (readNest s .nest-is) (accepted-valid s (sym (h .number-is) ∙ z)))
+    (loaded-holds d s r h z))
     (λ (z : r .number ≡ 0 → ⊥). subst (λ (x : DD.Desk). IsMade x) (sym (refused-keeps d s r h z)) m)
     (eq-or (r .number) 0)
 
@@ -84,11 +124,15 @@ made-plan d r m h = go (d .loaded) refl
         let p = plan-makes d r a h in
         record {
           counted = p .counted;
-          valid = λ _. subst (λ (x : Nest). isValid x ≡ true) (sym (p .same-nest)) (m .valid a);
-          no-nest = λ z. never-both (p .has-nest) z;
-          is-key = λ _.
-              subst (λ (x : Nest). IsKey x (deskIn (r .desk) .key)) (sym (p .same-nest)) (p .is-key);
-          no-key = λ z. never-both (p .has-key) z;
+          paper =
+              record {
+                valid = λ _. subst (λ (x : Nest). isValid x ≡ true) (sym (p .same-nest)) (m .paper .valid a);
+                no-nest = λ z. never-both (p .has-nest) z;
+                is-key = λ _.
+                    subst (λ (x : Nest). IsKey x (deskIn (r .desk) .key)) (sym (p .same-nest)) (p .is-key);
+                no-key = λ z. never-both (p .has-key) z;
+              };
+          kept = kept-by (sym (p .same-nest)) (sym (h .sitting-is)) (m .kept);
         }
     go false a = subst (λ (x : DD.Desk). IsMade x) (sym (plan-keeps d r a h)) m
 
@@ -112,6 +156,13 @@ since-holds s d (Since.planned d′ r q h) =
     let i = since-holds s d′ q in
     let p = plan-makes d′ r (i .has-nest) h in
     record { accepted = i .accepted; has-nest = p .has-nest; nest-is = p .same-nest ∙ i .nest-is }
+since-holds s d (Since.moved d′ e gs q h) =
+    let i = since-holds s d′ q in
+    record {
+      accepted = i .accepted;
+      has-nest = ap (λ (x : Desk). x .hasNest) (h .holds) ∙ i .has-nest;
+      nest-is = ap (λ (x : Desk). x .nest-is) (h .holds) ∙ i .nest-is;
+    }
 
 -- demand 3: whatever nest is accepted, Plan gives a key that is correct and, against every other correct set of gaps, as
 -- good or better

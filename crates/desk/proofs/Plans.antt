@@ -40,13 +40,14 @@ module _ (d : DD.Desk) (r : DR.Reply) where
   plan-refused a n l k =
       let z : stateFault false (deskIn d) ≡ 10 = rw a in
       let t : eqb (stateFault false (deskIn d)) 0 ≡ false = ne-eqb (stateFault false (deskIn d)) 0 (λ q. omega arith) in
-      record { number-is = n ∙ sym z; line-is = l; desk-is = rw t k }
+      record { number-is = n ∙ sym z; line-is = l; desk-is = rw t k; sitting-is = ap (λ (x : DD.Desk). x .sitting) k }
 
   pub plan-made
       : IsMade d → d .loaded ≡ true → r .number ≡ 0 → r .line ≡ 0 → r .desk .loaded ≡ true → r .desk .nest ≡ d .nest
       → r .desk .planned ≡ true → Planned.PlanSays (nestIn (d .nest)) (r .desk .key .words)
+      → r .desk .sitting ≡ d .sitting
       → PlanSays d r
-  plan-made m a n l b e p h =
+  plan-made m a n l b e p h g =
       let z : stateFault false (deskIn d) ≡ 0 = rw a in
       let t : eqb (stateFault false (deskIn d)) 0 ≡ true = eq-eqb (stateFault false (deskIn d)) 0 z in
       let q : PlannedAs (deskIn d .nest-is) (r .desk) =
@@ -55,6 +56,6 @@ module _ (d : DD.Desk) (r : DR.Reply) where
         has-nest = b;
         same-nest = ap nestIn e;
         has-key = p;
-        is-key = planned-key (nestIn (d .nest)) (r .desk .key .words) (m .valid a) h;
+        is-key = planned-key (nestIn (d .nest)) (r .desk .key .words) (m .paper .valid a) h;
       } in
-      record { number-is = n ∙ sym z; line-is = l; desk-is = rw t q }
+      record { number-is = n ∙ sym z; line-is = l; desk-is = rw t q; sitting-is = g }

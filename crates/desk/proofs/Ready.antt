@@ -39,14 +39,14 @@ ready-has d h = both (d .loaded) (d .planned) h
 pub ready : (d : DD.Desk) → IsMade d → stateFault true (deskIn d) ≡ 0 → Ready d
 ready d m h =
     let b = ready-has d h in
-    let v = m .valid (b .0) in
+    let v = m .paper .valid (b .0) in
     let w = valid-is (nestIn (d .nest)) v in
     record {
       counted = m .counted;
       valid = v;
       shape = w .shape;
       few = w .few-points;
-      key-gaps = correct-gaps (nestIn (d .nest)) (gapsIn (d .key .words)) (m .is-key (b .1) .correct);
+      key-gaps = correct-gaps (nestIn (d .nest)) (gapsIn (d .key .words)) (m .paper .is-key (b .1) .correct);
     }
 
 -- the gaps that were read

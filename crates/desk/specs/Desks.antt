@@ -1,5 +1,5 @@
--- Desks: a nest at most, a key at most; numbers 10 and 11; what the calls answer.
--- Main definitions: `Desk`, `deskIn`, `IsMade`, `stateFault`, `listFault`, `listUncut`.
+-- Desks: a nest at most, a key at most, the candidate's sitting; numbers 10 and 11; what the calls answer.
+-- Main definitions: `Desk`, `deskIn`, `IsMade`, `IsMadePlain`, `stateFault`, `listFault`, `listUncut`.
 use mathlib.Core.Path.{_≡_}
 use mathlib.Core.Bool.{Bool, true, false, _&&_, _||_, not}
 use mathlib.Core.List.{List, [], _∷_}
@@ -13,33 +13,57 @@ use Rattle.nests.specs.Stored.{nestIn, IsCounted}
 use Rattle.placements.specs.Placements.{cuts}
 use Rattle.placements.specs.Words.{gapsIn}
 use Rattle.placements.specs.Keys.{IsKey}
+use Rattle.sitting.specs.Kept.{barriers, Kept}
 use Rattle.desk.specs.declared.Desk as DD
+use Rattle.desk.specs.declared.PlainDesk as OD
 
--- 01, "The desk": a desk holds one nest, and at most one key
+-- 01, "The desk": a desk holds one nest, and at most one key; 02, job 4: and the candidate's own placement
 pub record Desk : Type 0 where
   pub hasNest : Bool
   pub nest-is : Nest
   pub hasKey : Bool
   pub key : List ℕ
+  pub sitting : List ℕ
 
-abbrev pub desk : Bool → Nest → Bool → List ℕ → Desk
-desk a n b k = record { hasNest = a; nest-is = n; hasKey = b; key = k }
+abbrev pub desk : Bool → Nest → Bool → List ℕ → List ℕ → Desk
+desk a n b k gs = record { hasNest = a; nest-is = n; hasKey = b; key = k; sitting = gs }
 
 -- 01, "The desk": it starts empty
 abbrev pub emptyDesk : Desk
-emptyDesk = desk false empty false []
+emptyDesk = desk false empty false [] []
 
--- what the code's desk holds
+-- 02, job 4: after Load there is no key and the sitting is empty
+abbrev pub loadedDesk : Nest → Desk
+loadedDesk n = desk true n false [] []
+
+-- the desk with this sitting, all else as it was
+abbrev pub withSitting : List ℕ → Desk → Desk
+withSitting gs x = desk (x .hasNest) (x .nest-is) (x .hasKey) (x .key) gs
+
+-- what the code's desk holds; what one of the kind before sittings holds, with an empty sitting
 abbrev pub deskIn : DD.Desk → Desk
-deskIn d = desk (d .loaded) (nestIn (d .nest)) (d .planned) (gapsIn (d .key .words))
+deskIn d = desk (d .loaded) (nestIn (d .nest)) (d .planned) (gapsIn (d .key .words)) (barriers (d .sitting))
 
--- 01, "The desk": desks come only from these calls; this is what such a desk is
+abbrev pub plainIn : OD.PlainDesk → Desk
+plainIn d = desk (d .loaded) (nestIn (d .nest)) (d .planned) (gapsIn (d .key .words)) []
+
+-- 01, "The desk": desks come only from these calls; this is what such a desk holds
+pub record IsPaper (x : Desk) : Type 0 where
+  pub valid : x .hasNest ≡ true → isValid (x .nest-is) ≡ true
+  pub no-nest : x .hasNest ≡ false → x ≡ emptyDesk
+  pub is-key : x .hasKey ≡ true → IsKey (x .nest-is) (x .key)
+  pub no-key : x .hasKey ≡ false → x .key ≡ []
+
+-- a desk made by calls; 02, job 4: what its sitting keeps equals a fresh count over the placement
 pub record IsMade (d : DD.Desk) : Type 0 where
   pub counted : IsCounted (d .nest)
-  pub valid : d .loaded ≡ true → isValid (nestIn (d .nest)) ≡ true
-  pub no-nest : d .loaded ≡ false → deskIn d ≡ emptyDesk
-  pub is-key : d .planned ≡ true → IsKey (deskIn d .nest-is) (deskIn d .key)
-  pub no-key : d .planned ≡ false → deskIn d .key ≡ []
+  pub paper : IsPaper (deskIn d)
+  pub kept : Kept (nestIn (d .nest)) (d .sitting)
+
+-- one of the kind before sittings
+pub record IsMadePlain (d : OD.PlainDesk) : Type 0 where
+  pub counted : IsCounted (d .nest)
+  pub paper : IsPaper (plainIn d)
 
 -- 01, "Numbers from the state": 10, no nest; 11, a nest but no key
 abbrev pub stateFault : Bool → Desk → ℕ

@@ -1,5 +1,5 @@
 -- What the public calls promise: reply, desk after, every lent byte.
--- Main definitions: `EmptySays`, `LoadSays`, `PlanSays`, `CountSays`, `MarkSays`, `WriteSays`.
+-- Main definitions: `EmptySays`, `LoadSays`, `PlanSays`, `CountSays`, `MarkSays`, `WriteSays`, `OverSays`.
 use mathlib.Core.Path.{_≡_}
 use mathlib.Core.Bool.{Bool, true, false, not}
 use mathlib.Core.List.{List, [], _∷_}
@@ -9,36 +9,40 @@ use lib.ListN.{length}
 use Rattle.laws.specs.Choice.{pick, pickT, when, firstOf}
 use Rattle.nests.specs.Nests.{Dep, Nest}
 use Rattle.nests.specs.Loops.{isDo}
-use Rattle.nests.specs.Stored.{IsCounted}
+use Rattle.nests.specs.Stored.{nestIn, IsCounted}
 use Rattle.lines.specs.Writing.{over}
 use Rattle.placements.specs.Placements.{loopCount}
 use Rattle.placements.specs.Keys.{IsKey}
 use Rattle.placements.specs.Verdicts.{Verdict, Uncut, Dearer, Best, markOf}
+use Rattle.sitting.specs.Kept.{Kept}
 use Rattle.texts.specs.NestTexts.{Got, readNest}
 use Rattle.texts.specs.PlacementTexts.{Placed, readPlacement, keyText}
 use Rattle.desk.specs.declared.Desk as DD
+use Rattle.desk.specs.declared.PlainDesk as OD
 use Rattle.desk.specs.declared.Reply as DR
 use Rattle.desk.specs.declared.Answer as DA
 use Rattle.desk.specs.declared.Marked as DM
 use Rattle.desk.specs.declared.Verdict as DV
 use Rattle.desk.specs.declared.Verdict.the-variants as VV
 use Rattle.desk.specs.declared.Marked.the-variants as MV
-use Rattle.desk.specs.Desks.{Desk, desk, emptyDesk, deskIn, stateFault, Fault, fault, listFault, listUncut}
+use Rattle.desk.specs.Desks.{Desk, emptyDesk, loadedDesk, deskIn, plainIn, stateFault}
+use Rattle.desk.specs.Desks.{Fault, fault, listFault, listUncut}
 
--- the desk holds this, and its nest's counts are those of the nest
+-- the desk holds this; its nest's counts are those of the nest, and its sitting's those of a fresh count
 pub record Holds (d : DD.Desk) (x : Desk) : Type 0 where
   pub holds : deskIn d ≡ x
   pub counted : IsCounted (d .nest)
+  pub kept : Kept (nestIn (d .nest)) (d .sitting)
 
 -- a new desk, and Reset
 abbrev pub EmptySays : DD.Desk → Type 0
 EmptySays d = Holds d emptyDesk
 
--- Load: 1 to 7 with their line; accepted, it replaces the nest and drops the key; refused, it leaves the desk
+-- Load: 1 to 7 with their line; accepted, it replaces the nest and drops key and sitting; refused, it leaves the desk
 pub record LoadSays (d : DD.Desk) (s : List ℕ) (r : DR.Reply) : Type 0 where
   pub number-is : r .number ≡ readNest s .number
   pub line-is : r .line ≡ readNest s .place
-  pub desk-is : pickT (eqb (readNest s .number) 0) (Holds (r .desk) (desk true (readNest s .nest-is) false [])) (r .desk ≡ d)
+  pub desk-is : pickT (eqb (readNest s .number) 0) (Holds (r .desk) (loadedDesk (readNest s .nest-is))) (r .desk ≡ d)
 
 -- the desk has the same nest, and a key of it
 pub record PlannedAs (n : Nest) (d : DD.Desk) : Type 0 where
@@ -48,11 +52,12 @@ pub record PlannedAs (n : Nest) (d : DD.Desk) : Type 0 where
   pub has-key : d .planned ≡ true
   pub is-key : IsKey n (deskIn d .key)
 
--- Plan: 10; the key is any correct placement with the least tree
+-- Plan: 10; the key is any correct placement with the least tree; 02, job 4: it does not touch the sitting
 pub record PlanSays (d : DD.Desk) (r : DR.Reply) : Type 0 where
   pub number-is : r .number ≡ stateFault false (deskIn d)
   pub line-is : r .line ≡ 0
   pub desk-is : pickT (eqb (stateFault false (deskIn d)) 0) (PlannedAs (deskIn d .nest-is) (r .desk)) (r .desk ≡ d)
+  pub sitting-is : r .desk .sitting ≡ d .sitting
 
 -- an answer that refuses
 pub record RefusedAs (number : ℕ) (r : DA.Answer) : Type 0 where
@@ -125,3 +130,7 @@ pub record ListSays (d : DD.Desk) (es : List Dep) (r : DA.Answer) : Type 0 where
       (eqb (checkFault (deskIn d) es .number) 0)
       (listUncut 1 (deskIn d .nest-is .points) es (deskIn d .key))
       0
+
+-- 02, job 4: a desk in use goes over to the new kind with nest and key kept and an empty sitting
+abbrev pub OverSays : OD.PlainDesk → DD.Desk → Type 0
+OverSays old r = Holds r (plainIn old)

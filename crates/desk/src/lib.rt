@@ -1,6 +1,7 @@
-// The marking desk: one nest and at most one key. A desk comes only from these calls; each takes it by value.
+// The marking desk: one nest, at most one key, and the candidate's sitting. A desk comes only from these calls; each
+// takes it by value.
 ghost use mathlib.Core.Path.{_≡_};
-ghost use Rattle.desk.specs.Desks.{IsMade};
+ghost use Rattle.desk.specs.Desks.{IsMade, IsMadePlain};
 ghost use mathlib.Core.Bool.{true, not};
 ghost use Rattle.laws.specs.Choice.{when, firstOf};
 ghost use Rattle.nests.specs.Valid.{isValid};
@@ -8,14 +9,25 @@ ghost use Rattle.nests.specs.Stored.{nestIn, IsCounted};
 ghost use Rattle.placements.specs.Placements.{areGaps};
 ghost use Rattle.placements.specs.Words.{gapsIn};
 ghost use Rattle.placements.specs.Verdicts.{markOf};
-ghost use Rattle.desk.specs.Says.{EmptySays, LoadSays, PlanSays, CountSays, MarkSays, WriteSays, RefusedAs, verdictIn};
+ghost use Rattle.desk.specs.Says.{EmptySays, LoadSays, PlanSays, CountSays, MarkSays, WriteSays, OverSays};
+ghost use Rattle.desk.specs.Says.{RefusedAs, verdictIn};
 use nests::Nest;
 use placements::Compared;
 use placements::Counts;
 use placements::Placement;
+use sitting::Sitting;
 
-// A desk: whether there is a nest, the nest, whether there is a key, the key.
+// A desk: whether there is a nest, the nest, whether there is a key, the key, the candidate's sitting.
 pub struct Desk {
+    pub loaded: bool,
+    pub nest: Nest,
+    pub planned: bool,
+    pub key: Placement,
+    pub sitting: Sitting,
+}
+
+// A desk of the kind before sittings.
+pub struct PlainDesk {
     pub loaded: bool,
     pub nest: Nest,
     pub planned: bool,
@@ -64,11 +76,12 @@ impl Desk {
             nest: Nest::empty(),
             planned: false,
             key: Placement::empty(),
+            sitting: Sitting::empty(0),
         }
     }
 }
 
-// Reads a nest text; accepted, it replaces the nest and drops the key. Numbers 1 to 7 with their line.
+// Reads a nest text; accepted, it replaces the nest and drops key and sitting. Numbers 1 to 7 with their line.
 pub fn load_nest(desk: Desk, text: &[u8]) -> Reply
     ensures { λ r. ⌜ LoadSays desk (now (text .entry)) r ⌝ }
 {
@@ -90,6 +103,7 @@ pub fn load_nest(desk: Desk, text: &[u8]) -> Reply
             nest: nest,
             planned: false,
             key: Placement::empty(),
+            sitting: Sitting::empty(nest.many),
         },
     }
 }
@@ -103,6 +117,7 @@ pub fn plan_key(desk: Desk) -> Reply
     if loaded {
         let nest = desk.nest;
         let key = plan::plan(nest);
+        let sitting = desk.sitting;
         return Reply {
             number: 0,
             line: 0,
@@ -111,6 +126,7 @@ pub fn plan_key(desk: Desk) -> Reply
                 nest: nest,
                 planned: true,
                 key: key,
+                sitting: sitting,
             },
         };
     }
@@ -194,6 +210,23 @@ pub fn reset(desk: Desk) -> Desk
     ensures { λ r. ⌜ EmptySays r ⌝ }
 {
     Desk::empty()
+}
+
+// A desk of the kind before sittings goes over: nest and key are kept, the sitting is empty.
+pub fn go_over(old: PlainDesk) -> Desk
+    requires { ⌜ IsMadePlain old ⌝ }
+    ensures { λ r. ⌜ OverSays old r ⌝ }
+{
+    let nest = old.nest;
+    let key = old.key;
+    let sitting = Sitting::empty(nest.many);
+    Desk {
+        loaded: old.loaded,
+        nest: nest,
+        planned: old.planned,
+        key: key,
+        sitting: sitting,
+    }
 }
 
 // How a placement stands beside the key.

@@ -5,7 +5,8 @@ use Rattle.desk.proofs.load_nest.Statement.{statement}
 use Rattle.desk.proofs.load_nest.Tie as tie
 use Rattle.desk.proofs.load_nest.Reads as reads
 use Rattle.desk.proofs.load_nest.Lts as lts
-use Rattle.placements.proofs.Placement.empty.Reads as empty-reads
+use Rattle.placements.proofs.Placement.empty.Reads as Placement-empty-reads
+use Rattle.sitting.proofs.Sitting.empty.Reads as Sitting-empty-reads
 use Rattle.texts.proofs.read_nest.Reads as read-nest-reads
 
 read-nest-requires : tie.Need-read-nest-requires
@@ -19,10 +20,16 @@ returns c =
 empty-requires : tie.Need-empty-requires
 empty-requires c κs = search needs
 
+empty-requires-2 : tie.Need-empty-requires-2
+empty-requires-2 c κs = search needs
+
 returns-2 : tie.Need-returns-2
 returns-2 c =
-    let r = c .before .before .before .read-nest in
-    load-accepted (c .before .before .before .before .before .args .text .now) (r .result) (r .ensures) (c .before .before .before .before .before .args .desk) _ (c .before .before .if1 .left) refl refl refl refl refl (c .empty .ensures)
+    let b3 = c .before .before .before in
+    let r = b3 .before .read-nest in
+    let a = b3 .before .before .before .args in
+    load-accepted (a .text .now) (r .result) (r .ensures) (a .desk) _ (b3 .if1 .left) refl refl refl refl refl
+    (c .before .empty .ensures) (c .empty2 .ensures)
 
 pub load-nest-spec : {M : Type 1} → statement M
-load-nest-spec = tie.close (tie.spec read-nest-requires returns empty-requires returns-2)
+load-nest-spec = tie.close (tie.spec read-nest-requires returns empty-requires empty-requires-2 returns-2)

@@ -1,0 +1,164 @@
+-- Put and Lift: what each way through the code says of the reply.
+-- Main statements: `ready`; `put-refused`, `put-there`, `put-made`; `lift-refused`, `lift-missing`, `lift-made`.
+use mathlib.Core.Path.{_≡_, refl, sym, _∙_, ap}
+use mathlib.Core.Bool.{Bool, true, false, _&&_, not}
+use mathlib.Core.List.{List}
+use Prim.Native.Nat.{ℕ, zero, suc, _≤_, _<_}
+use native.Mathlib.Omega.{arith}
+use lib.Dec.{eqb, ltb}
+use borrow.Author.Tests.{ltb-true, eq-eqb, ne-eqb, lt-ltb, le-ltb}
+use Rattle.laws.specs.Choice.{when, firstOf, isIn}
+use Rattle.nests.specs.Stored.{nestIn}
+use Rattle.placements.specs.Words.{GAPS, holds}
+use Rattle.placements.proofs.Words.{in-gaps}
+use Rattle.sitting.specs.declared.Sitting as DS
+use Rattle.sitting.specs.GapLists.{withGap, without}
+use Rattle.sitting.specs.Kept as Kept
+use Rattle.desk.specs.declared.Desk as DD
+use Rattle.desk.specs.Desks.{Desk, withSitting, deskIn, IsMade}
+use Rattle.desk.specs.Says.{Holds}
+use Rattle.screen.specs.declared.Moved as DM
+use Rattle.screen.specs.Says.{gapFault, putFault, liftFault, afterPut, afterLift, uncutOn}
+use Rattle.screen.specs.Says.{MoveSays, PutSays, LiftSays, refusedAs, seated, movedTo}
+
+-- ---- the number of a gap, as the code tells it
+
+abbrev faultIn : Bool → ℕ → ℕ → ℕ
+faultIn loaded count g = firstOf (when (not loaded) 10) (when (not (ltb 0 g && ltb g count)) 8)
+
+pub in-range : (loaded : Bool) (count g : ℕ) → loaded ≡ true → 0 < g → g < count → 0 ≡ faultIn loaded count g
+in-range loaded count g a h k = rw (a, lt-ltb 0 g h, lt-ltb g count k)
+
+pub gap-high : (loaded : Bool) (count g : ℕ) → loaded ≡ true → 0 < g → count ≤ g → 8 ≡ faultIn loaded count g
+gap-high loaded count g a h k = rw (a, lt-ltb 0 g h, le-ltb g count k)
+
+pub gap-zero : (loaded : Bool) (count g : ℕ) → loaded ≡ true → g ≤ 0 → 8 ≡ faultIn loaded count g
+gap-zero loaded count g a h = rw (a, le-ltb 0 g h)
+
+pub no-nest : (loaded : Bool) (count g : ℕ) → loaded ≡ false → 10 ≡ faultIn loaded count g
+no-nest loaded count g a = rw a
+
+all-three
+    : (t a b : Bool) → firstOf (when (not t) 10) (when (not (a && b)) 8) ≡ 0 → (t ≡ true) × (a ≡ true) × (b ≡ true)
+all-three true true true h = (refl, refl, refl)
+all-three true true false h = absurd (omega arith)
+all-three true false b h = absurd (omega arith)
+all-three false a b h = absurd (omega arith)
+
+first-set : (a b : ℕ) → (a ≡ 0 → ⊥) → firstOf a b ≡ a
+first-set zero b h = absurd (h refl)
+first-set (suc a) b h = refl
+
+first-none : (a b c : ℕ) → a ≡ 0 → b ≡ c → firstOf a b ≡ c
+first-none a b c h e = rw (h, e)
+
+-- the state of a call that wants no key
+nest-only : (a : Bool) → firstOf (when (not a) 10) 0 ≡ when (not a) 10
+nest-only true = refl
+nest-only false = refl
+
+-- ---- the gap is one of the nest
+
+module _ (d : DD.Desk) (g : ℕ) (made : IsMade d) (none : faultIn (d .loaded) (d .nest .count) g ≡ 0) where
+  pub ready : Kept.Ready (d .nest) (d .sitting) g
+  ready =
+      let a = all-three (d .loaded) (ltb 0 g) (ltb g (d .nest .count)) none in
+      record {
+        counted = made .counted;
+        valid = made .paper .valid (a .0);
+        kept = made .kept;
+        first = ltb-true 0 g (a .1);
+        inside = ltb-true g (d .nest .count) (a .2);
+      }
+
+  pub below : g < GAPS
+  below = omega (arith, ready .inside, made .counted .count-fits)
+
+-- ---- a move of a desk made by calls, with gap g and reply r
+
+module _ (d : DD.Desk) (g : ℕ) (made : IsMade d) (r : DM.Moved) where
+  abbrev told : ℕ
+  told = faultIn (d .loaded) (d .nest .count) g
+
+  abbrev ws : List ℕ
+  ws = d .sitting .placement .words
+
+  -- the desk's count is that of its nest
+  fault-told : told ≡ gapFault (deskIn d) g
+  fault-told = rw (nest-only (d .loaded)) (ap (λ (n : ℕ). faultIn (d .loaded) n g) (made .counted .count-is))
+
+  -- a refusal, whatever the move
+  refused-with
+      : (number : ℕ) (after : Desk) (k : ℕ) → number ≡ k → (k ≡ 0 → ⊥) → r ≡ refusedAs k d → MoveSays number after d r
+  refused-with number after k e h is =
+      let z : eqb number 0 ≡ false = ne-eqb number 0 (λ q. h (sym e ∙ q)) in
+      rw is (record { number-is = sym e; line-is = refl; uncut-is = rw z; desk-is = rw z refl })
+
+  pub put-refused : (k : ℕ) → k ≡ told → (k ≡ 0 → ⊥) → r ≡ refusedAs k d → PutSays d g r
+  put-refused k e h is =
+      refused-with (putFault (deskIn d) g) (afterPut (deskIn d) g) k
+      (first-set (gapFault (deskIn d) g) (when (isIn g (deskIn d .sitting)) 12) (λ q. h (e ∙ (fault-told ∙ q))) ∙
+      sym (e ∙ fault-told))
+      h is
+
+  pub lift-refused : (k : ℕ) → k ≡ told → (k ≡ 0 → ⊥) → r ≡ refusedAs k d → LiftSays d g r
+  lift-refused k e h is =
+      refused-with (liftFault (deskIn d) g) (afterLift (deskIn d) g) k
+      (first-set (gapFault (deskIn d) g) (when (not (isIn g (deskIn d .sitting))) 12) (λ q. h (e ∙ (fault-told ∙ q))) ∙
+      sym (e ∙ fault-told))
+      h is
+
+  -- no number: there is a nest, and the gap is one of its gaps
+  module _ (none : told ≡ 0) where
+    -- the placement tells whether the gap is there
+    there : (b : Bool) → holds ws g ≡ b → isIn g (deskIn d .sitting) ≡ b
+    there b h = in-gaps ws g (below d g made none) ∙ h
+
+    put-number : (b : Bool) → holds ws g ≡ b → putFault (deskIn d) g ≡ when b 12
+    put-number b h =
+        first-none (gapFault (deskIn d) g) (when (isIn g (deskIn d .sitting)) 12) (when b 12) (sym fault-told ∙ none)
+        (ap (λ (t : Bool). when t 12) (there b h))
+
+    lift-number : (b : Bool) → holds ws g ≡ b → liftFault (deskIn d) g ≡ when (not b) 12
+    lift-number b h =
+        first-none (gapFault (deskIn d) g) (when (not (isIn g (deskIn d .sitting))) 12) (when (not b) 12)
+        (sym fault-told ∙ none)
+        (ap (λ (t : Bool). when (not t) 12) (there b h))
+
+    pub put-there : holds ws g ≡ true → r ≡ refusedAs 12 d → PutSays d g r
+    put-there h =
+        refused-with (putFault (deskIn d) g) (afterPut (deskIn d) g) 12 (put-number true h) (λ q. omega arith)
+
+    pub lift-missing : holds ws g ≡ false → r ≡ refusedAs 12 d → LiftSays d g r
+    lift-missing h =
+        refused-with (liftFault (deskIn d) g) (afterLift (deskIn d) g) 12 (lift-number false h) (λ q. omega arith)
+
+    -- the desk with the new sitting, whose kept number is told
+    made-with
+        : (number : ℕ) (gs : List ℕ) (s : DS.Sitting) → number ≡ 0 → Kept.barriers s ≡ gs
+        → Kept.Kept (nestIn (d .nest)) s → r ≡ movedTo d s → MoveSays number (withSitting gs (deskIn d)) d r
+    made-with number gs s e b k is =
+        let z : eqb number 0 ≡ true = eq-eqb number 0 e in
+        let h : Holds (seated d s) (withSitting gs (deskIn d)) =
+        record { holds = ap (λ (x : List ℕ). withSitting x (deskIn d)) b; counted = made .counted; kept = k } in
+        rw is
+        (record {
+          number-is = sym e;
+          line-is = refl;
+          uncut-is = rw z (k .uncut-is ∙ ap (λ (x : List ℕ). uncutOn (withSitting x (deskIn d))) b);
+          desk-is = rw z h;
+        })
+
+    pub put-made
+        : (s : DS.Sitting) → holds ws g ≡ false → Kept.PutSays (nestIn (d .nest)) g (d .sitting) s → r ≡ movedTo d s
+        → PutSays d g r
+    put-made s h p =
+        made-with (putFault (deskIn d) g) (withGap g (deskIn d .sitting)) s (put-number false h) (p .barriers-are)
+        (p .kept)
+
+    pub lift-made
+        : (s : DS.Sitting) → holds ws g ≡ true → Kept.LiftSays (nestIn (d .nest)) g (d .sitting) s → r ≡ movedTo d s
+        → LiftSays d g r
+    lift-made s h p =
+        made-with (liftFault (deskIn d) g) (without g (deskIn d .sitting)) s (lift-number true h) (p .barriers-are)
+        (p .kept)

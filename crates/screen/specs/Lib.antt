@@ -1,0 +1,2 @@
+-- The calls at the screen: what each says.
+pub mod Says

@@ -1,0 +1,68 @@
+-- What the calls at the screen promise: reply and desk after.
+-- Main definitions: `putFault`, `liftFault`, `MoveSays`, `PutSays`, `LiftSays`.
+use mathlib.Core.Path.{_≡_}
+use mathlib.Core.Bool.{Bool, false, _&&_, not}
+use mathlib.Core.List.{List}
+use Prim.Native.Nat.{ℕ}
+use lib.Dec.{eqb, ltb}
+use lib.ListN.{length}
+use Rattle.laws.specs.Choice.{pick, pickT, when, firstOf, isIn}
+use Rattle.nests.specs.Nests.{Nest}
+use Rattle.sitting.specs.GapLists.{withGap, without}
+use Rattle.sitting.specs.Counts.{uncutCount}
+use Rattle.sitting.specs.declared.Sitting as DS
+use Rattle.desk.specs.declared.Desk as DD
+use Rattle.desk.specs.Desks.{Desk, withSitting, deskIn, stateFault}
+use Rattle.desk.specs.Says.{Holds}
+use Rattle.screen.specs.declared.Moved as DM
+
+-- 01, "The nest and its gaps": gaps 1 to n - 1
+abbrev pub isGap : Nest → ℕ → Bool
+isGap n g = ltb 0 g && ltb g (length (n .points))
+
+-- 02, job 4: 10, no nest; 8, a gap out of range
+abbrev pub gapFault : Desk → ℕ → ℕ
+gapFault x g = firstOf (stateFault false x) (when (not (isGap (x .nest-is) g)) 8)
+
+-- 02, job 4: 12, Put of a gap that is there or Lift of one that isn't, after 10 and 8
+abbrev pub putFault : Desk → ℕ → ℕ
+putFault x g = firstOf (gapFault x g) (when (isIn g (x .sitting)) 12)
+
+abbrev pub liftFault : Desk → ℕ → ℕ
+liftFault x g = firstOf (gapFault x g) (when (not (isIn g (x .sitting))) 12)
+
+-- the desk after a move that is not refused
+abbrev pub afterPut : Desk → ℕ → Desk
+afterPut x g = withSitting (withGap g (x .sitting)) x
+
+abbrev pub afterLift : Desk → ℕ → Desk
+afterLift x g = withSitting (without g (x .sitting)) x
+
+-- how many dependences of the nest the sitting does not cut
+abbrev pub uncutOn : Desk → ℕ
+uncutOn x = uncutCount (x .nest-is .points) (x .nest-is .deps) (x .sitting)
+
+-- a move: its number, with line 0; made, it leaves the desk `after` and tells how many dependences remain uncut there;
+-- refused, it leaves the desk as it was and tells 0
+pub record MoveSays (number : ℕ) (after : Desk) (d : DD.Desk) (r : DM.Moved) : Type 0 where
+  pub number-is : r .number ≡ number
+  pub line-is : r .line ≡ 0
+  pub uncut-is : r .uncut ≡ pick (eqb number 0) (uncutOn after) 0
+  pub desk-is : pickT (eqb number 0) (Holds (r .desk) after) (r .desk ≡ d)
+
+-- the code's replies: a refusal, and a move to another sitting
+abbrev pub refusedAs : ℕ → DD.Desk → DM.Moved
+refusedAs n d = record { number = n; line = 0; uncut = 0; desk = d }
+
+abbrev pub seated : DD.Desk → DS.Sitting → DD.Desk
+seated d s = record { loaded = d .loaded; nest = d .nest; planned = d .planned; key = d .key; sitting = s }
+
+abbrev pub movedTo : DD.Desk → DS.Sitting → DM.Moved
+movedTo d s = record { number = 0; line = 0; uncut = s .uncut; desk = seated d s }
+
+-- Put and Lift
+abbrev pub PutSays : DD.Desk → ℕ → DM.Moved → Type 0
+PutSays d g r = MoveSays (putFault (deskIn d) g) (afterPut (deskIn d) g) d r
+
+abbrev pub LiftSays : DD.Desk → ℕ → DM.Moved → Type 0
+LiftSays d g r = MoveSays (liftFault (deskIn d) g) (afterLift (deskIn d) g) d r
