@@ -1,7 +1,8 @@
 #!/usr/bin/env python3
-"""No division and no remainder in the planner: looks through what its crates compile to (`rt mir`).
+"""No division and no remainder in the planner and in the ring of moves: looks through what their crates compile to
+(`rt mir`).
 
-The functions of the planner's crates are listed with the divisions they hold. `Placement::put` of crate placements
+The functions of these crates are listed with the divisions they hold. `Placement::put` of crate placements
 takes a gap's word and bit by / 64 and % 64, outside the planner: it is the one exception, by name.
 The last line is 'N passed, M failed'.
 """
@@ -9,7 +10,7 @@ import re
 import subprocess
 import sys
 
-PLANNER = ['tables', 'sweeps', 'rows', 'settling', 'laying', 'plan']
+CRATES = ['tables', 'sweeps', 'rows', 'settling', 'laying', 'plan', 'moves']
 EXCEPTED = {'placements::Placement::put'}
 
 
@@ -27,12 +28,12 @@ def divisions(mir):
 
 def main():
     passed = failed = 0
-    for crate in PLANNER:
+    for crate in CRATES:
         mir = subprocess.run(['rt', 'mir', crate], capture_output=True, text=True).stdout
         found = divisions(mir)
         own = [f for f in found if f.startswith(crate + '::')]
-        bad = [f for f in found if found[f] and f.split('::')[0] in PLANNER]
-        odd = [f for f in found if found[f] and f.split('::')[0] not in PLANNER and f not in EXCEPTED]
+        bad = [f for f in found if found[f] and f.split('::')[0] in CRATES]
+        odd = [f for f in found if found[f] and f.split('::')[0] not in CRATES and f not in EXCEPTED]
         if own and not bad and not odd:
             print('%s: %d functions, no division' % (crate, len(own)))
             passed += 1

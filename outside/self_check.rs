@@ -159,4 +159,13 @@ fn check_sitting(checks: &mut Checks) {
     checks.that("gone over", over.starts_with(b"0 0\n0 3\n0 6\n12 0\n0 0\n"));
     let none = sittings::replies(b"02\n", &[(0x30, 0), (0x31, 1), (0x32, 0)]);
     checks.that("no nest", none == b"4 1\n10 0\n10 0\n10 0\n");
+    let moves = [(0x30, 5), (0x31, 5), (0x30, 0), (0x34, 0), (0x32, 0), (0x34, 0), (0x34, 0)];
+    let back = sittings::replies(&words(P), &moves);
+    checks.that("taken back", back.starts_with(b"0 0\n0 3\n0 6\n8 0\n0 3\n0 3\n0 6\n13 0\n0 0\n"));
+    let turns = (0..65).map(|i| (0x30 + i % 2, 5)).chain([(0x34, 0); 65]).collect::<Vec<_>>();
+    let replies = sittings::replies(&words(P), &turns);
+    let left = replies.ends_with(b"0 6\n0 3\n13 0\n0 1\n1 1\n2 0\n3 0\n4 0\n5 1\n");
+    checks.that("the first of 65 moves forgotten", left);
+    let none = sittings::replies(b"02\n", &[(0x34, 0)]);
+    checks.that("no nest to take back", none == b"4 1\n10 0\n");
 }

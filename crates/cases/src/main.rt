@@ -30,6 +30,9 @@ fn main() {
     report(14, case_14());
     report(15, case_15());
     report(16, case_16());
+    report(17, case_17());
+    report(18, case_18());
+    report(19, case_19());
 }
 
 // Writes a case's line.
@@ -183,8 +186,6 @@ fn case_16() -> bool {
     let planned = after_plan(one);
     let refused = after_load(planned, b"01\n");
     let again = after_load(refused, b"01\n02\n110001\n");
-    let two = after_put(p, 5);
-    let gone = gone_over(two);
     puts(least, 1, 0, 0)
         && lifts(one, 1, 0, 1)
         && has_key(planned, b"2101\n")
@@ -192,9 +193,62 @@ fn case_16() -> bool {
         && lifts(refused, 1, 0, 1)
         && lifts(again, 1, 12, 0)
         && puts(again, 1, 0, 0)
-        && has_key(gone, b"2105\n210b\n")
-        && lifts(gone, 5, 12, 0)
-        && puts(gone, 5, 0, 3)
+        && goes_over()
+}
+
+fn goes_over() -> bool {
+    let p = paper_p();
+    let one = after_put(p, 5);
+    let gone = gone_over(one);
+    has_key(gone, b"2105\n210b\n") && lifts(gone, 5, 12, 0) && puts(gone, 5, 0, 3)
+}
+
+// P at the screen: the latest move is taken back, a lift by putting, a put by lifting; a refused move is none.
+fn case_17() -> bool {
+    let p = paper_p();
+    let one = after_put(p, 5);
+    let two = after_put(one, 11);
+    let left = after_lift(two, 5);
+    let refused = after_put(left, 11);
+    let back = after_back(refused);
+    let first = after_back(back);
+    let none = after_back(first);
+    takes_back(refused, 0, 0)
+        && lifts(back, 5, 0, 3)
+        && takes_back(back, 0, 3)
+        && puts(first, 11, 0, 0)
+        && takes_back(first, 0, 6)
+        && puts(none, 5, 0, 3)
+        && takes_back(none, 13, 0)
+}
+
+// 10 before 13. Load clears the moves, refused it keeps them; Plan keeps them; a desk that goes over has none.
+fn case_18() -> bool {
+    let p = paper_p();
+    let one = after_put(p, 5);
+    let refused = after_load(one, b"01\n");
+    let planned = after_plan(refused);
+    let again = after_load(planned, b"01\n02\n110001\n");
+    let gone = gone_over(one);
+    takes_back(p, 13, 0)
+        && takes_back(planned, 0, 6)
+        && takes_back(again, 13, 0)
+        && takes_back(gone, 13, 0)
+        && takes_back(after_reset(one), 10, 0)
+        && takes_back(empty_desk(), 10, 0)
+}
+
+// 65 moves and 65 take-backs: the first move is forgotten, so that its barrier stays and the last take-back gets 13.
+fn case_19() -> bool {
+    let p = paper_p();
+    let moved = after_turns(p, 65);
+    let last = after_backs(moved, 63);
+    let forgotten = after_backs(moved, 64);
+    lifts(moved, 5, 0, 6)
+        && lifts(last, 5, 12, 0)
+        && takes_back(last, 0, 3)
+        && lifts(forgotten, 5, 0, 6)
+        && takes_back(forgotten, 13, 0)
 }
 
 // Put replies this.
@@ -213,6 +267,14 @@ fn lifts(desk: Desk, gap: usize, number: u8, uncut: usize) -> bool
     moved.number == number && moved.line == 0 && moved.uncut == uncut
 }
 
+// Take back replies this.
+fn takes_back(desk: Desk, number: u8, uncut: usize) -> bool
+    requires { ⌜ IsMade desk ⌝ }
+{
+    let moved = screen::take_back(desk);
+    moved.number == number && moved.line == 0 && moved.uncut == uncut
+}
+
 // A new desk.
 fn empty_desk() -> Desk
     ensures { λ r. ⌜ IsMade r ⌝ }
@@ -220,7 +282,7 @@ fn empty_desk() -> Desk
     Desk::empty()
 }
 
-// The desk after a Put, a Lift, a Plan, a Load.
+// The desk after a Put, a Lift, a Take back, a Plan, a Load, a Reset.
 fn after_put(desk: Desk, gap: usize) -> Desk
     requires { ⌜ IsMade desk ⌝ }
     ensures { λ r. ⌜ IsMade r ⌝ }
@@ -234,6 +296,14 @@ fn after_lift(desk: Desk, gap: usize) -> Desk
     ensures { λ r. ⌜ IsMade r ⌝ }
 {
     let moved = screen::lift_gap(desk, gap);
+    moved.desk
+}
+
+fn after_back(desk: Desk) -> Desk
+    requires { ⌜ IsMade desk ⌝ }
+    ensures { λ r. ⌜ IsMade r ⌝ }
+{
+    let moved = screen::take_back(desk);
     moved.desk
 }
 
@@ -251,6 +321,52 @@ fn after_load(desk: Desk, text: &[u8]) -> Desk
 {
     let reply = desk::load_nest(desk, text);
     reply.desk
+}
+
+fn after_reset(desk: Desk) -> Desk
+    ensures { λ r. ⌜ IsMade r ⌝ }
+{
+    desk::reset(desk)
+}
+
+// The desk after so many moves of gap 5, put and lifted in turn.
+fn after_turns(desk: Desk, many: usize) -> Desk
+    requires { ⌜ IsMade desk ⌝ }
+    ensures { λ r. ⌜ IsMade r ⌝ }
+{
+    let mut d = desk;
+    let mut i = 0;
+    while i < many {
+        d = turned(d, 5);
+        i += 1;
+    }
+    d
+}
+
+// The desk with the gap put, or lifted where it is there.
+fn turned(desk: Desk, gap: usize) -> Desk
+    requires { ⌜ IsMade desk ⌝ }
+    ensures { λ r. ⌜ IsMade r ⌝ }
+{
+    let moved = screen::put_gap(desk, gap);
+    if moved.number == 0 {
+        return moved.desk;
+    }
+    after_lift(desk, gap)
+}
+
+// The desk after so many take-backs.
+fn after_backs(desk: Desk, many: usize) -> Desk
+    requires { ⌜ IsMade desk ⌝ }
+    ensures { λ r. ⌜ IsMade r ⌝ }
+{
+    let mut d = desk;
+    let mut i = 0;
+    while i < many {
+        d = after_back(d);
+        i += 1;
+    }
+    d
 }
 
 // The desk's nest and key as a desk of the kind before sittings, gone over.

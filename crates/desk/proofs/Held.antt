@@ -1,4 +1,4 @@
--- What a desk with an empty sitting holds, from what its parts hold.
+-- What a desk with an empty sitting and no moves holds, from what its parts hold.
 -- Main statements: `held`, `held-empty`.
 use mathlib.Core.Path.{_≡_, refl, sym, _∙_, subst}
 use mathlib.Core.Bool.{Bool, true, false}
@@ -12,6 +12,7 @@ use Rattle.placements.proofs.Words.{gaps-none}
 use Rattle.sitting.specs.declared.Sitting as DS
 use Rattle.sitting.specs.Kept as Kept
 use Rattle.sitting.proofs.Outcome.{empty-kept}
+use Rattle.moves.specs.Ring as Ring
 use Rattle.desk.specs.declared.Desk as DD
 use Rattle.desk.specs.Desks.{desk, deskIn, emptyDesk}
 use Rattle.desk.specs.Says.{Holds}
@@ -24,15 +25,22 @@ pub held
     : (d : DD.Desk) (a : Bool) (n : Nest) (b : Bool) (k : List ℕ)
     → d .loaded ≡ a → nestIn (d .nest) ≡ n → d .planned ≡ b → gapsIn (d .key .words) ≡ k → IsCounted (d .nest)
     → Kept.EmptySays (d .nest .many) (d .sitting)
-    → Holds d (desk a n b k [])
-held d a n b k p q r s c e =
-    record { holds = rw (p, q, r, s, e .no-gaps); counted = c; kept = fresh-kept (d .nest) (d .sitting) c e }
+    → Ring.EmptySays (d .moves)
+    → Holds d (desk a n b k [] [])
+held d a n b k p q r s c e m =
+    record {
+      holds = rw (p, q, r, s, e .no-gaps, m .moves-are);
+      counted = c;
+      kept = fresh-kept (d .nest) (d .sitting) c e;
+      ring = m .ring;
+    }
 
 pub held-empty
     : (d : DD.Desk)
     → d .loaded ≡ false → IsEmpty (d .nest) → d .planned ≡ false → ((i : ℕ) → holds (d .key .words) i ≡ false)
     → Kept.EmptySays 0 (d .sitting)
+    → Ring.EmptySays (d .moves)
     → Holds d emptyDesk
-held-empty d p e r h s =
+held-empty d p e r h s m =
     held d false empty false [] p (e .nest-is) r (gaps-none (d .key .words) (λ i l. h i)) (e .counted)
-    (subst (λ (m : ℕ). Kept.EmptySays m (d .sitting)) (sym (e .no-deps)) s)
+    (subst (λ (x : ℕ). Kept.EmptySays x (d .sitting)) (sym (e .no-deps)) s) m

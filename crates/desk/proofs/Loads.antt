@@ -11,6 +11,7 @@ use Rattle.nests.specs.Stored.{nestIn}
 use Rattle.placements.specs.Words.{holds}
 use Rattle.placements.proofs.Words.{gaps-none}
 use Rattle.sitting.specs.Kept as Kept
+use Rattle.moves.specs.Ring as Ring
 use Rattle.texts.specs.NestTexts.{Got, readNest}
 use Rattle.texts.specs.Reads.{IsRead}
 use Rattle.texts.specs.declared.Reading as TR
@@ -38,13 +39,14 @@ module _ (s : List ℕ) (q : TR.Reading) (read : IsRead s q) (d : DD.Desk) (r : 
       : q .number ≡ 0 → r .number ≡ 0 → r .line ≡ q .line → r .desk .loaded ≡ true → r .desk .nest ≡ q .nest
       → r .desk .planned ≡ false → ((i : ℕ) → holds (r .desk .key .words) i ≡ false)
       → Kept.EmptySays (q .nest .many) (r .desk .sitting)
+      → Ring.EmptySays (r .desk .moves)
       → LoadSays d s r
-  load-accepted h n l a m p k e =
+  load-accepted h n l a m p k e ms =
       let z : eqb (readNest s .number) 0 ≡ true = eq-eqb (readNest s .number) 0 (sym number-read ∙ h) in
       record {
         number-is = n ∙ (sym h ∙ number-read);
         line-is = l ∙ line-read;
         desk-is = rw z
             (held (r .desk) true (readNest s .nest-is) false [] a (rw m nest-read) p
-            (gaps-none (r .desk .key .words) (λ i _. k i)) (rw m (read .counted)) (rw m e));
+            (gaps-none (r .desk .key .words) (λ i _. k i)) (rw m (read .counted)) (rw m e) ms);
       }

@@ -18,13 +18,18 @@ use Rattle.placements.specs.Keys.{IsKey, By-loops}
 use Rattle.placements.proofs.Keys.{by-loops}
 use Rattle.sitting.specs.declared.Sitting as DS
 use Rattle.sitting.specs.Counts.{countAt, uncutCount}
-use Rattle.sitting.specs.Kept.{Kept}
+use Rattle.sitting.specs.Kept.{barriers, Kept}
+use Rattle.moves.specs.declared.Move as DM
+use Rattle.moves.specs.declared.Moves as DV
+use Rattle.moves.specs.Ring.{movesIn, IsRing}
+use Rattle.moves.specs.TakeBack.{Play, play, History}
+use Rattle.moves.specs.Game.{sittingGame}
 use Rattle.texts.specs.NestTexts.{readNest}
 use Rattle.texts.proofs.Accepted.{accepted-valid}
 use Rattle.desk.specs.declared.Desk as DD
 use Rattle.desk.specs.declared.PlainDesk as OD
 use Rattle.desk.specs.declared.Reply as DR
-use Rattle.desk.specs.Desks.{Desk, emptyDesk, loadedDesk, withSitting, deskIn, plainIn, stateFault}
+use Rattle.desk.specs.Desks.{Desk, emptyDesk, loadedDesk, withPlay, deskIn, plainIn, stateFault}
 use Rattle.desk.specs.Desks.{IsPaper, IsMade, IsMadePlain}
 use Rattle.desk.specs.Says.{Holds, EmptySays, LoadSays, PlannedAs, PlanSays, OverSays}
 use Rattle.desk.specs.Since.{Since, PlansKey, LoadThenPlan}
@@ -32,7 +37,12 @@ use Rattle.desk.specs.Since.{Since, PlansKey, LoadThenPlan}
 -- a desk that holds what calls leave
 pub made-holds : (d : DD.Desk) (x : Desk) → IsPaper x → Holds d x → IsMade d
 made-holds d x p h =
-    record { counted = h .counted; paper = subst (λ (y : Desk). IsPaper y) (sym (h .holds)) p; kept = h .kept }
+    record {
+      counted = h .counted;
+      paper = subst (λ (y : Desk). IsPaper y) (sym (h .holds)) p;
+      kept = h .kept;
+      ring = h .ring;
+    }
 
 pub made-empty : (d : DD.Desk) → EmptySays d → IsMade d
 made-empty d h = made-holds d emptyDesk
@@ -41,18 +51,36 @@ made-empty d h = made-holds d emptyDesk
       no-nest = λ _. refl;
       is-key = λ z. never-both z refl;
       no-key = λ _. refl;
+      led = tt;
     })
     h
 
 -- a valid nest and no key
 loaded-paper : (n : Nest) → isValid n ≡ true → IsPaper (loadedDesk n)
 loaded-paper n v =
-    record { valid = λ _. v; no-nest = λ z. never-both refl z; is-key = λ z. never-both z refl; no-key = λ _. refl }
+    record {
+      valid = λ _. v;
+      no-nest = λ z. never-both refl z;
+      is-key = λ z. never-both z refl;
+      no-key = λ _. refl;
+      led = tt;
+    }
 
--- another sitting on a desk with a nest
-pub seated-paper : (x : Desk) (gs : List ℕ) → x .hasNest ≡ true → IsPaper x → IsPaper (withSitting gs x)
-seated-paper x gs a p =
-    record { valid = p .valid; no-nest = λ z. never-both a z; is-key = p .is-key; no-key = p .no-key }
+-- another sitting on a desk with a nest, and the moves that led to it
+pub played-paper
+    : (x : Desk) (p : Play (List ℕ) DM.Move)
+    → x .hasNest ≡ true
+    → IsPaper x
+    → History (sittingGame (x .nest-is)) (p .kept) (p .state)
+    → IsPaper (withPlay p x)
+played-paper x p a i h =
+    record {
+      valid = i .valid;
+      no-nest = λ z. never-both a z;
+      is-key = i .is-key;
+      no-key = i .no-key;
+      led = h;
+    }
 
 -- going over
 pub made-over : (old : OD.PlainDesk) (r : DD.Desk) → IsMadePlain old → OverSays old r → IsMade r
@@ -69,9 +97,10 @@ made-plain d m =
       paper =
           record {
             valid = p .valid;
-            no-nest = λ z. ap (λ (x : Desk). withSitting [] x) (p .no-nest z);
+            no-nest = λ z. ap (λ (x : Desk). withPlay (play [] []) x) (p .no-nest z);
             is-key = p .is-key;
             no-key = p .no-key;
+            led = tt;
           };
     }
 
@@ -86,6 +115,16 @@ kept-fresh d m = (m .kept .counts-are, m .kept .uncut-is)
 
 kept-by : {n n′ : Nest} {s s′ : DS.Sitting} → n ≡ n′ → s ≡ s′ → Kept n s → Kept n′ s′
 kept-by e g k = rw (← e, ← g) k
+
+led-by
+    : {n n′ : Nest} {s s′ : DS.Sitting} {v v′ : DV.Moves}
+    → n ≡ n′ → s ≡ s′ → v ≡ v′
+    → History (sittingGame n) (movesIn v) (barriers s)
+    → History (sittingGame n′) (movesIn v′) (barriers s′)
+led-by {n} {n′} {s} {s′} {v} {v′} e g f h =
+    subst (λ (x : Nest). History (sittingGame x) (movesIn v′) (barriers s′)) e
+    (subst (λ (x : DS.Sitting). History (sittingGame n) (movesIn v′) (barriers x)) g
+    (subst (λ (x : DV.Moves). History (sittingGame n) (movesIn x) (barriers s)) f h))
 
 -- an accepted Load's desk holds the nest that was read; a refused one's is the desk of before
 pub loaded-holds
@@ -131,8 +170,10 @@ made-plan d r m h = go (d .loaded) refl
                 is-key = λ _.
                     subst (λ (x : Nest). IsKey x (deskIn (r .desk) .key)) (sym (p .same-nest)) (p .is-key);
                 no-key = λ z. never-both (p .has-key) z;
+                led = led-by (sym (p .same-nest)) (sym (h .sitting-is)) (sym (h .moves-are)) (m .paper .led);
               };
           kept = kept-by (sym (p .same-nest)) (sym (h .sitting-is)) (m .kept);
+          ring = subst (λ (x : DV.Moves). IsRing x) (sym (h .moves-are)) (m .ring);
         }
     go false a = subst (λ (x : DD.Desk). IsMade x) (sym (plan-keeps d r a h)) m
 
@@ -156,7 +197,7 @@ since-holds s d (Since.planned d′ r q h) =
     let i = since-holds s d′ q in
     let p = plan-makes d′ r (i .has-nest) h in
     record { accepted = i .accepted; has-nest = p .has-nest; nest-is = p .same-nest ∙ i .nest-is }
-since-holds s d (Since.moved d′ e gs q h) =
+since-holds s d (Since.moved d′ e p q h) =
     let i = since-holds s d′ q in
     record {
       accepted = i .accepted;

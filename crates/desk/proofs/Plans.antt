@@ -40,14 +40,21 @@ module _ (d : DD.Desk) (r : DR.Reply) where
   plan-refused a n l k =
       let z : stateFault false (deskIn d) ≡ 10 = rw a in
       let t : eqb (stateFault false (deskIn d)) 0 ≡ false = ne-eqb (stateFault false (deskIn d)) 0 (λ q. omega arith) in
-      record { number-is = n ∙ sym z; line-is = l; desk-is = rw t k; sitting-is = ap (λ (x : DD.Desk). x .sitting) k }
+      record {
+        number-is = n ∙ sym z;
+        line-is = l;
+        desk-is = rw t k;
+        sitting-is = ap (λ (x : DD.Desk). x .sitting) k;
+        moves-are = ap (λ (x : DD.Desk). x .moves) k;
+      }
 
   pub plan-made
       : IsMade d → d .loaded ≡ true → r .number ≡ 0 → r .line ≡ 0 → r .desk .loaded ≡ true → r .desk .nest ≡ d .nest
       → r .desk .planned ≡ true → Planned.PlanSays (nestIn (d .nest)) (r .desk .key .words)
       → r .desk .sitting ≡ d .sitting
+      → r .desk .moves ≡ d .moves
       → PlanSays d r
-  plan-made m a n l b e p h g =
+  plan-made m a n l b e p h g v =
       let z : stateFault false (deskIn d) ≡ 0 = rw a in
       let t : eqb (stateFault false (deskIn d)) 0 ≡ true = eq-eqb (stateFault false (deskIn d)) 0 z in
       let q : PlannedAs (deskIn d .nest-is) (r .desk) =
@@ -58,4 +65,4 @@ module _ (d : DD.Desk) (r : DR.Reply) where
         has-key = p;
         is-key = planned-key (nestIn (d .nest)) (r .desk .key .words) (m .paper .valid a) h;
       } in
-      record { number-is = n ∙ sym z; line-is = l; desk-is = rw t q; sitting-is = g }
+      record { number-is = n ∙ sym z; line-is = l; desk-is = rw t q; sitting-is = g; moves-are = v }

@@ -1,5 +1,5 @@
--- Desks: a nest at most, a key at most, the candidate's sitting; numbers 10 and 11; what the calls answer.
--- Main definitions: `Desk`, `deskIn`, `IsMade`, `IsMadePlain`, `stateFault`, `listFault`, `listUncut`.
+-- Desks: a nest at most, a key at most, the candidate's sitting and moves; numbers 10 and 11; what the calls answer.
+-- Main definitions: `Desk`, `withPlay`, `deskIn`, `IsMade`, `IsMadePlain`, `stateFault`, `listFault`, `listUncut`.
 use mathlib.Core.Path.{_≡_}
 use mathlib.Core.Bool.{Bool, true, false, _&&_, _||_, not}
 use mathlib.Core.List.{List, [], _∷_}
@@ -14,51 +14,69 @@ use Rattle.placements.specs.Placements.{cuts}
 use Rattle.placements.specs.Words.{gapsIn}
 use Rattle.placements.specs.Keys.{IsKey}
 use Rattle.sitting.specs.Kept.{barriers, Kept}
+use Rattle.moves.specs.declared.Move as DM
+use Rattle.moves.specs.Ring.{movesIn, IsRing}
+use Rattle.moves.specs.TakeBack.{Play, play, History}
+use Rattle.moves.specs.Game.{sittingGame}
 use Rattle.desk.specs.declared.Desk as DD
 use Rattle.desk.specs.declared.PlainDesk as OD
 
--- 01, "The desk": a desk holds one nest, and at most one key; 02, job 4: and the candidate's own placement
+-- 01, "The desk": a desk holds one nest, and at most one key; 02, job 4: and the candidate's own placement; 02, job 5:
+-- and the moves that can be taken back, the latest first
 pub record Desk : Type 0 where
   pub hasNest : Bool
   pub nest-is : Nest
   pub hasKey : Bool
   pub key : List ℕ
   pub sitting : List ℕ
+  pub moves : List DM.Move
 
-abbrev pub desk : Bool → Nest → Bool → List ℕ → List ℕ → Desk
-desk a n b k gs = record { hasNest = a; nest-is = n; hasKey = b; key = k; sitting = gs }
+abbrev pub desk : Bool → Nest → Bool → List ℕ → List ℕ → List DM.Move → Desk
+desk a n b k gs ms = record { hasNest = a; nest-is = n; hasKey = b; key = k; sitting = gs; moves = ms }
 
 -- 01, "The desk": it starts empty
 abbrev pub emptyDesk : Desk
-emptyDesk = desk false empty false [] []
+emptyDesk = desk false empty false [] [] []
 
--- 02, job 4: after Load there is no key and the sitting is empty
+-- 02, jobs 4 and 5: after Load there is no key, the sitting is empty and there are no moves
 abbrev pub loadedDesk : Nest → Desk
-loadedDesk n = desk true n false [] []
+loadedDesk n = desk true n false [] [] []
 
--- the desk with this sitting, all else as it was
-abbrev pub withSitting : List ℕ → Desk → Desk
-withSitting gs x = desk (x .hasNest) (x .nest-is) (x .hasKey) (x .key) gs
+-- the sitting with its moves, and the desk with another such, all else as it was
+abbrev pub playOn : Desk → Play (List ℕ) DM.Move
+playOn x = play (x .sitting) (x .moves)
 
--- what the code's desk holds; what one of the kind before sittings holds, with an empty sitting
+abbrev pub withPlay : Play (List ℕ) DM.Move → Desk → Desk
+withPlay p x = desk (x .hasNest) (x .nest-is) (x .hasKey) (x .key) (p .state) (p .kept)
+
+-- what the code's desk holds; what one of the kind before sittings holds, with an empty sitting and no moves
 abbrev pub deskIn : DD.Desk → Desk
-deskIn d = desk (d .loaded) (nestIn (d .nest)) (d .planned) (gapsIn (d .key .words)) (barriers (d .sitting))
+deskIn d =
+    desk
+    (d .loaded)
+    (nestIn (d .nest))
+    (d .planned)
+    (gapsIn (d .key .words))
+    (barriers (d .sitting))
+    (movesIn (d .moves))
 
 abbrev pub plainIn : OD.PlainDesk → Desk
-plainIn d = desk (d .loaded) (nestIn (d .nest)) (d .planned) (gapsIn (d .key .words)) []
+plainIn d = desk (d .loaded) (nestIn (d .nest)) (d .planned) (gapsIn (d .key .words)) [] []
 
--- 01, "The desk": desks come only from these calls; this is what such a desk holds
+-- 01, "The desk": desks come only from these calls; this is what such a desk holds. Its moves led to its sitting.
 pub record IsPaper (x : Desk) : Type 0 where
   pub valid : x .hasNest ≡ true → isValid (x .nest-is) ≡ true
   pub no-nest : x .hasNest ≡ false → x ≡ emptyDesk
   pub is-key : x .hasKey ≡ true → IsKey (x .nest-is) (x .key)
   pub no-key : x .hasKey ≡ false → x .key ≡ []
+  pub led : History (sittingGame (x .nest-is)) (x .moves) (x .sitting)
 
 -- a desk made by calls; 02, job 4: what its sitting keeps equals a fresh count over the placement
 pub record IsMade (d : DD.Desk) : Type 0 where
   pub counted : IsCounted (d .nest)
   pub paper : IsPaper (deskIn d)
   pub kept : Kept (nestIn (d .nest)) (d .sitting)
+  pub ring : IsRing (d .moves)
 
 -- one of the kind before sittings
 pub record IsMadePlain (d : OD.PlainDesk) : Type 0 where

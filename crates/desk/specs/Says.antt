@@ -15,6 +15,7 @@ use Rattle.placements.specs.Placements.{loopCount}
 use Rattle.placements.specs.Keys.{IsKey}
 use Rattle.placements.specs.Verdicts.{Verdict, Uncut, Dearer, Best, markOf}
 use Rattle.sitting.specs.Kept.{Kept}
+use Rattle.moves.specs.Ring.{IsRing}
 use Rattle.texts.specs.NestTexts.{Got, readNest}
 use Rattle.texts.specs.PlacementTexts.{Placed, readPlacement, keyText}
 use Rattle.desk.specs.declared.Desk as DD
@@ -28,17 +29,20 @@ use Rattle.desk.specs.declared.Marked.the-variants as MV
 use Rattle.desk.specs.Desks.{Desk, emptyDesk, loadedDesk, deskIn, plainIn, stateFault}
 use Rattle.desk.specs.Desks.{Fault, fault, listFault, listUncut}
 
--- the desk holds this; its nest's counts are those of the nest, and its sitting's those of a fresh count
+-- the desk holds this; its nest's counts are those of the nest, its sitting's those of a fresh count, and its moves
+-- stand in a ring
 pub record Holds (d : DD.Desk) (x : Desk) : Type 0 where
   pub holds : deskIn d ≡ x
   pub counted : IsCounted (d .nest)
   pub kept : Kept (nestIn (d .nest)) (d .sitting)
+  pub ring : IsRing (d .moves)
 
 -- a new desk, and Reset
 abbrev pub EmptySays : DD.Desk → Type 0
 EmptySays d = Holds d emptyDesk
 
--- Load: 1 to 7 with their line; accepted, it replaces the nest and drops key and sitting; refused, it leaves the desk
+-- Load: 1 to 7 with their line; accepted, it replaces the nest and drops key, sitting and moves; refused, it leaves the
+-- desk
 pub record LoadSays (d : DD.Desk) (s : List ℕ) (r : DR.Reply) : Type 0 where
   pub number-is : r .number ≡ readNest s .number
   pub line-is : r .line ≡ readNest s .place
@@ -52,12 +56,14 @@ pub record PlannedAs (n : Nest) (d : DD.Desk) : Type 0 where
   pub has-key : d .planned ≡ true
   pub is-key : IsKey n (deskIn d .key)
 
--- Plan: 10; the key is any correct placement with the least tree; 02, job 4: it does not touch the sitting
+-- Plan: 10; the key is any correct placement with the least tree; 02, job 4: it does not touch the sitting, with its
+-- moves
 pub record PlanSays (d : DD.Desk) (r : DR.Reply) : Type 0 where
   pub number-is : r .number ≡ stateFault false (deskIn d)
   pub line-is : r .line ≡ 0
   pub desk-is : pickT (eqb (stateFault false (deskIn d)) 0) (PlannedAs (deskIn d .nest-is) (r .desk)) (r .desk ≡ d)
   pub sitting-is : r .desk .sitting ≡ d .sitting
+  pub moves-are : r .desk .moves ≡ d .moves
 
 -- an answer that refuses
 pub record RefusedAs (number : ℕ) (r : DA.Answer) : Type 0 where
@@ -131,6 +137,6 @@ pub record ListSays (d : DD.Desk) (es : List Dep) (r : DA.Answer) : Type 0 where
       (listUncut 1 (deskIn d .nest-is .points) es (deskIn d .key))
       0
 
--- 02, job 4: a desk in use goes over to the new kind with nest and key kept and an empty sitting
+-- 02, job 4: a desk in use goes over to the new kind with nest and key kept and an empty sitting; no move was made
 abbrev pub OverSays : OD.PlainDesk → DD.Desk → Type 0
 OverSays old r = Holds r (plainIn old)

@@ -4,19 +4,22 @@ use mathlib.Core.Path.{_≡_}
 use mathlib.Core.List.{List}
 use Prim.Native.Nat.{ℕ}
 use Rattle.placements.specs.Keys.{IsKey, By-loops}
+use Rattle.moves.specs.declared.Move as DM
+use Rattle.moves.specs.TakeBack.{Play}
 use Rattle.texts.specs.NestTexts.{readNest}
 use Rattle.desk.specs.declared.Desk as DD
 use Rattle.desk.specs.declared.Reply as DR
-use Rattle.desk.specs.Desks.{withSitting, deskIn, IsMade}
+use Rattle.desk.specs.Desks.{withPlay, deskIn, IsMade}
 use Rattle.desk.specs.Says.{Holds, LoadSays, PlanSays}
 
--- 01, "Which placement is better": a desk whose last accepted Load read the text s, with no Reset since, whatever it was
--- used for before. Plans, refused Loads and moves of the sitting may lie between; the other calls change nothing.
+-- 01, "Which placement is better": a desk whose last accepted Load read the text s, with no Reset since, whatever it
+-- was used for before. Plans, refused Loads, moves of the sitting and take-backs may lie between; the other calls change
+-- nothing.
 pub data Since (s : List ℕ) : DD.Desk → Type 0 where
   loaded : (d : DD.Desk) (r : DR.Reply) → IsMade d → LoadSays d s r → r .number ≡ 0 → Since s (r .desk)
   refused : (d : DD.Desk) (t : List ℕ) (r : DR.Reply) → Since s d → LoadSays d t r → (r .number ≡ 0 → ⊥) → Since s (r .desk)
   planned : (d : DD.Desk) (r : DR.Reply) → Since s d → PlanSays d r → Since s (r .desk)
-  moved : (d e : DD.Desk) (gs : List ℕ) → Since s d → Holds e (withSitting gs (deskIn d)) → Since s e
+  moved : (d e : DD.Desk) (p : Play (List ℕ) DM.Move) → Since s d → Holds e (withPlay p (deskIn d)) → Since s e
 
 -- demand 3 of the calls: Plan of such a desk is never refused, and its key is a key of the nest that s spells
 pub record PlansKey (s : List ℕ) (r : DR.Reply) : Type 0 where

@@ -1,5 +1,5 @@
-// The marking desk: one nest, at most one key, and the candidate's sitting. A desk comes only from these calls; each
-// takes it by value.
+// The marking desk: one nest, at most one key, and the candidate's sitting with its moves. A desk comes only from these
+// calls; each takes it by value.
 ghost use mathlib.Core.Path.{_≡_};
 ghost use Rattle.desk.specs.Desks.{IsMade, IsMadePlain};
 ghost use mathlib.Core.Bool.{true, not};
@@ -11,19 +11,22 @@ ghost use Rattle.placements.specs.Words.{gapsIn};
 ghost use Rattle.placements.specs.Verdicts.{markOf};
 ghost use Rattle.desk.specs.Says.{EmptySays, LoadSays, PlanSays, CountSays, MarkSays, WriteSays, OverSays};
 ghost use Rattle.desk.specs.Says.{RefusedAs, verdictIn};
+use moves::Moves;
 use nests::Nest;
 use placements::Compared;
 use placements::Counts;
 use placements::Placement;
 use sitting::Sitting;
 
-// A desk: whether there is a nest, the nest, whether there is a key, the key, the candidate's sitting.
+// A desk: whether there is a nest, the nest, whether there is a key, the key, the candidate's sitting, the moves that
+// can be taken back.
 pub struct Desk {
     pub loaded: bool,
     pub nest: Nest,
     pub planned: bool,
     pub key: Placement,
     pub sitting: Sitting,
+    pub moves: Moves,
 }
 
 // A desk of the kind before sittings.
@@ -77,11 +80,12 @@ impl Desk {
             planned: false,
             key: Placement::empty(),
             sitting: Sitting::empty(0),
+            moves: Moves::empty(),
         }
     }
 }
 
-// Reads a nest text; accepted, it replaces the nest and drops key and sitting. Numbers 1 to 7 with their line.
+// Reads a nest text; accepted, it replaces the nest and drops key, sitting and moves. Numbers 1 to 7 with their line.
 pub fn load_nest(desk: Desk, text: &[u8]) -> Reply
     ensures { λ r. ⌜ LoadSays desk (now (text .entry)) r ⌝ }
 {
@@ -104,6 +108,7 @@ pub fn load_nest(desk: Desk, text: &[u8]) -> Reply
             planned: false,
             key: Placement::empty(),
             sitting: Sitting::empty(nest.many),
+            moves: Moves::empty(),
         },
     }
 }
@@ -118,6 +123,7 @@ pub fn plan_key(desk: Desk) -> Reply
         let nest = desk.nest;
         let key = plan::plan(nest);
         let sitting = desk.sitting;
+        let moves = desk.moves;
         return Reply {
             number: 0,
             line: 0,
@@ -127,6 +133,7 @@ pub fn plan_key(desk: Desk) -> Reply
                 planned: true,
                 key: key,
                 sitting: sitting,
+                moves: moves,
             },
         };
     }
@@ -212,7 +219,7 @@ pub fn reset(desk: Desk) -> Desk
     Desk::empty()
 }
 
-// A desk of the kind before sittings goes over: nest and key are kept, the sitting is empty.
+// A desk of the kind before sittings goes over: nest and key are kept, the sitting is empty, no move was made.
 pub fn go_over(old: PlainDesk) -> Desk
     requires { ⌜ IsMadePlain old ⌝ }
     ensures { λ r. ⌜ OverSays old r ⌝ }
@@ -226,6 +233,7 @@ pub fn go_over(old: PlainDesk) -> Desk
         planned: old.planned,
         key: key,
         sitting: sitting,
+        moves: Moves::empty(),
     }
 }
 

@@ -1,15 +1,15 @@
--- Taking back: as many take-backs as moves give back the state, if no more are made than are kept; the moves kept are
--- the latest in order; after as many take-backs as are kept there is none.
--- Main statements: `taken-back-all`, `kept-latest`, `taken-kept`, `none-left`, `all-there`, `history-moved`,
--- `history-back`, `history-undone`.
-use mathlib.Core.Path.{_≡_, refl, sym, ap, _∙_}
-use mathlib.Core.List.{List, [], _∷_}
-use Prim.Native.Nat.{ℕ, zero, suc, _+_, _-_, _≤_}
+-- Taking back: of the moves made since a play, those not taken back lead to the state, and the latest of them are kept.
+-- Main statements: `history-moved`, `history-back`; `standing-start`, `standing-moved`, `standing-back`, `all-back`,
+-- `one-kept`.
+use mathlib.Core.Path.{_≡_, refl, sym, ap, _∙_, subst}
+use mathlib.Core.List.{List, [], _∷_, _++_}
+use mathlib.Core.Logic.{⊎-elim}
+use Prim.Native.Nat.{ℕ, zero, suc, _+_, _-_, _≤_, _<_}
 use native.Mathlib.Omega.{arith}
-use lib.ListN.{length, take, drop, length-take, drop-of-length-le}
-use lib.Seq.{take-all, take-take, drop-nil, length-take-le}
-use Rattle.moves.specs.TakeBack.{Game, Play, play, moved, backTo, takenBack, allMoved, allTaken, AllFit}
-use Rattle.moves.specs.TakeBack.{History, onto}
+use lib.ListN.{length, take, length-take}
+use lib.Seq.{take-all, take-take}
+use Rattle.laws.proofs.Tests.{le-or}
+use Rattle.moves.specs.TakeBack.{Game, Undoes, Play, moved, backTo, takenBack, Came, Led, History}
 
 -- ---- lists
 
@@ -19,91 +19,16 @@ module _ {M : Type 0} where
   take-front zero m ms = refl
   take-front (suc k) m ms = ap (λ (l : List M). m ∷ l) (take-take k (suc k) ms (omega arith))
 
-  -- cutting before or after
-  pub take-onto : (k : ℕ) (ms ks : List M) → take k (onto ms (take k ks)) ≡ take k (onto ms ks)
-  take-onto k [] ks = take-take k k ks (omega arith)
-  take-onto k (m ∷ ms) ks =
-      sym (take-onto k ms (m ∷ take k ks)) ∙ ap (λ (l : List M). take k (onto ms l)) (take-front k m ks) ∙
-      take-onto k ms (m ∷ ks)
-
-  pub onto-length : (ms ks : List M) → length (onto ms ks) ≡ length ms + length ks
-  onto-length [] ks = omega arith
-  onto-length (m ∷ ms) ks = omega (arith, onto-length ms (m ∷ ks))
+  -- a list cut to less than k and one more in front
+  pub take-more : (k j : ℕ) (m : M) (ms : List M) → j < k → take k (m ∷ take j ms) ≡ take (suc j) (m ∷ ms)
+  take-more zero j m ms h = absurd (omega arith)
+  take-more (suc k) j m ms h =
+      ap (λ (l : List M). m ∷ l) (take-all k (take j ms) (omega (arith, length-take j ms)))
 
 module _ {S M : Type 0} (G : Game S M) where
-  -- one take-back after the others
-  taken-last : (k : ℕ) (p : Play S M) → allTaken G (suc k) p ≡ takenBack G (allTaken G k p)
-  taken-last zero p = refl
-  taken-last (suc k) p = taken-last k (takenBack G p)
-
-  -- ---- 02, job 5: up to 64 in a row
-
-  -- what k moves and k take-backs leave: the state of before, and the moves of before but for those forgotten
-  pub taken-back-all
-      : (p : Play S M) (ms : List M)
-      → AllFit G (p .state) ms
-      → length (p .kept) ≤ G .room
-      → length ms ≤ G .room
-      → allTaken G (length ms) (allMoved G p ms) ≡ play (p .state) (take (G .room - length ms) (p .kept))
-  taken-back-all p [] f h l =
-      ap (λ (ks : List M). play (p .state) ks) (sym (take-all (G .room - 0) (p .kept) (omega arith)))
-  taken-back-all p (m ∷ ms) f h l =
-      let rest =
-      taken-back-all (moved G p m) ms (f .1) (omega (arith, length-take (G .room) (m ∷ p .kept))) (omega arith) in
-      taken-last (length ms) (allMoved G (moved G p m) ms) ∙ ap (takenBack G) rest ∙
-      ap (λ (ks : List M). backTo G (G .apply (p .state) m) ks) front ∙
-      ap (λ (s : S). play s (take (G .room - suc (length ms)) (p .kept))) (G .undone (p .state) m (f .0))
-    where
-      front
-          : take (G .room - length ms) (take (G .room) (m ∷ p .kept)) ≡
-          m ∷ take (G .room - suc (length ms)) (p .kept)
-      front =
-          let z : G .room - length ms ≡ suc (G .room - suc (length ms)) = omega arith in
-          take-take (G .room - length ms) (G .room) (m ∷ p .kept) (omega arith) ∙ rw z
-
-  -- ---- 02, job 5: older moves are forgotten
-
-  -- the moves kept are the latest, the last first
-  pub kept-latest : (p : Play S M) (ms : List M) → length (p .kept) ≤ G .room → allMoved G p ms .kept ≡ take (G .room) (onto ms (p .kept))
-  kept-latest p [] h = sym (take-all (G .room) (p .kept) h)
-  kept-latest p (m ∷ ms) h =
-      kept-latest (moved G p m) ms (omega (arith, length-take (G .room) (m ∷ p .kept))) ∙
-      take-onto (G .room) ms (m ∷ p .kept)
-
-  -- so many are taken away
-  pub taken-kept : (k : ℕ) (p : Play S M) → allTaken G k p .kept ≡ drop k (p .kept)
-  taken-kept zero p = refl
-  taken-kept (suc k) p = taken-kept k (takenBack G p) ∙ first (p .state) (p .kept)
-    where
-      first : (s : S) (ks : List M) → drop k (backTo G s ks .kept) ≡ drop (suc k) ks
-      first s [] = drop-nil k
-      first s (m ∷ ks) = refl
-
-  -- after as many take-backs as are kept there is no move to take back
-  pub none-left
-      : (p : Play S M) (ms : List M)
-      → length (p .kept) ≤ G .room
-      → allTaken G (G .room) (allMoved G p ms) .kept ≡ []
-  none-left p ms h =
-      taken-kept (G .room) (allMoved G p ms) ∙ ap (drop (G .room)) (kept-latest p ms h) ∙
-      drop-of-length-le (take (G .room) (onto ms (p .kept))) short
-    where
-      short : length (take (G .room) (onto ms (p .kept))) ≤ G .room
-      short = omega (arith, length-take (G .room) (onto ms (p .kept)))
-
-  -- and before that there is one, if as many were made
-  pub all-there
-      : (p : Play S M) (ms : List M)
-      → length (p .kept) ≤ G .room
-      → G .room ≤ length ms
-      → length (allMoved G p ms .kept) ≡ G .room
-  all-there p ms h l =
-      ap length (kept-latest p ms h) ∙
-      length-take-le (G .room) (onto ms (p .kept)) (omega (arith, onto-length ms (p .kept)))
-
   -- ---- what makes a take-back fit
 
-  -- a state with moves kept came about by them
+  -- a state came about by the latest of the moves that led to it
   pub history-cut : (k : ℕ) (ms : List M) (s : S) → History G ms s → History G (take k ms) s
   history-cut zero ms s h = tt
   history-cut (suc k) [] s h = tt
@@ -127,13 +52,141 @@ module _ {S M : Type 0} (G : Game S M) where
       (G .apply (p .state) m)
       (record { from = p .state; fitted = f; came = refl; earlier = h })
 
-  -- the latest move undone is where it came from
-  pub history-undone : (s : S) (m : M) (ms : List M) (h : History G (m ∷ ms) s) → G .undo s m ≡ h .from
-  history-undone s m ms h = ap (λ (x : S). G .undo x m) (sym (h .came)) ∙ G .undone (h .from) m (h .fitted)
+  module _ (undoes : Undoes G) where
+    -- the latest move undone leaves the state that it came from
+    pub came-undone : (Before : S → Type 0) (s : S) (m : M) (h : Came G Before s m) → G .undo s m ≡ h .from
+    came-undone Before s m h =
+        ap (λ (x : S). G .undo x m) (sym (h .came)) ∙ undoes (h .from) m (h .fitted)
 
-  pub history-back : (p : Play S M) → History G (p .kept) (p .state) → History G (takenBack G p .kept) (takenBack G p .state)
-  history-back p h = go (p .state) (p .kept) h
+    pub history-back
+        : (p : Play S M)
+        → History G (p .kept) (p .state)
+        → History G (takenBack G p .kept) (takenBack G p .state)
+    history-back p h = go (p .state) (p .kept) h
+      where
+        go : (s : S) (ks : List M) → History G ks s → History G (backTo G s ks .kept) (backTo G s ks .state)
+        go s [] h = tt
+        go s (m ∷ ks) h =
+            subst (λ (x : S). History G ks x) (sym (came-undone (History G ks) s m h)) (h .earlier)
+
+-- ---- 02, job 5: up to 64 in a row; older moves are forgotten
+
+-- play q, where k moves were made since play p and of these ms, the latest first, are not taken back: they lead from
+-- p's state to q's, and the moves kept are the latest of them and of p's. As long as no more are made than there is room
+-- for, none of them is forgotten; as long as none is taken back, all are kept that there is room for.
+pub record Standing {S M : Type 0} (G : Game S M) (p : Play S M) (k : ℕ) (ms : List M) (q : Play S M) : Type 0 where
+  pub led : Led G (λ s. p .state ≡ s) ms (q .state)
+  pub many : length ms ≤ k
+  pub depth : ℕ
+  pub kept-are : q .kept ≡ take depth (ms ++ p .kept)
+  pub depth-fits : depth ≤ G .room
+  pub none-forgotten : k ≤ G .room → length ms ≤ depth
+  pub latest : length ms ≡ k → q .kept ≡ take (G .room) (ms ++ p .kept)
+
+module _ {S M : Type 0} (G : Game S M) (p : Play S M) where
+  pub standing-start : length (p .kept) ≤ G .room → Standing G p 0 [] p
+  standing-start h =
+      let all : p .kept ≡ take (G .room) (p .kept) = sym (take-all (G .room) (p .kept) h) in
+      record {
+        led = refl;
+        many = omega arith;
+        depth = G .room;
+        kept-are = all;
+        depth-fits = omega arith;
+        none-forgotten = λ _. omega arith;
+        latest = λ _. all;
+      }
+
+  pub standing-moved
+      : (k : ℕ) (ms : List M) (q : Play S M) (m : M)
+      → Standing G p k ms q
+      → G .fits (q .state) m
+      → Standing G p (suc k) (m ∷ ms) (moved G q m)
+  standing-moved k ms q m s f =
+      ⊎-elim (λ (z : G .room ≤ s .depth). full z) (λ (z : s .depth < G .room). more z) (le-or (G .room) (s .depth))
     where
-      go : (s : S) (ks : List M) → History G ks s → History G (backTo G s ks .kept) (backTo G s ks .state)
-      go s [] h = tt
-      go s (m ∷ ks) h = rw (history-undone s m ks h) (h .earlier)
+      came : Led G (λ t. p .state ≡ t) (m ∷ ms) (G .apply (q .state) m)
+      came = record { from = q .state; fitted = f; came = refl; earlier = s .led }
+
+      front : (xs : List M) → q .kept ≡ xs → take (G .room) (m ∷ q .kept) ≡ take (G .room) (m ∷ xs)
+      front xs e = ap (λ (l : List M). take (G .room) (m ∷ l)) e
+
+      still : length (m ∷ ms) ≡ suc k → take (G .room) (m ∷ q .kept) ≡ take (G .room) (m ∷ (ms ++ p .kept))
+      still e =
+          front (take (G .room) (ms ++ p .kept)) (s .latest (omega arith)) ∙
+          take-front (G .room) m (ms ++ p .kept)
+
+      full : G .room ≤ s .depth → Standing G p (suc k) (m ∷ ms) (moved G q m)
+      full z =
+          let e : s .depth ≡ G .room = omega (arith, s .depth-fits) in
+          let c : q .kept ≡ take (G .room) (ms ++ p .kept) = rw e at (s .kept-are) in
+          record {
+            led = came;
+            many = omega (arith, s .many);
+            depth = G .room;
+            kept-are = front (take (G .room) (ms ++ p .kept)) c ∙ take-front (G .room) m (ms ++ p .kept);
+            depth-fits = omega arith;
+            none-forgotten = λ h. omega (arith, s .many);
+            latest = still;
+          }
+
+      more : s .depth < G .room → Standing G p (suc k) (m ∷ ms) (moved G q m)
+      more z =
+          record {
+            led = came;
+            many = omega (arith, s .many);
+            depth = suc (s .depth);
+            kept-are =
+                front (take (s .depth) (ms ++ p .kept)) (s .kept-are) ∙
+                take-more (G .room) (s .depth) m (ms ++ p .kept) z;
+            depth-fits = omega arith;
+            none-forgotten = λ h. omega (arith, s .none-forgotten (omega arith));
+            latest = still;
+          }
+
+  -- a take-back where a move is kept
+  pub standing-back
+      : Undoes G
+      → (k : ℕ) (ms : List M) (q : Play S M) (m : M)
+      → Standing G p k (m ∷ ms) q
+      → (length (q .kept) ≡ 0 → ⊥)
+      → Standing G p k ms (takenBack G q)
+  standing-back undoes k ms q m s some = go (s .depth) refl
+    where
+      go : (j : ℕ) → s .depth ≡ j → Standing G p k ms (takenBack G q)
+      go zero e =
+          let z : q .kept ≡ [] = rw e at (s .kept-are) in
+          absurd (some (ap length z))
+      go (suc j) e =
+          let c : q .kept ≡ m ∷ take j (ms ++ p .kept) = rw e at (s .kept-are) in
+          let u = came-undone G undoes (Led G (λ t. p .state ≡ t) ms) (q .state) m (s .led) in
+          rw
+          c
+          (record {
+            led = subst (λ (x : S). Led G (λ t. p .state ≡ t) ms x) (sym u) (s .led .earlier);
+            many = omega (arith, s .many);
+            depth = j;
+            kept-are = refl;
+            depth-fits = omega (arith, s .depth-fits);
+            none-forgotten = λ h. omega (arith, s .none-forgotten h);
+            latest = λ h. absurd (omega (arith, s .many));
+          })
+
+  -- all taken back, the state is that of before
+  pub all-back : (k : ℕ) (q : Play S M) → Standing G p k [] q → p .state ≡ q .state
+  all-back k q s = s .led
+
+  -- as long as one is not taken back, one is kept
+  pub one-kept
+      : (k : ℕ) (ms : List M) (q : Play S M) (m : M)
+      → Standing G p k (m ∷ ms) q
+      → k ≤ G .room
+      → length (q .kept) ≡ 0 → ⊥
+  one-kept k ms q m s h e = go (s .depth) refl
+    where
+      go : (j : ℕ) → s .depth ≡ j → ⊥
+      go zero d = omega (arith, s .none-forgotten h)
+      go (suc j) d =
+          let c : q .kept ≡ m ∷ take j (ms ++ p .kept) = rw d at (s .kept-are) in
+          let l : length (q .kept) ≡ suc (length (take j (ms ++ p .kept))) = ap length c in
+          omega arith

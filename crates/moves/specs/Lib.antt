@@ -1,3 +1,4 @@
--- Moves: the ring of the latest ones, and taking back.
+-- Moves: the ring of the latest ones, taking back, and the game of a sitting.
 pub mod Ring
 pub mod TakeBack
+pub mod Game

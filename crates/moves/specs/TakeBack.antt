@@ -1,8 +1,8 @@
 -- Moves that can be undone, the latest of them kept, and taking back: of any states and any moves.
--- Main definitions: `Game`, `Play`, `moved`, `takenBack`, `allMoved`, `allTaken`, `AllFit`, `History`.
+-- Main definitions: `Game`, `Undoes`, `Play`, `moved`, `takenBack`, `Led`, `History`.
 use mathlib.Core.Path.{_≡_}
 use mathlib.Core.List.{List, [], _∷_}
-use Prim.Native.Nat.{ℕ, zero, suc}
+use Prim.Native.Nat.{ℕ}
 use lib.ListN.{take}
 
 -- states and moves: which moves fit a state, what a move makes of it, what undoes it; `room` moves are kept
@@ -11,7 +11,6 @@ pub record Game (S M : Type 0) : Type 1 where
   pub fits : S → M → Type 0
   pub apply : S → M → S
   pub undo : S → M → S
-  pub undone : (s : S) (m : M) → fits s m → undo (apply s m) m ≡ s
 
 -- a state, and the latest moves that led to it and are not yet taken back, the latest first
 pub record Play (S M : Type 0) : Type 0 where
@@ -22,6 +21,10 @@ abbrev pub play : {S M : Type 0} → S → List M → Play S M
 play s ms = record { state = s; kept = ms }
 
 module _ {S M : Type 0} (G : Game S M) where
+  -- undone, a move that fitted leaves the state of before
+  abbrev pub Undoes : Type 0
+  Undoes = (s : S) (m : M) → G .fits s m → G .undo (G .apply s m) m ≡ s
+
   -- 02, job 5: a move is kept; older moves are forgotten
   abbrev pub moved : Play S M → M → Play S M
   moved p m = play (G .apply (p .state) m) (take (G .room) (m ∷ p .kept))
@@ -34,21 +37,6 @@ module _ {S M : Type 0} (G : Game S M) where
   abbrev pub takenBack : Play S M → Play S M
   takenBack p = backTo (p .state) (p .kept)
 
-  -- moves one after the other
-  abbrev pub allMoved : Play S M → List M → Play S M
-  allMoved p [] = p
-  allMoved p (m ∷ ms) = allMoved (moved p m) ms
-
-  -- as many taken back
-  abbrev pub allTaken : ℕ → Play S M → Play S M
-  allTaken zero p = p
-  allTaken (suc k) p = allTaken k (takenBack p)
-
-  -- each move fits the state that it is made in
-  abbrev pub AllFit : S → List M → Type 0
-  AllFit s [] = Unit
-  AllFit s (m ∷ ms) = G .fits s m × AllFit (G .apply s m) ms
-
   -- the state came from another by a move that fitted it
   pub record Came (Before : S → Type 0) (s : S) (m : M) : Type 0 where
     pub from : S
@@ -56,12 +44,11 @@ module _ {S M : Type 0} (G : Game S M) where
     pub came : G .apply from m ≡ s
     pub earlier : Before from
 
-  -- the state came about by these moves, the latest first
-  abbrev pub History : List M → S → Type 0
-  History [] s = Unit
-  History (m ∷ ms) s = Came (History ms) s m
+  -- the state came about by these moves, the latest first, from a state of the kind `First`
+  abbrev pub Led : (S → Type 0) → List M → S → Type 0
+  Led First [] s = First s
+  Led First (m ∷ ms) s = Came (Led First ms) s m
 
--- the moves onto others, so that the last comes first
-abbrev pub onto : {M : Type 0} → List M → List M → List M
-onto [] ks = ks
-onto (m ∷ ms) ks = onto ms (m ∷ ks)
+  -- from any state
+  abbrev pub History : List M → S → Type 0
+  History ms s = Led (λ t. Unit) ms s

@@ -1,6 +1,8 @@
--- Every move's desk is made by calls if the one it got was, and moves lie between Load and Plan as well.
--- Main statements: `made-put`, `made-lift`, `put-since`, `lift-since`.
-use mathlib.Core.Path.{_≡_, refl, sym, _∙_, ap, subst}
+-- The desk of a move or a take-back is made by calls if the one it got was, and these calls lie between Load and Plan
+-- as well.
+-- Main statements: `put-fits`, `lift-fits`; `made-put`, `made-lift`, `made-back`; `put-since`, `lift-since`,
+-- `back-since`.
+use mathlib.Core.Path.{_≡_, refl, sym, subst}
 use mathlib.Core.Bool.{Bool, true, false, _&&_, not}
 use mathlib.Core.List.{List}
 use mathlib.Core.Logic.{_⊎_, ⊎-elim}
@@ -8,71 +10,158 @@ use Prim.Native.Nat.{ℕ, zero, suc}
 use native.Mathlib.Omega.{arith}
 use lib.Dec.{eqb, ltb}
 use lib.ListN.{length}
-use borrow.Author.Tests.{eq-eqb, ne-eqb}
+use borrow.Author.Tests.{ltb-true, eqb-false, eq-eqb, ne-eqb}
 use Rattle.laws.specs.Choice.{when, firstOf, isIn}
-use Rattle.laws.proofs.Tests.{eq-or}
-use Rattle.sitting.specs.GapLists.{withGap, without}
+use Rattle.laws.proofs.Tests.{never, eq-or}
+use Rattle.placements.specs.Placements.{areGaps}
+use Rattle.moves.specs.declared.Move as DG
+use Rattle.moves.specs.TakeBack.{Game, Play, moved, takenBack, History}
+use Rattle.moves.specs.Game.{putAt, liftAt, Fits, sittingGame}
+use Rattle.moves.proofs.TakeBack.{history-moved, history-back}
+use Rattle.moves.proofs.Game.{undoes}
 use Rattle.desk.specs.declared.Desk as DD
-use Rattle.desk.specs.Desks.{Desk, withSitting, deskIn, IsMade, stateFault}
+use Rattle.desk.specs.Desks.{Desk, playOn, withPlay, deskIn, IsMade, stateFault}
 use Rattle.desk.specs.Says.{Holds}
 use Rattle.desk.specs.Since.{Since}
-use Rattle.desk.proofs.Made.{made-holds, seated-paper}
+use Rattle.desk.proofs.Made.{made-holds, played-paper}
 use Rattle.screen.specs.declared.Moved as DM
-use Rattle.screen.specs.Says.{isGap, gapFault, putFault, liftFault, MoveSays, PutSays, LiftSays}
+use Rattle.screen.specs.Says.{isGap, gapFault, putFault, liftFault, backFault, MoveSays}
+use Rattle.screen.specs.Says.{PutSays, LiftSays, BackSays}
 
--- a number that is not 0 comes first
-first-zero : (a b : ℕ) → firstOf a b ≡ 0 → a ≡ 0
-first-zero zero b h = refl
-first-zero (suc a) b h = h
+-- ---- no number: what it says of the desk
 
--- no number: there is a nest
+first-zero : (a b : ℕ) → firstOf a b ≡ 0 → (a ≡ 0) × (b ≡ 0)
+first-zero zero b h = (refl, h)
+first-zero (suc a) b h = absurd (omega arith)
+
 has-nest : (a : Bool) → firstOf (when (not a) 10) 0 ≡ 0 → a ≡ true
 has-nest true h = refl
 has-nest false h = absurd (omega arith)
 
-gap-nest : (x : Desk) (g : ℕ) → gapFault x g ≡ 0 → x .hasNest ≡ true
-gap-nest x g h = has-nest (x .hasNest) (first-zero (stateFault false x) (when (not (isGap (x .nest-is) g)) 8) h)
+-- a number of its own is told only by its test
+untold : (t : Bool) (k : ℕ) → when t (suc k) ≡ 0 → t ≡ false
+untold true k h = absurd (omega arith)
+untold false k h = refl
 
--- a move to the sitting gs, whose number is not 0 without a nest
+both : (a b : Bool) → not (a && b) ≡ false → (a ≡ true) × (b ≡ true)
+both true true h = (refl, refl)
+both true false h = never (sym h)
+both false b h = never (sym h)
+
+not-false : (t : Bool) → not t ≡ false → t ≡ true
+not-false true h = refl
+not-false false h = never (sym h)
+
+pub gap-nest : (x : Desk) (g : ℕ) → gapFault x g ≡ 0 → x .hasNest ≡ true
+gap-nest x g h = has-nest (x .hasNest) (first-zero (stateFault false x) (when (not (isGap (x .nest-is) g)) 8) h .0)
+
+pub back-nest : (x : Desk) → backFault x ≡ 0 → x .hasNest ≡ true
+back-nest x h = has-nest (x .hasNest) (first-zero (stateFault false x) (when (eqb (length (x .moves)) 0) 13) h .0)
+
+-- a take-back that is not refused has a move to take back
+pub back-some : (x : Desk) → backFault x ≡ 0 → length (x .moves) ≡ 0 → ⊥
+back-some x h =
+    eqb-false (length (x .moves)) 0
+    (untold (eqb (length (x .moves)) 0) 12 (first-zero (stateFault false x) (when (eqb (length (x .moves)) 0) 13) h .1))
+
+module _ (x : Desk) (g : ℕ) (rising : areGaps (x .nest-is) (x .sitting) ≡ true) where
+  fits
+      : (put : Bool) → gapFault x g ≡ 0 → isIn g (x .sitting) ≡ not put
+      → Fits (x .nest-is) (x .sitting) (record { gap = g; put = put })
+  fits put z h =
+      let t =
+      untold (not (isGap (x .nest-is) g)) 7
+      (first-zero (stateFault false x) (when (not (isGap (x .nest-is) g)) 8) z .1) in
+      let b = both (ltb 0 g) (ltb g (length (x .nest-is .points))) t in
+      record {
+        rising = rising;
+        first = ltb-true 0 g (b .0);
+        inside = ltb-true g (length (x .nest-is .points)) (b .1);
+        there = h;
+      }
+
+  -- a Put or a Lift that is not refused fits the sitting
+  pub put-fits : putFault x g ≡ 0 → Fits (x .nest-is) (x .sitting) (putAt g)
+  put-fits h =
+      let z = first-zero (gapFault x g) (when (isIn g (x .sitting)) 12) h in
+      fits true (z .0) (untold (isIn g (x .sitting)) 11 (z .1))
+
+  pub lift-fits : liftFault x g ≡ 0 → Fits (x .nest-is) (x .sitting) (liftAt g)
+  lift-fits h =
+      let z = first-zero (gapFault x g) (when (not (isIn g (x .sitting))) 12) h in
+      fits false (z .0) (not-false (isIn g (x .sitting)) (untold (not (isIn g (x .sitting))) 11 (z .1)))
+
+-- ---- a call that leaves the play p
+
 module _
-    (number : ℕ) (gs : List ℕ) (d : DD.Desk) (r : DM.Moved)
-    (says : MoveSays number (withSitting gs (deskIn d)) d r) where
-  -- made, it leaves the same desk with another sitting; refused, the desk
-  move-makes : number ≡ 0 → Holds (r .desk) (withSitting gs (deskIn d))
+    (number : ℕ) (p : Play (List ℕ) DG.Move) (d : DD.Desk) (r : DM.Moved)
+    (says : MoveSays number (withPlay p (deskIn d)) d r) where
+  -- made, it leaves the same desk with that play; refused, the desk
+  pub move-makes : number ≡ 0 → Holds (r .desk) (withPlay p (deskIn d))
   move-makes z = rw (eq-eqb number 0 z) at (says .desk-is)
 
-  move-keeps : (number ≡ 0 → ⊥) → r .desk ≡ d
+  pub move-keeps : (number ≡ 0 → ⊥) → r .desk ≡ d
   move-keeps z = rw (ne-eqb number 0 z) at (says .desk-is)
 
-  made-move : (number ≡ 0 → d .loaded ≡ true) → IsMade d → IsMade (r .desk)
-  made-move nest m = ⊎-elim
+  made-move
+      : (number ≡ 0 → (d .loaded ≡ true) × History (sittingGame (deskIn d .nest-is)) (p .kept) (p .state))
+      → IsMade d
+      → IsMade (r .desk)
+  made-move led m = ⊎-elim
       (λ (z : number ≡ 0).
-      made-holds (r .desk) (withSitting gs (deskIn d)) (seated-paper (deskIn d) gs (nest z) (m .paper)) (move-makes z))
+      made-holds (r .desk) (withPlay p (deskIn d)) (played-paper (deskIn d) p (led z .0) (m .paper) (led z .1))
+      (move-makes z))
       (λ (z : number ≡ 0 → ⊥). subst (λ (x : DD.Desk). IsMade x) (sym (move-keeps z)) m)
       (eq-or number 0)
 
   move-since : (s : List ℕ) → Since s d → Since s (r .desk)
   move-since s q = ⊎-elim
-      (λ (z : number ≡ 0). Since.moved d (r .desk) gs q (move-makes z))
+      (λ (z : number ≡ 0). Since.moved d (r .desk) p q (move-makes z))
       (λ (z : number ≡ 0 → ⊥). subst (λ (x : DD.Desk). Since s x) (sym (move-keeps z)) q)
       (eq-or number 0)
+
+-- ---- the calls
+
+-- the game and the play of a desk's sitting
+abbrev pub gameOn : DD.Desk → Game (List ℕ) DG.Move
+gameOn d = sittingGame (deskIn d .nest-is)
+
+abbrev pub playIn : DD.Desk → Play (List ℕ) DG.Move
+playIn d = playOn (deskIn d)
 
 module _ (d : DD.Desk) (g : ℕ) (r : DM.Moved) where
   pub made-put : IsMade d → PutSays d g r → IsMade (r .desk)
   made-put m h =
-      made-move (putFault (deskIn d) g) (withGap g (deskIn d .sitting)) d r h
-      (λ z. gap-nest (deskIn d) g (first-zero (gapFault (deskIn d) g) (when (isIn g (deskIn d .sitting)) 12) z))
+      made-move (putFault (deskIn d) g) (moved (gameOn d) (playIn d) (putAt g)) d r h
+      (λ z. (
+        gap-nest (deskIn d) g (first-zero (gapFault (deskIn d) g) (when (isIn g (deskIn d .sitting)) 12) z .0),
+        history-moved (gameOn d) (playIn d) (putAt g) (m .paper .led) (put-fits (deskIn d) g (m .kept .gaps-fit) z),
+      ))
       m
 
   pub made-lift : IsMade d → LiftSays d g r → IsMade (r .desk)
   made-lift m h =
-      made-move (liftFault (deskIn d) g) (without g (deskIn d .sitting)) d r h
-      (λ z. gap-nest (deskIn d) g (first-zero (gapFault (deskIn d) g) (when (not (isIn g (deskIn d .sitting))) 12) z))
+      made-move (liftFault (deskIn d) g) (moved (gameOn d) (playIn d) (liftAt g)) d r h
+      (λ z. (
+        gap-nest (deskIn d) g (first-zero (gapFault (deskIn d) g) (when (not (isIn g (deskIn d .sitting))) 12) z .0),
+        history-moved (gameOn d) (playIn d) (liftAt g) (m .paper .led) (lift-fits (deskIn d) g (m .kept .gaps-fit) z),
+      ))
       m
 
   -- demand 3 of the calls (`load-then-plan`) holds with moves between Load and Plan
   pub put-since : (s : List ℕ) → Since s d → PutSays d g r → Since s (r .desk)
-  put-since s q h = move-since (putFault (deskIn d) g) (withGap g (deskIn d .sitting)) d r h s q
+  put-since s q h = move-since (putFault (deskIn d) g) (moved (gameOn d) (playIn d) (putAt g)) d r h s q
 
   pub lift-since : (s : List ℕ) → Since s d → LiftSays d g r → Since s (r .desk)
-  lift-since s q h = move-since (liftFault (deskIn d) g) (without g (deskIn d .sitting)) d r h s q
+  lift-since s q h = move-since (liftFault (deskIn d) g) (moved (gameOn d) (playIn d) (liftAt g)) d r h s q
+
+-- and with take-backs
+module _ (d : DD.Desk) (r : DM.Moved) where
+  pub made-back : IsMade d → BackSays d r → IsMade (r .desk)
+  made-back m h =
+      made-move (backFault (deskIn d)) (takenBack (gameOn d) (playIn d)) d r h
+      (λ z. (back-nest (deskIn d) z, history-back (gameOn d) (undoes (deskIn d .nest-is)) (playIn d) (m .paper .led)))
+      m
+
+  pub back-since : (s : List ℕ) → Since s d → BackSays d r → Since s (r .desk)
+  back-since s q h = move-since (backFault (deskIn d)) (takenBack (gameOn d) (playIn d)) d r h s q

@@ -1,5 +1,6 @@
 -- Put and Lift: what each way through the code says of the reply.
--- Main statements: `ready`; `put-refused`, `put-there`, `put-made`; `lift-refused`, `lift-missing`, `lift-made`.
+-- Main statements: `refused-with`, `made-with`; `ready`; `put-refused`, `put-there`, `put-made`; `lift-refused`,
+-- `lift-missing`, `lift-made`.
 use mathlib.Core.Path.{_≡_, refl, sym, _∙_, ap}
 use mathlib.Core.Bool.{Bool, true, false, _&&_, not}
 use mathlib.Core.List.{List}
@@ -12,14 +13,40 @@ use Rattle.nests.specs.Stored.{nestIn}
 use Rattle.placements.specs.Words.{GAPS, holds}
 use Rattle.placements.proofs.Words.{in-gaps}
 use Rattle.sitting.specs.declared.Sitting as DS
-use Rattle.sitting.specs.GapLists.{withGap, without}
 use Rattle.sitting.specs.Kept as Kept
+use Rattle.moves.specs.declared.Move as DG
+use Rattle.moves.specs.declared.Moves as DV
+use Rattle.moves.specs.Ring.{movesIn, IsRing, PushSays}
+use Rattle.moves.specs.TakeBack.{Play, moved}
+use Rattle.moves.specs.Game.{putAt, liftAt, sittingGame}
 use Rattle.desk.specs.declared.Desk as DD
-use Rattle.desk.specs.Desks.{Desk, withSitting, deskIn, IsMade}
+use Rattle.desk.specs.Desks.{Desk, playOn, withPlay, deskIn, IsMade}
 use Rattle.desk.specs.Says.{Holds}
 use Rattle.screen.specs.declared.Moved as DM
 use Rattle.screen.specs.Says.{gapFault, putFault, liftFault, afterPut, afterLift, uncutOn}
 use Rattle.screen.specs.Says.{MoveSays, PutSays, LiftSays, refusedAs, seated, movedTo}
+
+-- ---- a call's reply r, of a desk made by calls
+
+module _ (d : DD.Desk) (made : IsMade d) (r : DM.Moved) where
+  -- a refusal, whatever the call
+  pub refused-with
+      : (number : ℕ) (after : Desk) (k : ℕ) → number ≡ k → (k ≡ 0 → ⊥) → r ≡ refusedAs k d → MoveSays number after d r
+  refused-with number after k e h is =
+      let z : eqb number 0 ≡ false = ne-eqb number 0 (λ q. h (sym e ∙ q)) in
+      rw is (record { number-is = sym e; line-is = refl; uncut-is = rw z; desk-is = rw z refl })
+
+  -- the desk with the new sitting, whose kept number is told, and the new moves
+  pub made-with
+      : (number : ℕ) (p : Play (List ℕ) DG.Move) (s : DS.Sitting) (v : DV.Moves)
+      → number ≡ 0 → Kept.barriers s ≡ p .state → Kept.Kept (nestIn (d .nest)) s → movesIn v ≡ p .kept → IsRing v → r ≡ movedTo d s v
+      → MoveSays number (withPlay p (deskIn d)) d r
+  made-with number p s v e b k m i is =
+      let z : eqb number 0 ≡ true = eq-eqb number 0 e in
+      let h : Holds (seated d s v) (withPlay p (deskIn d)) =
+      record { holds = rw (b, m); counted = made .counted; kept = k; ring = i } in
+      let u : s .uncut ≡ uncutOn (withPlay p (deskIn d)) = rw (← b) (k .uncut-is) in
+      rw is (record { number-is = sym e; line-is = refl; uncut-is = rw z u; desk-is = rw z h })
 
 -- ---- the number of a gap, as the code tells it
 
@@ -87,23 +114,16 @@ module _ (d : DD.Desk) (g : ℕ) (made : IsMade d) (r : DM.Moved) where
   fault-told : told ≡ gapFault (deskIn d) g
   fault-told = rw (nest-only (d .loaded)) (ap (λ (n : ℕ). faultIn (d .loaded) n g) (made .counted .count-is))
 
-  -- a refusal, whatever the move
-  refused-with
-      : (number : ℕ) (after : Desk) (k : ℕ) → number ≡ k → (k ≡ 0 → ⊥) → r ≡ refusedAs k d → MoveSays number after d r
-  refused-with number after k e h is =
-      let z : eqb number 0 ≡ false = ne-eqb number 0 (λ q. h (sym e ∙ q)) in
-      rw is (record { number-is = sym e; line-is = refl; uncut-is = rw z; desk-is = rw z refl })
-
   pub put-refused : (k : ℕ) → k ≡ told → (k ≡ 0 → ⊥) → r ≡ refusedAs k d → PutSays d g r
   put-refused k e h is =
-      refused-with (putFault (deskIn d) g) (afterPut (deskIn d) g) k
+      refused-with d made r (putFault (deskIn d) g) (afterPut (deskIn d) g) k
       (first-set (gapFault (deskIn d) g) (when (isIn g (deskIn d .sitting)) 12) (λ q. h (e ∙ (fault-told ∙ q))) ∙
       sym (e ∙ fault-told))
       h is
 
   pub lift-refused : (k : ℕ) → k ≡ told → (k ≡ 0 → ⊥) → r ≡ refusedAs k d → LiftSays d g r
   lift-refused k e h is =
-      refused-with (liftFault (deskIn d) g) (afterLift (deskIn d) g) k
+      refused-with d made r (liftFault (deskIn d) g) (afterLift (deskIn d) g) k
       (first-set (gapFault (deskIn d) g) (when (not (isIn g (deskIn d .sitting))) 12) (λ q. h (e ∙ (fault-told ∙ q))) ∙
       sym (e ∙ fault-told))
       h is
@@ -127,38 +147,33 @@ module _ (d : DD.Desk) (g : ℕ) (made : IsMade d) (r : DM.Moved) where
 
     pub put-there : holds ws g ≡ true → r ≡ refusedAs 12 d → PutSays d g r
     put-there h =
-        refused-with (putFault (deskIn d) g) (afterPut (deskIn d) g) 12 (put-number true h) (λ q. omega arith)
+        refused-with d made r (putFault (deskIn d) g) (afterPut (deskIn d) g) 12 (put-number true h) (λ q. omega arith)
 
     pub lift-missing : holds ws g ≡ false → r ≡ refusedAs 12 d → LiftSays d g r
     lift-missing h =
-        refused-with (liftFault (deskIn d) g) (afterLift (deskIn d) g) 12 (lift-number false h) (λ q. omega arith)
-
-    -- the desk with the new sitting, whose kept number is told
-    made-with
-        : (number : ℕ) (gs : List ℕ) (s : DS.Sitting) → number ≡ 0 → Kept.barriers s ≡ gs
-        → Kept.Kept (nestIn (d .nest)) s → r ≡ movedTo d s → MoveSays number (withSitting gs (deskIn d)) d r
-    made-with number gs s e b k is =
-        let z : eqb number 0 ≡ true = eq-eqb number 0 e in
-        let h : Holds (seated d s) (withSitting gs (deskIn d)) =
-        record { holds = ap (λ (x : List ℕ). withSitting x (deskIn d)) b; counted = made .counted; kept = k } in
-        rw is
-        (record {
-          number-is = sym e;
-          line-is = refl;
-          uncut-is = rw z (k .uncut-is ∙ ap (λ (x : List ℕ). uncutOn (withSitting x (deskIn d))) b);
-          desk-is = rw z h;
-        })
+        refused-with d made r (liftFault (deskIn d) g) (afterLift (deskIn d) g) 12 (lift-number false h)
+        (λ q. omega arith)
 
     pub put-made
-        : (s : DS.Sitting) → holds ws g ≡ false → Kept.PutSays (nestIn (d .nest)) g (d .sitting) s → r ≡ movedTo d s
+        : (s : DS.Sitting) (v : DV.Moves)
+        → holds ws g ≡ false
+        → Kept.PutSays (nestIn (d .nest)) g (d .sitting) s
+        → PushSays (d .moves) (putAt g) v
+        → r ≡ movedTo d s v
         → PutSays d g r
-    put-made s h p =
-        made-with (putFault (deskIn d) g) (withGap g (deskIn d .sitting)) s (put-number false h) (p .barriers-are)
-        (p .kept)
+    put-made s v h p q =
+        made-with d made r (putFault (deskIn d) g)
+        (moved (sittingGame (nestIn (d .nest))) (playOn (deskIn d)) (putAt g)) s v (put-number false h) (p .barriers-are) (p .kept)
+        (q .moves-are) (q .ring)
 
     pub lift-made
-        : (s : DS.Sitting) → holds ws g ≡ true → Kept.LiftSays (nestIn (d .nest)) g (d .sitting) s → r ≡ movedTo d s
+        : (s : DS.Sitting) (v : DV.Moves)
+        → holds ws g ≡ true
+        → Kept.LiftSays (nestIn (d .nest)) g (d .sitting) s
+        → PushSays (d .moves) (liftAt g) v
+        → r ≡ movedTo d s v
         → LiftSays d g r
-    lift-made s h p =
-        made-with (liftFault (deskIn d) g) (without g (deskIn d .sitting)) s (lift-number true h) (p .barriers-are)
-        (p .kept)
+    lift-made s v h p q =
+        made-with d made r (liftFault (deskIn d) g)
+        (moved (sittingGame (nestIn (d .nest))) (playOn (deskIn d)) (liftAt g)) s v (lift-number true h) (p .barriers-are) (p .kept)
+        (q .moves-are) (q .ring)

@@ -1,2 +1,3 @@
--- The calls at the screen: what each says.
+-- The calls at the screen: what each says, and what runs of them say.
 pub mod Says
+pub mod Runs

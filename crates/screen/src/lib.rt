@@ -1,11 +1,19 @@
-// The calls at the screen: the candidate puts barriers into the sitting and lifts them.
+// The calls at the screen: the candidate puts barriers into the sitting, lifts them, and takes moves back.
 ghost use mathlib.Core.Path.{_≡_};
 ghost use mathlib.Core.Bool.{not, _&&_};
+ghost use Prim.Native.Nat.{_<_};
 ghost use lib.Dec.{ltb};
 ghost use Rattle.laws.specs.Choice.{when, firstOf};
 ghost use Rattle.desk.specs.Desks.{IsMade};
-ghost use Rattle.screen.specs.Says.{PutSays, LiftSays, refusedAs, movedTo};
+ghost use Rattle.nests.specs.Stored.{nestIn};
+ghost use Rattle.placements.specs.Words.{GAPS, holds};
+ghost use Rattle.sitting.specs.Kept.{Ready};
+ghost use Rattle.moves.specs.Ring.{IsRing, PushSays};
+ghost use Rattle.screen.specs.Says.{PutSays, LiftSays, BackSays, UndoneSays, refusedAs, movedTo};
 use desk::Desk;
+use moves::Move;
+use moves::Moves;
+use nests::Nest;
 use sitting::Sitting;
 
 // The number of a refusal, 0 for none, with line 0; how many dependences remain uncut; the desk after the call.
@@ -30,7 +38,7 @@ pub fn put_gap(desk: Desk, gap: usize) -> Moved
         return refused(12, desk);
     }
     let after = sitting::put(desk.nest, before, gap);
-    accepted(desk, after)
+    accepted(desk, after, with_move(desk.moves, gap, true))
 }
 
 // Lifts the barrier at a gap of the sitting. Numbers 10, 8, 12.
@@ -45,9 +53,52 @@ pub fn lift_gap(desk: Desk, gap: usize) -> Moved
     let before = desk.sitting;
     if before.placement.holds(gap) {
         let after = sitting::lift(desk.nest, before, gap);
-        return accepted(desk, after);
+        return accepted(desk, after, with_move(desk.moves, gap, false));
     }
     refused(12, desk)
+}
+
+// Undoes the latest Put or Lift. Numbers 10, 13.
+pub fn take_back(desk: Desk) -> Moved
+    requires { ⌜ IsMade desk ⌝ }
+    ensures { λ r. ⌜ BackSays desk r ⌝ }
+{
+    let loaded = desk.loaded;
+    if loaded {
+        let moves = desk.moves;
+        if moves.many == 0 {
+            return refused(13, desk);
+        }
+        let after = undone(desk.nest, desk.sitting, moves.latest());
+        return accepted(desk, after, moves.pop());
+    }
+    refused(10, desk)
+}
+
+// The moves with one more, of a gap put or lifted.
+fn with_move(moves: Moves, gap: usize, put: bool) -> Moves
+    requires { ⌜ IsRing moves ⌝ }
+    requires { ⌜ gap < GAPS ⌝ }
+    ensures { λ r. ⌜ PushSays moves (record { gap = gap; put = put }) r ⌝ }
+{
+    moves.push(Move {
+        gap: gap as u8,
+        put: put,
+    })
+}
+
+// The sitting with the move undone: a gap that was put is lifted, one that was lifted is put.
+fn undone(nest: Nest, s: Sitting, m: Move) -> Sitting
+    requires { ⌜ Ready nest s (m .gap) ⌝ }
+    requires { ⌜ holds (s .placement .words) (m .gap) ≡ m .put ⌝ }
+    ensures { λ r. ⌜ UndoneSays (nestIn nest) m s r ⌝ }
+{
+    let gap = m.gap as usize;
+    let put = m.put;
+    if put {
+        return sitting::lift(nest, s, gap);
+    }
+    sitting::put(nest, s, gap)
 }
 
 // The number of a gap: 10 without a nest, 8 out of range, or 0.
@@ -65,12 +116,13 @@ fn gap_fault(loaded: bool, count: usize, gap: usize) -> u8
     10
 }
 
-// The desk with this sitting.
-fn accepted(desk: Desk, after: Sitting) -> Moved
-    ensures { λ r. ⌜ r ≡ movedTo desk after ⌝ }
+// The desk with this sitting and these moves.
+fn accepted(desk: Desk, after: Sitting, moves: Moves) -> Moved
+    ensures { λ r. ⌜ r ≡ movedTo desk after moves ⌝ }
 {
     let mut d = desk;
     d.sitting = after;
+    d.moves = moves;
     Moved {
         number: 0,
         line: 0,

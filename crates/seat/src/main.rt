@@ -1,7 +1,7 @@
-// A sitting played from standard input, for the outside tests: a nest text, and after it lines of moves, where 30 g
-// puts gap g, 31 g lifts it, 32 plans and 33 takes the desk for one of the kind before sittings, which goes over. It
-// writes lines of two decimals: the number and the line of Load; for each move its number and how many dependences are
-// uncut; at the end each dependence and how many barriers cut it, as kept.
+// A sitting played from standard input, for the outside tests: a nest text, and after it lines of calls, where 30 g
+// puts gap g, 31 g lifts it, 34 takes back, 32 plans and 33 takes the desk for one of the kind before sittings, which
+// goes over. It writes lines of two decimals: the number and the line of Load; for each call its number and how many
+// dependences are uncut; at the end each dependence and how many barriers cut it, as kept.
 ghost use Prim.Native.Nat.{_≤_};
 ghost use lib.ListN.{length};
 ghost use Rattle.desk.specs.Desks.{IsMade};
@@ -17,6 +17,8 @@ const PUT: u8 = 0x30;
 const LIFT: u8 = 0x31;
 
 const PLAN: u8 = 0x32;
+
+const BACK: u8 = 0x34;
 
 fn main() {
     let mut input = [0u8; 16384];
@@ -95,6 +97,11 @@ fn make(desk: Desk, kind: u8, gap: usize) -> Desk
             let planned = reply.desk;
             report(reply.number as usize, planned.sitting.uncut);
             planned
+        }
+        BACK => {
+            let back = screen::take_back(desk);
+            report(back.number as usize, back.uncut);
+            back.desk
         }
         _ => {
             let gone = over(desk);

@@ -7,6 +7,7 @@ use Rattle.desk.proofs.load_nest.Reads as reads
 use Rattle.desk.proofs.load_nest.Lts as lts
 use Rattle.placements.proofs.Placement.empty.Reads as Placement-empty-reads
 use Rattle.sitting.proofs.Sitting.empty.Reads as Sitting-empty-reads
+use Rattle.moves.proofs.Moves.empty.Reads as Moves-empty-reads
 use Rattle.texts.proofs.read_nest.Reads as read-nest-reads
 
 read-nest-requires : tie.Need-read-nest-requires
@@ -23,13 +24,19 @@ empty-requires c κs = search needs
 empty-requires-2 : tie.Need-empty-requires-2
 empty-requires-2 c κs = search needs
 
+empty-requires-3 : tie.Need-empty-requires-3
+empty-requires-3 c κs = search needs
+
 returns-2 : tie.Need-returns-2
 returns-2 c =
-    let b3 = c .before .before .before in
+    let b = c .before in
+    let b3 = b .before .before .before in
     let r = b3 .before .read-nest in
     let a = b3 .before .before .before .args in
     load-accepted (a .text .now) (r .result) (r .ensures) (a .desk) _ (b3 .if1 .left) refl refl refl refl refl
-    (c .before .empty .ensures) (c .empty2 .ensures)
+    (b .before .empty .ensures) (b .empty2 .ensures) (c .empty3 .ensures)
 
 pub load-nest-spec : {M : Type 1} → statement M
-load-nest-spec = tie.close (tie.spec read-nest-requires returns empty-requires empty-requires-2 returns-2)
+load-nest-spec =
+    tie.close
+    (tie.spec read-nest-requires returns empty-requires empty-requires-2 empty-requires-3 returns-2)

@@ -1,4 +1,4 @@
--- `plan_key` meets its contract: the planner's words are a key (`plan-made`), and the sitting is not touched.
+-- `plan_key` meets its contract: the planner's words are a key (`plan-made`), sitting and moves are not touched.
 use mathlib.Core.Path.{refl}
 use Rattle.desk.proofs.Plans.{plan-refused, plan-made}
 use Rattle.desk.proofs.plan_key.Statement.{statement}
@@ -11,9 +11,9 @@ plan-requires c κs =
 
 returns : tie.Need-returns
 returns c =
-    let b3 = c .before .before .before in
+    let b3 = c .before .before .before .before in
     plan-made (b3 .before .args .desk) _ (b3 .before .pre) (b3 .if1 .taken) refl refl refl refl refl
-    (c .before .plan .ensures) refl
+    (c .before .before .plan .ensures) refl refl
 
 returns-2 : tie.Need-returns-2
 returns-2 c = plan-refused (c .before .args .desk) _ (c .if1 .left) refl refl refl

@@ -33,17 +33,24 @@ lift-requires c κs =
       sym (c .before .holds .ensures) ∙ c .if2 .taken,
     )
 
+with-move-requires : tie.Need-with-move-requires
+with-move-requires c κs =
+    let b5 = c .before .before .before .before .before in
+    let a = b5 .before .args in
+    (b5 .before .pre .ring, below (a .desk) (a .gap) (b5 .before .pre) (sym (b5 .gap-fault .ensures) ∙ omega arith))
+
 accepted-requires : tie.Need-accepted-requires
 accepted-requires c κs = search needs
 
 returns-2 : tie.Need-returns-2
 returns-2 c =
-    let b6 = c .before .before .before .before .before .before in
-    let a = b6 .before .args in
-    lift-made (a .desk) (a .gap) (b6 .before .pre) (c .accepted .result) (sym (b6 .gap-fault .ensures) ∙ omega arith)
-    (c .before .lift .result) (sym (c .before .before .before .holds .ensures) ∙ c .before .before .if2 .taken)
-    (c .before .lift .ensures)
-    (c .accepted .ensures)
+    let b2 = c .before .before in
+    let b7 = c .before .before .before .before .before .before .before in
+    let a = b7 .before .args in
+    lift-made (a .desk) (a .gap) (b7 .before .pre) (c .accepted .result) (sym (b7 .gap-fault .ensures) ∙ omega arith)
+    (b2 .lift .result) (c .before .with-move .result)
+    (sym (b2 .before .before .holds .ensures) ∙ b2 .before .if2 .taken) (b2 .lift .ensures)
+    (c .before .with-move .ensures) (c .accepted .ensures)
 
 refused-requires-2 : tie.Need-refused-requires-2
 refused-requires-2 c κs = search needs
@@ -65,6 +72,7 @@ lift-gap-spec =
     returns
     holds-requires
     lift-requires
+    with-move-requires
     accepted-requires
     returns-2
     refused-requires-2

@@ -44,17 +44,24 @@ put-requires c κs =
       sym (c .before .holds .ensures) ∙ c .if2 .left,
     )
 
+with-move-requires : tie.Need-with-move-requires
+with-move-requires c κs =
+    let b5 = c .before .before .before .before .before in
+    let a = b5 .before .args in
+    (b5 .before .pre .ring, below (a .desk) (a .gap) (b5 .before .pre) (sym (b5 .gap-fault .ensures) ∙ omega arith))
+
 accepted-requires : tie.Need-accepted-requires
 accepted-requires c κs = search needs
 
 returns-3 : tie.Need-returns-3
 returns-3 c =
-    let b6 = c .before .before .before .before .before .before in
-    let a = b6 .before .args in
-    put-made (a .desk) (a .gap) (b6 .before .pre) (c .accepted .result) (sym (b6 .gap-fault .ensures) ∙ omega arith)
-    (c .before .put .result) (sym (c .before .before .before .holds .ensures) ∙ c .before .before .if2 .left)
-    (c .before .put .ensures)
-    (c .accepted .ensures)
+    let b2 = c .before .before in
+    let b7 = c .before .before .before .before .before .before .before in
+    let a = b7 .before .args in
+    put-made (a .desk) (a .gap) (b7 .before .pre) (c .accepted .result) (sym (b7 .gap-fault .ensures) ∙ omega arith)
+    (b2 .put .result) (c .before .with-move .result)
+    (sym (b2 .before .before .holds .ensures) ∙ b2 .before .if2 .left) (b2 .put .ensures)
+    (c .before .with-move .ensures) (c .accepted .ensures)
 
 pub put-gap-spec : {M : Type 1} → statement M
 put-gap-spec =
@@ -67,5 +74,6 @@ put-gap-spec =
     refused-requires-2
     returns-2
     put-requires
+    with-move-requires
     accepted-requires
     returns-3)

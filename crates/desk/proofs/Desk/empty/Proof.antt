@@ -8,6 +8,7 @@ use Rattle.desk.proofs.Desk.empty.Lts as lts
 use Rattle.nests.proofs.Nest.empty.Reads as Nest-empty-reads
 use Rattle.placements.proofs.Placement.empty.Reads as Placement-empty-reads
 use Rattle.sitting.proofs.Sitting.empty.Reads as Sitting-empty-reads
+use Rattle.moves.proofs.Moves.empty.Reads as Moves-empty-reads
 
 empty-requires : tie.Need-empty-requires
 empty-requires c κs = search needs
@@ -18,9 +19,14 @@ empty-requires-2 c κs = search needs
 empty-requires-3 : tie.Need-empty-requires-3
 empty-requires-3 c κs = search needs
 
+empty-requires-4 : tie.Need-empty-requires-4
+empty-requires-4 c κs = search needs
+
 returns : tie.Need-returns
 returns c =
-    held-empty _ refl (c .before .before .empty .ensures) refl (c .before .empty2 .ensures) (c .empty3 .ensures)
+    let b = c .before in
+    held-empty _ refl (b .before .before .empty .ensures) refl (b .before .empty2 .ensures) (b .empty3 .ensures)
+    (c .empty4 .ensures)
 
 pub empty-spec : {M : Type 1} → statement M
-empty-spec = tie.close (tie.spec empty-requires empty-requires-2 empty-requires-3 returns)
+empty-spec = tie.close (tie.spec empty-requires empty-requires-2 empty-requires-3 empty-requires-4 returns)

@@ -1,0 +1,44 @@
+-- Putting and lifting undo each other, so the moves of a sitting can be taken back; and the latest move kept says what
+-- the sitting holds at its gap.
+-- Main statements: `undoes`, `latest-there`, `latest-inside`.
+use mathlib.Core.Path.{_≡_, refl, sym, ap, _∙_}
+use mathlib.Core.Bool.{Bool, true, false, _&&_, _||_, not}
+use mathlib.Core.List.{List, _∷_}
+use Prim.Native.Nat.{ℕ, _<_}
+use lib.Dec.{eqb}
+use lib.ListN.{length}
+use borrow.Author.Tests.{eq-eqb}
+use Rattle.laws.specs.Choice.{isIn}
+use Rattle.nests.specs.Nests.{Nest}
+use Rattle.sitting.proofs.GapLists.{in-with, in-without, without-with, with-without}
+use Rattle.moves.specs.declared.Move as DM
+use Rattle.moves.specs.TakeBack.{Undoes, History}
+use Rattle.moves.specs.Game.{Fits, withMove, sittingGame}
+
+module _ (n : Nest) where
+  pub undoes : Undoes (sittingGame n)
+  undoes gs m f = go (m .put) (f .there)
+    where
+      go : (b : Bool) → isIn (m .gap) gs ≡ not b → withMove (not b) (m .gap) (withMove b (m .gap) gs) ≡ gs
+      go true e = without-with (m .gap) gs e
+      go false e = with-without 0 (length (n .points)) (m .gap) gs (f .rising) e
+
+  -- after a move its gap is there if it was put
+  moved-there : (gs : List ℕ) (m : DM.Move) → Fits n gs m → isIn (m .gap) (withMove (m .put) (m .gap) gs) ≡ m .put
+  moved-there gs m f = go (m .put)
+    where
+      same : eqb (m .gap) (m .gap) ≡ true
+      same = eq-eqb (m .gap) (m .gap) refl
+
+      go : (b : Bool) → isIn (m .gap) (withMove b (m .gap) gs) ≡ b
+      go true = in-with (m .gap) (m .gap) gs ∙ ap (λ (t : Bool). t || isIn (m .gap) gs) same
+      go false =
+          in-without 0 (length (n .points)) (m .gap) (m .gap) gs (f .rising) ∙
+          ap (λ (t : Bool). not t && isIn (m .gap) gs) same
+
+  module _ (gs : List ℕ) (m : DM.Move) (ms : List DM.Move) (h : History (sittingGame n) (m ∷ ms) gs) where
+    pub latest-there : isIn (m .gap) gs ≡ m .put
+    latest-there = ap (isIn (m .gap)) (sym (h .came)) ∙ moved-there (h .from) m (h .fitted)
+
+    pub latest-inside : (0 < m .gap) × (m .gap < length (n .points))
+    latest-inside = (h .fitted .first, h .fitted .inside)
