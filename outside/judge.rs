@@ -3,16 +3,17 @@
 //!
 //!   rustc -O outside/judge.rs -o target/judge    (with self_check.rs, sittings.rs and edges.txt beside it)
 //!   target/judge PROGRAM [SEED [SECONDS]]     compare PROGRAM with this reading (seed 1, 60 seconds)
-//!   target/judge --first PROGRAM ...          the same, and of several keys only the first in list order will do
 //!   target/judge --sittings PROGRAM [SEED [SITTINGS]]    compare the program `seat` (seed 1, 2000 sittings)
 //!   target/judge --self-check                 show that this reading has the cases of 01, and that it can fail
 //!   target/judge --keys [GAPS] < paper.hex    all keys of a small paper, and the mark of the placement GAPS (2,6)
 //!
-//! PROGRAM reads a nest text on standard input and writes its answer on standard output. The judge compares
+//! PROGRAM reads a nest text on standard input and writes its answer on standard output. Of several keys only the
+//! first in list order will do (request 6), so where the keys are known the answer must be one text, byte for byte:
 //!   - small nests, by trying every placement under the order of 001's definition 1;
-//!   - damaged texts and the limits, by the number and line of the refusal, byte for byte;
-//!   - full-size papers: always that the key is correct, has no barrier to spare and comes with the right counts;
-//!     and that it is best, where that can be known otherwise (one loop; small nests side by side).
+//!   - damaged texts and the limits, by the number and line of the refusal;
+//!   - full-size papers of one loop, and of small nests side by side.
+//! Of other full-size papers: that the key is correct, has no barrier to spare and none that could stand earlier among
+//! the gaps of its loop, and comes with the right counts.
 //! A difference is printed with the text that shows it, and the judge ends with status 1.
 
 mod self_check;
@@ -256,6 +257,46 @@ fn one_loop_count(nest: &Nest) -> usize {
     if intervals.is_empty() { 0 } else { (1..=ring).map(after_first).min().unwrap() }
 }
 
+/// Of the smallest correct sets of a nest of one loop the first in list order. Gap by gap, each is the lowest with
+/// which the barriers that are left can still cut the rest: above the last barrier every interval that is not cut yet
+/// is a stretch of a line, which needs one at the end of each stretch that ends first.
+fn one_loop_first(nest: &Nest) -> Vec<usize> {
+    let (ring, size) = (nest.points.len() - 1, one_loop_count(nest));
+    let intervals: Vec<Vec<usize>> = nest.dependences.iter().map(|x| nest.gaps(x)).collect();
+    let left_after = |key: &[usize]| {
+        let last = *key.last().unwrap();
+        let uncut = intervals.iter().filter(|x| !x.iter().any(|g| key.contains(g)));
+        let above: Vec<Vec<usize>> = uncut.map(|x| x.iter().copied().filter(|&g| g > last).collect()).collect();
+        let ends = |x: &Vec<usize>| Some((*x.iter().min()?, *x.iter().max()?));
+        let lines: Vec<(usize, usize)> = above.iter().map(ends).collect::<Option<_>>()?;
+        let (mut at, mut count) = (last, 0);
+        for here in last + 1..=ring {
+            if lines.iter().any(|&(from, to)| to == here && from > at) { at = here; count += 1 }
+        }
+        Some(count)
+    };
+    let mut key: Vec<usize> = Vec::new();
+    while key.len() < size {
+        let with = |g: usize| [&key[..], &[g]].concat();
+        let fits = |g: &usize| left_after(&with(*g)).is_some_and(|left| key.len() + 1 + left <= size);
+        let next = (key.last().map_or(1, |g| g + 1)..=ring).find(fits);
+        key.push(next.expect("a smallest set begins so"));
+    }
+    key
+}
+
+/// A barrier that could stand at an earlier gap of its loop: the placement would be as correct, with the same counts,
+/// and earlier in list order.
+fn could_be_earlier(nest: &Nest, key: &[usize]) -> Option<(usize, usize)> {
+    let gaps: Vec<Vec<usize>> = nest.dependences.iter().map(|x| nest.gaps(x)).collect();
+    let cut_by = |x: &Vec<usize>| key.iter().filter(|g| x.contains(g)).collect::<Vec<_>>();
+    let alone: Vec<(usize, &Vec<usize>)> =
+        gaps.iter().filter_map(|x| match cut_by(x)[..] { [g] => Some((*g, x)), _ => None }).collect();
+    let serves = |g: usize, h: usize| alone.iter().all(|(by, x)| *by != g || x.contains(&h));
+    let earlier = |g: usize| (1..g).find(|&h| !key.contains(&h) && nest.owner(h) == nest.owner(g) && serves(g, h));
+    key.iter().find_map(|&g| earlier(g).map(|h| (g, h)))
+}
+
 /// 01, "The desk", Mark.
 #[derive(Debug, PartialEq)]
 enum Mark { Uncut(usize), Dearer { of: usize, theirs: usize, ours: usize }, Best }
@@ -269,16 +310,15 @@ fn mark(nest: &Nest, key: &[usize], placement: &[usize]) -> Mark {
 
 // ---- The program's answer (01, "The program")
 
-/// What is known of the keys of an accepted text: all of them, or the least counts (and perhaps the first key).
-enum Known { Keys(Vec<Vec<usize>>), Counts(Vec<usize>, Option<Vec<usize>>), Little }
-enum Standard { Refused(Refusal), Accepted(Nest, Known) }
+/// Of an accepted text, its first key where that is known.
+enum Standard { Refused(Refusal), Accepted(Nest, Option<Vec<usize>>) }
 
 fn standard(text: &[u8]) -> Standard {
     match read_nest(text) {
         Err(refusal) => Standard::Refused(refusal),
         Ok(nest) => {
-            let known = if nest.points.len() <= SEARCHED { Known::Keys(search(&nest)) } else { Known::Little };
-            Standard::Accepted(nest, known)
+            let key = if nest.points.len() <= SEARCHED { Some(search(&nest).swap_remove(0)) } else { None };
+            Standard::Accepted(nest, key)
         }
     }
 }
@@ -292,11 +332,11 @@ fn answer_text(nest: &Nest, key: &[usize]) -> Vec<u8> {
     barriers.chain(nest.loops().into_iter().flat_map(|d| line(&[COUNT, d as u8, counts[d] as u8]))).collect()
 }
 
-/// Says what is wrong with an answer. Of several keys `first` admits only the first in list order.
-fn judge(standard: &Standard, answer: &[u8], first: bool) -> Result<(), String> {
-    let (nest, known) = match standard {
+/// Says what is wrong with an answer. Where the first key is known it must be the text with this key.
+fn judge(standard: &Standard, answer: &[u8]) -> Result<(), String> {
+    let (nest, first) = match standard {
         Standard::Refused(r) => return same(answer, &refusal_text(*r)),
-        Standard::Accepted(nest, known) => (nest, known),
+        Standard::Accepted(nest, first) => (nest, first),
     };
     let is_barrier = |text: &&[u8]| text.starts_with(b"21");
     let frames: usize = answer.split_inclusive(|&b| b == b'\n').take_while(is_barrier).map(|l| l.len()).sum();
@@ -308,14 +348,10 @@ fn judge(standard: &Standard, answer: &[u8], first: bool) -> Result<(), String> 
         let rest = [&key[..i], &key[i + 1..]].concat();
         if nest.uncut(&rest).is_none() { return Err(format!("key {key:?} does not need barrier {}", key[i])) }
     }
-    let (best, leader) = match known {
-        Known::Keys(keys) => (keys.contains(&key), Some(&keys[0])),
-        Known::Counts(counts, leader) => (*counts == nest.counts(&key), leader.as_ref()),
-        Known::Little => (true, None),
-    };
-    if !best { return Err(format!("key {key:?} is correct and not best; a key is {leader:?}")) }
-    if first && leader.is_some_and(|l| *l != key) { return Err(format!("key {key:?} comes after {leader:?}")) }
-    Ok(())
+    if let Some((g, h)) = could_be_earlier(nest, &key) {
+        return Err(format!("key {key:?} could have barrier {h} in place of {g}"));
+    }
+    first.as_ref().map_or(Ok(()), |first| same(answer, &answer_text(nest, first)))
 }
 
 fn same(answer: &[u8], wanted: &[u8]) -> Result<(), String> {
@@ -526,17 +562,15 @@ fn make_case(seed: u64, case: usize, edges: &[Edge]) -> Case {
     }
     let random = &mut Random::new(seed, case);
     match random.below(40) {
-        0 => known_case("full-size paper, any shape", full_nest(random, DEPTH), Known::Little),
+        0 => known_case("full-size paper, any shape", full_nest(random, DEPTH), None),
         1 => {
             let nest = full_nest(random, 1);
-            let mut counts = vec![0; POINTS];
-            counts[0] = one_loop_count(&nest);
-            known_case("full-size paper, one loop, least count known", nest, Known::Counts(counts, None))
+            let key = one_loop_first(&nest);
+            known_case("full-size paper, one loop, first key known", nest, Some(key))
         }
         2 => {
             let (nest, key) = side_by_side(random, POINTS);
-            let known = Known::Counts(nest.counts(&key), Some(key));
-            known_case("full-size paper, nests side by side, least tree known", nest, known)
+            known_case("full-size paper, nests side by side, first key known", nest, Some(key))
         }
         3 | 4 => {
             let depth = 1 + random.below(DEPTH);
@@ -549,14 +583,14 @@ fn make_case(seed: u64, case: usize, edges: &[Edge]) -> Case {
         }
         _ => {
             let nest = small_nest(random);
-            let keys = search(&nest);
-            known_case("small nest, every placement tried", nest, Known::Keys(keys))
+            let key = search(&nest).swap_remove(0);
+            known_case("small nest, every placement tried", nest, Some(key))
         }
     }
 }
 
-fn known_case(what: &str, nest: Nest, known: Known) -> Case {
-    Case { what: what.into(), text: nest.text(), standard: Standard::Accepted(nest, known) }
+fn known_case(what: &str, nest: Nest, key: Option<Vec<usize>>) -> Case {
+    Case { what: what.into(), text: nest.text(), standard: Standard::Accepted(nest, key) }
 }
 
 fn damaged_case(what: &str, text: Vec<u8>) -> Case {
@@ -589,14 +623,14 @@ fn run(program: &str, text: &[u8]) -> Result<Vec<u8>, String> {
     answer.map_err(|_| format!("no answer in {PATIENCE:?}"))?.map_err(|e| e.to_string())
 }
 
-fn compare(program: &str, seed: u64, seconds: u64, first: bool) -> bool {
+fn compare(program: &str, seed: u64, seconds: u64) -> bool {
     let (edges, until) = (edges(), Instant::now() + Duration::from_secs(seconds));
     let (next, failed, tally) = (AtomicUsize::new(0), AtomicUsize::new(0), Mutex::new(BTreeMap::new()));
     let work = || loop {
         let case = next.fetch_add(1, SeqCst);
         if failed.load(SeqCst) > 0 || (case >= edges.len() && Instant::now() > until) { break }
         let Case { what, text, standard } = make_case(seed, case, &edges);
-        match run(program, &text).and_then(|answer| judge(&standard, &answer, first)) {
+        match run(program, &text).and_then(|answer| judge(&standard, &answer)) {
             Ok(()) => *tally.lock().unwrap().entry(what).or_insert(0) += 1,
             Err(why) => {
                 failed.fetch_add(1, SeqCst);
@@ -639,17 +673,15 @@ fn show_keys(gaps: Option<&String>) -> bool {
 }
 
 fn main() {
-    let mut arguments: Vec<String> = std::env::args().skip(1).collect();
-    let first = arguments.first().is_some_and(|a| a == "--first");
-    if first { arguments.remove(0); }
+    let arguments: Vec<String> = std::env::args().skip(1).collect();
     let number = |i: usize, usual: u64| arguments.get(i).map_or(usual, |a| a.parse().expect("a number"));
     let well = match arguments.first().map(String::as_str) {
         Some("--self-check") => self_check::self_check(),
         Some("--keys") => show_keys(arguments.get(1)),
         Some("--sittings") => sittings::compare_sittings(&arguments[1], number(2, 1), number(3, 2000)),
-        Some(program) => compare(program, number(1, 1), number(2, 60), first),
+        Some(program) => compare(program, number(1, 1), number(2, 60)),
         None => {
-            eprintln!("usage: judge [--first] PROGRAM [SEED [SECONDS]] | --sittings SEAT | --self-check | --keys [GAPS]");
+            eprintln!("usage: judge PROGRAM [SEED [SECONDS]] | --sittings SEAT | --self-check | --keys [GAPS]");
             false
         }
     };

@@ -19,6 +19,7 @@ pub fn self_check() -> bool {
     check_cases(&mut checks);
     check_explained(&mut checks);
     check_wrong_answers(&mut checks);
+    check_first(&mut checks);
     check_sitting(&mut checks);
     (0..400).for_each(|case| check_random(&mut checks, &mut Random::new(7, case)));
     finish(checks.passed, checks.failed)
@@ -50,7 +51,7 @@ fn check_cases(checks: &mut Checks) {
     checks.that("forward over the ring, beside P's", search(&beside) == [[5, 11]]);
     let blank = read_nest(b"").unwrap();
     checks.that("case 11, nest", blank.points == [DO, ENDDO] && blank.dependences.is_empty());
-    checks.that("case 11, answer", judge(&standard(b""), b"220000\n", true).is_ok());
+    checks.that("case 11, answer", judge(&standard(b""), b"220000\n").is_ok());
     checks.that("case 13, gap 13", read_placement(14, b"210d\n") == Ok(vec![13]));
     checks.that("case 13, gap 14", read_placement(14, b"210e\n") == Err(Refusal { number: 8, line: 1 }));
     checks.that("gaps must rise", read_placement(14, b"2105\n2105\n") == Err(Refusal { number: 8, line: 2 }));
@@ -85,8 +86,8 @@ fn check_explained(checks: &mut Checks) {
 
 /// Each wrong answer must be noticed, and the right one beside it admitted.
 fn check_wrong_answers(checks: &mut Checks) {
-    let admits = |text: &str, answer: &[u8], first| judge(&standard(&words(text)), answer, first).is_ok();
-    checks.that("the right answer to P is admitted", admits(P, &words("2105 210b 220000 220101 220701"), true));
+    let admits = |text: &str, answer: &[u8]| judge(&standard(&words(text)), answer).is_ok();
+    checks.that("the right answer to P is admitted", admits(P, &words("2105 210b 220000 220101 220701")));
     for (what, answer) in &[
         ("barrier dropped", "2105 220000 220101 220700"), ("barrier added", "2105 2106 210b 220000 220102 220701"),
         ("barrier moved", "2103 210b 220000 220101 220701"), ("a dearer key", "2103 2109 210d 220001 220101 220701"),
@@ -95,32 +96,50 @@ fn check_wrong_answers(checks: &mut Checks) {
         ("order of barriers", "210b 2105 220000 220101 220701"), ("twice", "2105 2105 210b 220000 220101 220701"),
         ("capital digit", "2105 210B 220000 220101 220701"), ("gap 14", "2105 210b 210e 220000 220101 220701"),
         ("refusal of a good text", "2f040001"), ("nothing at all", ""),
-    ] { checks.that(&format!("noticed: {what}"), !admits(P, &words(answer), false)) }
-    checks.that("noticed: no last 0a", !admits(P, b"2105\n210b\n220000\n220101\n220701", false));
+    ] { checks.that(&format!("noticed: {what}"), !admits(P, &words(answer))) }
+    checks.that("noticed: no last 0a", !admits(P, b"2105\n210b\n220000\n220101\n220701"));
     for answer in &["2f040001", "220001", "220100", "2101 220001", "2200", "220000 220000", "220000 220100", ""] {
-        checks.that(&format!("noticed: {answer} for the empty text"), !admits("", &words(answer), false));
+        checks.that(&format!("noticed: {answer} for the empty text"), !admits("", &words(answer)));
     }
-    checks.that("refusals are still admitted", admits("110001", b"2f040001\n", false));
+    checks.that("refusals are still admitted", admits("110001", b"2f040001\n"));
     for answer in &["2f050001", "2f040002", "2f040101", "2F040001", "220000", "2f040001 2f040001", ""] {
-        checks.that(&format!("noticed: {answer} for a dependence first"), !admits("110001", &words(answer), false));
+        checks.that(&format!("noticed: {answer} for a dependence first"), !admits("110001", &words(answer)));
     }
-    checks.that("a lone 0a has number 1", judge(&standard(b"\n"), b"2f010001\n", false).is_ok());
-    checks.that("noticed: a lone 0a accepted", judge(&standard(b"\n"), b"220000\n", false).is_err());
-    let admits_ninth = |answer, first| admits("01 03 02 12000101", &words(answer), first);
-    checks.that("both keys of case 9", admits_ninth("2101 220001", false) && admits_ninth("2102 220001", false));
-    checks.that("the first of them", admits_ninth("2101 220001", true) && !admits_ninth("2102 220001", true));
+    checks.that("a lone 0a has number 1", judge(&standard(b"\n"), b"2f010001\n").is_ok());
+    checks.that("noticed: a lone 0a accepted", judge(&standard(b"\n"), b"220000\n").is_err());
 }
 
-/// On random nests: damaged keys are noticed, and the judge's several ways agree.
+/// 02, job 6: papers with several keys. Only the first is admitted, and each of the others is noticed.
+fn check_first(checks: &mut Checks) {
+    let either = "01 03 03 02 110001 110103"; // the last of equals is 1, 3
+    let crossed = "01 01 03 02 02 110002 110103 110204"; // first only inside loop 1 is 2, 4
+    let all: [(&str, &[&[usize]]); 5] = [
+        ("01 03 02 12000101", &[&[1], &[2]]), (either, &[&[1, 2], &[1, 3]]), (crossed, &[&[1, 3], &[2, 4]]),
+        (R, &[&[1, 4], &[2, 4], &[2, 5], &[2, 6], &[3, 6], &[4, 6], &[4, 7]]), (P, &[&[5, 11]]),
+    ];
+    for (text, keys) in all {
+        let nest = read_nest(&words(text)).unwrap();
+        checks.that(&format!("the keys of {text}"), search(&nest) == keys);
+        let admits = |key: &[usize]| judge(&standard(&words(text)), &answer_text(&nest, key)).is_ok();
+        checks.that(&format!("the first key of {text}"), admits(keys[0]));
+        checks.that(&format!("noticed: later keys of {text}"), keys[1..].iter().all(|key| !admits(key)));
+    }
+    let ring = read_nest(&words(either)).unwrap();
+    let unknown = |key: &[usize]| judge(&Standard::Accepted(ring.clone(), None), &answer_text(&ring, key)).is_ok();
+    checks.that("noticed without the first key: a barrier that could be earlier", unknown(&[1, 2]) && !unknown(&[1, 3]));
+}
+
+/// On random nests: later keys and damaged keys are noticed, and the judge's several ways agree.
 fn check_random(checks: &mut Checks, random: &mut Random) {
     let nest = small_nest(random);
     let (keys, n, shows) = (search(&nest), nest.points.len(), shown(&nest.text()));
     let key = &keys[random.below(keys.len())];
     let known = standard(&nest.text());
-    let admits = |key: &[usize]| judge(&known, &answer_text(&nest, key), false).is_ok();
+    let admits = |key: &[usize]| judge(&known, &answer_text(&nest, key)).is_ok();
     let dropped = |i: usize| [&key[..i], &key[i + 1..]].concat();
     let added = |g: usize| (1..n).filter(|h| *h == g || key.contains(h)).collect::<Vec<_>>();
-    checks.that(&format!("{key:?} is a key: {shows}"), admits(key));
+    checks.that(&format!("{key:?} is a key, and only the first will do: {shows}"), admits(key) == (*key == keys[0]));
+    checks.that(&format!("the first cannot be earlier: {shows}"), could_be_earlier(&nest, &keys[0]).is_none());
     checks.that(&format!("none dropped from {key:?}: {shows}"), (0..key.len()).all(|i| !admits(&dropped(i))));
     checks.that(&format!("none added to {key:?}: {shows}"), (1..n).all(|g| key.contains(&g) || !admits(&added(g))));
     let correct: Vec<Vec<usize>> = correct_placements(&nest).into_iter().map(gap_list).collect();
@@ -136,7 +155,7 @@ fn check_random(checks: &mut Checks, random: &mut Random) {
     checks.that(&format!("the order in both words: {shows} {a:?} {b:?}"), ways);
     let mut ring = random_points(random, n, 1);
     add_dependences(random, &mut ring, n, n);
-    checks.that(&format!("one loop: {}", shown(&ring.text())), search(&ring)[0].len() == one_loop_count(&ring));
+    checks.that(&format!("one loop: {}", shown(&ring.text())), search(&ring)[0] == one_loop_first(&ring));
     let (pair, first) = side_by_side(random, SEARCHED);
     checks.that(&format!("side by side: {}", shown(&pair.text())), search(&pair)[0] == first);
 }

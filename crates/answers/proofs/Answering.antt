@@ -1,6 +1,7 @@
--- The answer to an input, case by case: too long, refused, accepted. In each the key is the planner's (`keyOf`), which
--- is a key wherever the text is accepted.
--- Main statements: `planned-key`, `accepted-nest`, `answer-long`, `answer-refused`, `answer-key`, `answer-within`.
+-- The answer to an input, case by case: too long, refused, accepted. Where the text is accepted the key is that of the
+-- nest that it spells, the first of all its keys; a refusal does not look at it.
+-- Main statements: `planned-gaps`, `accepted-nest`, `answer-long`, `answer-refused`, `answer-key`, `answer-within`,
+-- `answers-first-key`.
 use mathlib.Core.Path.{_≡_, sym, _∙_, ap, subst}
 use mathlib.Core.Bool.{true}
 use mathlib.Core.List.{List}
@@ -11,7 +12,6 @@ use borrow.Author.Tests.{lt-ltb, le-ltb, eq-eqb}
 use Rattle.nests.specs.Nests.{Nest}
 use Rattle.nests.specs.Valid.{isValid}
 use Rattle.nests.specs.Stored.{nestIn}
-use Rattle.nests.proofs.Deps.{valid-is, deps-fit}
 use Rattle.lines.specs.Writing.{over}
 use Rattle.placements.specs.Placements.{areGaps}
 use Rattle.placements.specs.Words.{gapsIn}
@@ -23,25 +23,16 @@ use Rattle.texts.proofs.Accepted.{accepted-valid}
 use Rattle.texts.proofs.Refusals.{place-within}
 use Rattle.texts.proofs.ProgramTexts.{program-refused}
 use Rattle.keys.specs.KeyOf.{keyOf}
-use Rattle.keys.proofs.KeyGaps.{key-gaps, words-of-key}
-use Rattle.keys.proofs.Demand3.{accepted-key}
+use Rattle.keys.specs.OneKey.{IsFirstKey}
+use Rattle.keys.proofs.KeyGaps.{planned-words, valid-gaps}
+use Rattle.keys.proofs.OneKey.{one-key}
 use Rattle.plan.specs.Planned.{PlanSays}
-use Rattle.answers.specs.Answers.{LINES, keyAndCounts, Answered}
+use Rattle.answers.specs.Answers.{LINES, keyAndCounts, answerTo, Answered}
 
--- the planner's words hold the key, whose gaps are gaps of the nest
+-- the planner's words hold gaps of the nest
 module _ (n : Nest) (ws : List ℕ) (valid : isValid n ≡ true) (p : PlanSays n ws) where
-  pub planned-key : gapsIn ws ≡ keyOf n
-  planned-key =
-      let v = valid-is n valid in
-      words-of-key n (v .shape) (deps-fit (n .points) (n .deps) (v .all-deps)) ws (v .few-points) (λ g h. p g)
-
   pub planned-gaps : areGaps n (gapsIn ws) ≡ true
-  planned-gaps =
-      let v = valid-is n valid in
-      subst
-      (λ (gs : List ℕ). areGaps n gs ≡ true)
-      (sym planned-key)
-      (key-gaps n (v .shape) (deps-fit (n .points) (n .deps) (v .all-deps)))
+  planned-gaps = subst (λ (gs : List ℕ). areGaps n gs ≡ true) (sym (planned-words n ws valid p)) (valid-gaps n valid)
 
 -- of an accepted text the program's text is the key and the counts
 program-read
@@ -52,20 +43,15 @@ program-read
 unfolding programText
 program-read input key short h = rw (le-ltb LONGEST (length input) short, eq-eqb (readNest input .number) 0 h)
 
--- an answer is the program's text for the planner's key
+-- an answer is the program's text for the key
 by-text
     : (input o out : List ℕ) (r : ℕ) (t : List ℕ)
-    → programText input (keyOf (readNest input .nest-is)) ≡ t
+    → answerTo input ≡ t
     → r ≡ length t
     → out ≡ over t o
     → Answered input o out r
 by-text input o out r t e l w =
-    record {
-      key = keyOf (readNest input .nest-is);
-      is-key = λ h. accepted-key input h;
-      length-is = l ∙ ap length (sym e);
-      out-is = w ∙ ap (λ (x : List ℕ). over x o) (sym e);
-    }
+    record { length-is = l ∙ ap length (sym e); out-is = w ∙ ap (λ (x : List ℕ). over x o) (sym e) }
 
 -- input above 8,192 bytes
 pub answer-long
@@ -99,7 +85,7 @@ module _ (input : List ℕ) (short : length input ≤ LONGEST) (g : Reading) (re
 
   refused-text
       : (g .number ≡ 0 → ⊥)
-      → programText input (keyOf (readNest input .nest-is)) ≡ refusalText (g .number) (g .line)
+      → answerTo input ≡ refusalText (g .number) (g .line)
   refused-text h =
       program-refused input (keyOf (readNest input .nest-is)) short (λ z. h (number-is ∙ z)) ∙ rw (number-is, place-is)
 
@@ -107,11 +93,11 @@ module _ (input : List ℕ) (short : length input ≤ LONGEST) (g : Reading) (re
       : (ws : List ℕ)
       → g .number ≡ 0
       → PlanSays (nestIn (g .nest)) ws
-      → programText input (keyOf (readNest input .nest-is)) ≡ keyAndCounts (nestIn (g .nest)) (gapsIn ws)
+      → answerTo input ≡ keyAndCounts (nestIn (g .nest)) (gapsIn ws)
   key-text ws h p =
       program-read input (keyOf (readNest input .nest-is)) short (sym number-is ∙ h) ∙
       ap (λ (x : Nest). keyAndCounts x (keyOf x)) (sym nest-is) ∙
-      ap (keyAndCounts (nestIn (g .nest))) (sym (planned-key (nestIn (g .nest)) ws (accepted-nest h) p))
+      ap (keyAndCounts (nestIn (g .nest))) (sym (planned-words (nestIn (g .nest)) ws (accepted-nest h) p))
 
   -- refused: the refusal is written; accepted: the key and the counts
   module _ (o out : List ℕ) (r : ℕ) where
@@ -134,5 +120,21 @@ module _ (input : List ℕ) (short : length input ≤ LONGEST) (g : Reading) (re
 -- an answer lies within the buffer
 pub answer-within : (input o out : List ℕ) (r : ℕ) → Answered input o out r → r ≤ length out
 answer-within input o out r a =
-    let t = programText input (a .key) in
+    let t = answerTo input in
     omega (arith, a .length-is, ap length (a .out-is), length-append t (drop (length t) o))
+
+-- demand 3 and 02, job 6, of the program: of an accepted text it writes the first of all keys, and its counts
+pub record WritesFirstKey (input : List ℕ) : Type 0 where
+  pub text-is : answerTo input ≡ keyAndCounts (readNest input .nest-is) (keyOf (readNest input .nest-is))
+  pub is-first : IsFirstKey (readNest input .nest-is) (keyOf (readNest input .nest-is))
+
+pub answers-first-key
+    : (input : List ℕ)
+    → length input ≤ LONGEST
+    → readNest input .number ≡ 0
+    → WritesFirstKey input
+answers-first-key input short h =
+    record {
+      text-is = program-read input (keyOf (readNest input .nest-is)) short h;
+      is-first = one-key .is-first input h;
+    }

@@ -1,15 +1,15 @@
--- What the program's one function promises: the bytes of the program's definition, for a key of the nest.
--- Main definition: `Answered`.
+-- What the program's one function promises: the bytes of the program's definition, for the key of the nest.
+-- Main definitions: `answerTo`, `Answered`.
 use mathlib.Core.Path.{_≡_}
 use mathlib.Core.List.{List, _++_}
 use Prim.Native.Nat.{ℕ}
 use lib.ListN.{length}
 use Rattle.nests.specs.Nests.{Dep, Nest, nest}
 use Rattle.lines.specs.Writing.{over}
-use Rattle.placements.specs.Keys.{IsKey}
 use Rattle.texts.specs.NestTexts.{readNest}
 use Rattle.texts.specs.PlacementTexts.{keyText}
 use Rattle.texts.specs.Program.{countsText, programText}
+use Rattle.keys.specs.KeyOf.{keyOf}
 
 -- the bytes that a buffer must have for every answer
 abbrev pub ROOM : ℕ
@@ -28,10 +28,11 @@ pub record CountsSay (ps gs out out′ : List ℕ) (r : ℕ) : Type 0 where
 abbrev pub keyAndCounts : Nest → List ℕ → List ℕ
 keyAndCounts n key = keyText key ++ countsText n key
 
--- 01, "The program": the program's text over the start of the buffer, and its length. The key is a key of the nest that
--- the input spells, where it is accepted
+-- 01, "The program": what is written for an input; 02, job 6: with the key of the nest that it spells
+abbrev pub answerTo : List ℕ → List ℕ
+answerTo input = programText input (keyOf (readNest input .nest-is))
+
+-- over the start of the buffer, and its length
 pub record Answered (input out out′ : List ℕ) (r : ℕ) : Type 0 where
-  pub key : List ℕ
-  pub is-key : readNest input .number ≡ 0 → IsKey (readNest input .nest-is) key
-  pub length-is : r ≡ length (programText input key)
-  pub out-is : out′ ≡ over (programText input key) out
+  pub length-is : r ≡ length (answerTo input)
+  pub out-is : out′ ≡ over (answerTo input) out

@@ -33,6 +33,7 @@ fn main() {
     report(17, case_17());
     report(18, case_18());
     report(19, case_19());
+    report(20, case_20());
 }
 
 // Writes a case's line.
@@ -80,10 +81,11 @@ fn case_6(q: Desk) -> bool
     has_key(q, b"2102\n2106\n") && has_count(q, 0, 1) && has_count(q, 2, 0) && has_count(q, 3, 1)
 }
 
-// R: count 2. Each two intervals share a gap (2, 4 and 6), all three share none.
+// R: count 2. Each two intervals share a gap (2, 4 and 6), all three share none. Of its keys, 1 and 4 is the first.
 fn case_8() -> bool {
     let r = paper_r();
-    has_count(r, 0, 2)
+    has_key(r, b"2101\n2104\n")
+        && has_count(r, 0, 2)
         && is_uncut(r, b"2101\n", 0)
         && is_uncut(r, b"2102\n", 1)
         && is_uncut(r, b"2103\n", 1)
@@ -96,10 +98,11 @@ fn case_8() -> bool {
         && is_best(r, b"2103\n2106\n")
 }
 
-// A statement that depends on itself a turn before: gaps 1 and 2, count 1.
+// A statement that depends on itself a turn before: gaps 1 and 2, count 1; either is a key, and 1 is the first.
 fn case_9() -> bool {
     let desk = planned(b"01\n03\n02\n12000101\n");
-    has_count(desk, 0, 1)
+    has_key(desk, b"2101\n")
+        && has_count(desk, 0, 1)
         && is_uncut(desk, b"", 0)
         && is_best(desk, b"2101\n")
         && is_best(desk, b"2102\n")
@@ -251,6 +254,21 @@ fn case_19() -> bool {
         && takes_back(forgotten, 13, 0)
 }
 
+// One key for one paper: not the last of equals, 1 and 3; not what is first inside loop 1 only, 2 and 4. R goes over
+// with another of its keys and gets the first.
+fn case_20() -> bool {
+    let either = planned(b"01\n03\n03\n02\n110001\n110103\n");
+    let crossed = planned(b"01\n01\n03\n02\n02\n110002\n110103\n110204\n");
+    let r = paper_r();
+    let gone = gone_over_with(r, b"2104\n2107\n");
+    has_key(either, b"2101\n2102\n")
+        && is_best(either, b"2101\n2103\n")
+        && has_key(crossed, b"2101\n2103\n")
+        && is_best(crossed, b"2102\n2104\n")
+        && is_best(r, b"2104\n2107\n")
+        && has_key(gone, b"2101\n2104\n")
+}
+
 // Put replies this.
 fn puts(desk: Desk, gap: usize, number: u8, uncut: usize) -> bool
     requires { ⌜ IsMade desk ⌝ }
@@ -376,6 +394,22 @@ fn gone_over(desk: Desk) -> Desk
 {
     let nest = desk.nest;
     let key = desk.key;
+    desk::go_over(PlainDesk {
+        loaded: desk.loaded,
+        nest: nest,
+        planned: desk.planned,
+        key: key,
+    })
+}
+
+// The same with the key of a text in place of the desk's.
+fn gone_over_with(desk: Desk, text: &[u8]) -> Desk
+    requires { ⌜ IsMade desk ⌝ }
+    ensures { λ r. ⌜ IsMade r ⌝ }
+{
+    let nest = desk.nest;
+    let reading = texts::read_placement(nest.count, text);
+    let key = reading.placement;
     desk::go_over(PlainDesk {
         loaded: desk.loaded,
         nest: nest,

@@ -5,5 +5,7 @@ pub mod Ready
 pub mod Answers
 pub mod Judged
 pub mod Made
+pub mod TwoDesks
+pub mod Over
 pub mod Plans
 pub mod ListCases

@@ -13,7 +13,7 @@ use Rattle.nests.specs.Stored.{nestIn, IsCounted}
 use Rattle.nests.proofs.Deps.{Valid, valid-is}
 use Rattle.placements.specs.Placements.{areGapsFrom, areGaps}
 use Rattle.placements.specs.Words.{gapsIn}
-use Rattle.placements.proofs.Cuts.{correct-gaps}
+use Rattle.keys.proofs.KeyGaps.{valid-gaps}
 use Rattle.texts.specs.PlacementTexts.{Placed, placed, readPlacement}
 use Rattle.texts.proofs.PlacedTexts.{read-gaps}
 use Rattle.desk.specs.declared.Desk as DD
@@ -46,7 +46,7 @@ ready d m h =
       valid = v;
       shape = w .shape;
       few = w .few-points;
-      key-gaps = correct-gaps (nestIn (d .nest)) (gapsIn (d .key .words)) (m .paper .is-key (b .1) .correct);
+      key-gaps = rw (m .paper .key-is (b .1)) (valid-gaps (nestIn (d .nest)) v);
     }
 
 -- the gaps that were read

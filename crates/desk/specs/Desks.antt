@@ -1,5 +1,6 @@
 -- Desks: a nest at most, a key at most, the candidate's sitting and moves; numbers 10 and 11; what the calls answer.
--- Main definitions: `Desk`, `withPlay`, `deskIn`, `IsMade`, `IsMadePlain`, `stateFault`, `listFault`, `listUncut`.
+-- Main definitions: `Desk`, `withPlay`, `withKey`, `deskIn`, `overIn`, `IsMade`, `IsMadePlain`, `stateFault`,
+-- `listFault`, `listUncut`.
 use mathlib.Core.Path.{_≡_}
 use mathlib.Core.Bool.{Bool, true, false, _&&_, _||_, not}
 use mathlib.Core.List.{List, [], _∷_}
@@ -12,7 +13,7 @@ use Rattle.nests.specs.Valid.{isValid, depFault}
 use Rattle.nests.specs.Stored.{nestIn, IsCounted}
 use Rattle.placements.specs.Placements.{cuts}
 use Rattle.placements.specs.Words.{gapsIn}
-use Rattle.placements.specs.Keys.{IsKey}
+use Rattle.keys.specs.KeyOf.{keyOf}
 use Rattle.sitting.specs.Kept.{barriers, Kept}
 use Rattle.moves.specs.declared.Move as DM
 use Rattle.moves.specs.Ring.{movesIn, IsRing}
@@ -49,7 +50,11 @@ playOn x = play (x .sitting) (x .moves)
 abbrev pub withPlay : Play (List ℕ) DM.Move → Desk → Desk
 withPlay p x = desk (x .hasNest) (x .nest-is) (x .hasKey) (x .key) (p .state) (p .kept)
 
--- what the code's desk holds; what one of the kind before sittings holds, with an empty sitting and no moves
+-- 02, job 6: "the key becomes a function of the nest"
+abbrev pub withKey : Desk → Desk
+withKey x = desk (x .hasNest) (x .nest-is) true (keyOf (x .nest-is)) (x .sitting) (x .moves)
+
+-- what the code's desk holds
 abbrev pub deskIn : DD.Desk → Desk
 deskIn d =
     desk
@@ -60,14 +65,18 @@ deskIn d =
     (barriers (d .sitting))
     (movesIn (d .moves))
 
-abbrev pub plainIn : OD.PlainDesk → Desk
-plainIn d = desk (d .loaded) (nestIn (d .nest)) (d .planned) (gapsIn (d .key .words)) [] []
+-- 02, job 4: a desk of the kind before sittings goes over with its nest and an empty sitting; 02, job 6: one "with a
+-- key now gets this one in its place"
+abbrev pub overIn : OD.PlainDesk → Desk
+overIn d =
+    let x = desk (d .loaded) (nestIn (d .nest)) false [] [] [] in
+    pick (d .planned) (withKey x) x
 
 -- 01, "The desk": desks come only from these calls; this is what such a desk holds. Its moves led to its sitting.
 pub record IsPaper (x : Desk) : Type 0 where
   pub valid : x .hasNest ≡ true → isValid (x .nest-is) ≡ true
   pub no-nest : x .hasNest ≡ false → x ≡ emptyDesk
-  pub is-key : x .hasKey ≡ true → IsKey (x .nest-is) (x .key)
+  pub key-is : x .hasKey ≡ true → x .key ≡ keyOf (x .nest-is)
   pub no-key : x .hasKey ≡ false → x .key ≡ []
   pub led : History (sittingGame (x .nest-is)) (x .moves) (x .sitting)
 
@@ -78,10 +87,12 @@ pub record IsMade (d : DD.Desk) : Type 0 where
   pub kept : Kept (nestIn (d .nest)) (d .sitting)
   pub ring : IsRing (d .moves)
 
--- one of the kind before sittings
+-- one of the kind before sittings, whatever its key
 pub record IsMadePlain (d : OD.PlainDesk) : Type 0 where
   pub counted : IsCounted (d .nest)
-  pub paper : IsPaper (plainIn d)
+  pub valid : d .loaded ≡ true → isValid (nestIn (d .nest)) ≡ true
+  pub no-nest : d .loaded ≡ false → nestIn (d .nest) ≡ empty
+  pub no-key : d .loaded ≡ false → d .planned ≡ false
 
 -- 01, "Numbers from the state": 10, no nest; 11, a nest but no key
 abbrev pub stateFault : Bool → Desk → ℕ

@@ -2,3 +2,4 @@
 pub mod Desks
 pub mod Says
 pub mod Since
+pub mod TwoDesks

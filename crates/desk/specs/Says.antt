@@ -12,7 +12,6 @@ use Rattle.nests.specs.Loops.{isDo}
 use Rattle.nests.specs.Stored.{nestIn, IsCounted}
 use Rattle.lines.specs.Writing.{over}
 use Rattle.placements.specs.Placements.{loopCount}
-use Rattle.placements.specs.Keys.{IsKey}
 use Rattle.placements.specs.Verdicts.{Verdict, Uncut, Dearer, Best, markOf}
 use Rattle.sitting.specs.Kept.{Kept}
 use Rattle.moves.specs.Ring.{IsRing}
@@ -26,8 +25,8 @@ use Rattle.desk.specs.declared.Marked as DM
 use Rattle.desk.specs.declared.Verdict as DV
 use Rattle.desk.specs.declared.Verdict.the-variants as VV
 use Rattle.desk.specs.declared.Marked.the-variants as MV
-use Rattle.desk.specs.Desks.{Desk, emptyDesk, loadedDesk, deskIn, plainIn, stateFault}
-use Rattle.desk.specs.Desks.{Fault, fault, listFault, listUncut}
+use Rattle.desk.specs.Desks.{Desk, emptyDesk, loadedDesk, withKey, deskIn, overIn, stateFault, Fault, fault}
+use Rattle.desk.specs.Desks.{listFault, listUncut}
 
 -- the desk holds this; its nest's counts are those of the nest, its sitting's those of a fresh count, and its moves
 -- stand in a ring
@@ -48,20 +47,11 @@ pub record LoadSays (d : DD.Desk) (s : List ℕ) (r : DR.Reply) : Type 0 where
   pub line-is : r .line ≡ readNest s .place
   pub desk-is : pickT (eqb (readNest s .number) 0) (Holds (r .desk) (loadedDesk (readNest s .nest-is))) (r .desk ≡ d)
 
--- the desk has the same nest, and a key of it
-pub record PlannedAs (n : Nest) (d : DD.Desk) : Type 0 where
-  pub counted : IsCounted (d .nest)
-  pub has-nest : d .loaded ≡ true
-  pub same-nest : deskIn d .nest-is ≡ n
-  pub has-key : d .planned ≡ true
-  pub is-key : IsKey n (deskIn d .key)
-
--- Plan: 10; the key is any correct placement with the least tree; 02, job 4: it does not touch the sitting, with its
--- moves
+-- Plan: 10; the key is that of the nest; 02, job 4: it does not touch the sitting, nor the moves
 pub record PlanSays (d : DD.Desk) (r : DR.Reply) : Type 0 where
   pub number-is : r .number ≡ stateFault false (deskIn d)
   pub line-is : r .line ≡ 0
-  pub desk-is : pickT (eqb (stateFault false (deskIn d)) 0) (PlannedAs (deskIn d .nest-is) (r .desk)) (r .desk ≡ d)
+  pub desk-is : pickT (eqb (stateFault false (deskIn d)) 0) (Holds (r .desk) (withKey (deskIn d))) (r .desk ≡ d)
   pub sitting-is : r .desk .sitting ≡ d .sitting
   pub moves-are : r .desk .moves ≡ d .moves
 
@@ -137,6 +127,7 @@ pub record ListSays (d : DD.Desk) (es : List Dep) (r : DA.Answer) : Type 0 where
       (listUncut 1 (deskIn d .nest-is .points) es (deskIn d .key))
       0
 
--- 02, job 4: a desk in use goes over to the new kind with nest and key kept and an empty sitting; no move was made
+-- 02, jobs 4 and 6: a desk in use goes over to the new kind with its nest and an empty sitting, no move was made, and
+-- where it has a key it gets that of its nest
 abbrev pub OverSays : OD.PlainDesk → DD.Desk → Type 0
-OverSays old r = Holds r (plainIn old)
+OverSays old r = Holds r (overIn old)

@@ -219,22 +219,27 @@ pub fn reset(desk: Desk) -> Desk
     Desk::empty()
 }
 
-// A desk of the kind before sittings goes over: nest and key are kept, the sitting is empty, no move was made.
+// A desk of the kind before sittings goes over: the nest is kept, the sitting is empty, no move was made, and where
+// there was a key it is worked out anew.
 pub fn go_over(old: PlainDesk) -> Desk
     requires { ⌜ IsMadePlain old ⌝ }
     ensures { λ r. ⌜ OverSays old r ⌝ }
 {
     let nest = old.nest;
-    let key = old.key;
     let sitting = Sitting::empty(nest.many);
-    Desk {
+    let desk = Desk {
         loaded: old.loaded,
         nest: nest,
-        planned: old.planned,
-        key: key,
+        planned: false,
+        key: Placement::empty(),
         sitting: sitting,
         moves: Moves::empty(),
+    };
+    if old.planned {
+        let reply = plan_key(desk);
+        return reply.desk;
     }
+    desk
 }
 
 // How a placement stands beside the key.

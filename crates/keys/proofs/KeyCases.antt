@@ -1,5 +1,5 @@
--- 01, "Papers with known results": the keys of the starred cases. Each is computed from `keyOf`, is a key by the
--- planner's theorem, and every other key of its paper has the same counts.
+-- 01, "Papers with known results": the keys of the starred cases. Each is computed from `keyOf`, is the first of its
+-- paper's keys by the planner's theorem, and every other has the same counts.
 -- Main statements: `computed-keys`, `starred-keys` (over the table of cases), `case-1-program`, `case-11-program`.
 use mathlib.Core.Path.{_≡_, refl, _∙_}
 use mathlib.Core.Bool.{true}
@@ -26,7 +26,8 @@ use Rattle.planner.specs.Sweep.{childSome, someOf, costOf, frontOf, leftOf, cho
 use Rattle.planner.specs.Plan.{tableOf, tableFrom, withRow, noTables}
 use Rattle.planner.specs.Plan as Plan
 use Rattle.keys.specs.KeyOf.{keyOf}
-use Rattle.keys.proofs.KeyIsKey.{key-is-key}
+use Rattle.keys.specs.OneKey.{IsFirstKey}
+use Rattle.keys.proofs.KeyFirst.{key-is-first}
 use Rattle.keys.proofs.Sizes.{keys-same-counts, keys-same-size}
 
 -- the keys as they are computed
@@ -58,9 +59,10 @@ computed-keys =
       of-P-forward = refl;
     }
 
--- a placement is a key of the paper, and all keys have its counts, in order of the loops' DO, and its number of gaps
+-- a placement is the first key of the paper, and all keys have its counts, in order of the loops' DO, and its number of
+-- gaps
 pub record HasKey (n : Nest) (key counts : List ℕ) : Type 0 where
-  pub is-key : IsKey n key
+  pub is-first : IsFirstKey n key
   pub all-counts : (gs : List ℕ) → IsKey n gs → countsOf n gs ≡ counts
   pub all-sizes : (gs : List ℕ) → IsKey n gs → length gs ≡ length key
 
@@ -71,12 +73,12 @@ by-theorem
     → countsOf n key ≡ counts
     → HasKey n key counts
 by-theorem n key counts valid e c =
-    let k : IsKey n key = rw e at (key-is-key n valid) in
+    let k : IsFirstKey n key = rw e at (key-is-first n valid) in
     let shape = valid-is n valid .shape in
     record {
-      is-key = k;
-      all-counts = λ gs h. keys-same-counts n shape gs key h k ∙ c;
-      all-sizes = λ gs h. keys-same-size n shape gs key h k;
+      is-first = k;
+      all-counts = λ gs h. keys-same-counts n shape gs key h (k .is-key) ∙ c;
+      all-sizes = λ gs h. keys-same-size n shape gs key h (k .is-key);
     }
 
 -- cases 1 to 5: P has key 5 and 11, counts 0, 1, 1 for loops 0, 1, 7

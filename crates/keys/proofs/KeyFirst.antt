@@ -1,8 +1,8 @@
 -- Of all the keys of a nest, the planner's is the first in list order, so it is the one that job 6 of the change
 -- requests asks for. Crate planner proves it of placements as predicates (`nest-first`); all keys have the same counts,
 -- and lists of one length.
--- Main statements: `key-first`, `first-only`; `fitting-first`, without the rule that a carried dependence has s at or
--- after t; `accepted-first`, of the nest that an accepted text spells.
+-- Main statements: `key-first`, `first-of-least-trees`, `key-is-first`, `first-only`; `fitting-first`, of points that
+-- make loops and dependences that are placed well.
 use mathlib.Core.Path.{_≡_, sym, _∙_}
 use mathlib.Core.Bool.{true}
 use mathlib.Core.List.{List}
@@ -13,19 +13,20 @@ use Rattle.nests.specs.Nests.{Nest}
 use Rattle.nests.specs.Loops.{isDo}
 use Rattle.nests.specs.Valid.{isShape, isValid}
 use Rattle.nests.proofs.Deps.{valid-is, deps-fit}
-use Rattle.placements.specs.Placements.{areGaps}
+use Rattle.placements.specs.Placements.{areGaps, isCorrect}
+use Rattle.placements.specs.Trees.{treeOf}
 use Rattle.placements.specs.Keys.{IsKey}
 use Rattle.placements.proofs.Cuts.{correct-gaps, correct-cuts}
-use Rattle.placements.proofs.Keys.{keys-agree}
+use Rattle.placements.proofs.Keys.{keys-agree, same-counts-key}
 use Rattle.placements.proofs.Rising.{rising-in}
+use Rattle.placements.proofs.TreeOrder.{equal-trees}
 use Rattle.planner.specs.Home.{loopsIn, keyIn}
 use Rattle.planner.proofs.Claim.{count}
 use Rattle.planner.proofs.Instance.{AllFit}
 use Rattle.planner.proofs.KeyFirst.{nest-first}
-use Rattle.texts.specs.NestTexts.{readNest}
-use Rattle.texts.proofs.Accepted.{accepted-valid}
 use Rattle.keys.specs.KeyOf.{keyOf}
 use Rattle.keys.specs.ListOrder.{firstInOrder}
+use Rattle.keys.specs.OneKey.{IsFirstKey}
 use Rattle.keys.proofs.KeyGaps.{key-gaps, in-key}
 use Rattle.keys.proofs.KeyIsKey.{fitting-key, key-is-key}
 use Rattle.keys.proofs.KeyLengths.{keys-length}
@@ -71,12 +72,21 @@ key-first n h =
     let v = valid-is n h in
     fitting-first n (v .shape) (deps-fit (n .points) (n .deps) (v .all-deps))
 
--- and no other key is
-pub first-only : (n : Nest) → isValid n ≡ true → (key : List ℕ) → IsKey n key →
-    ((gs : List ℕ) → IsKey n gs → firstInOrder key gs ≡ true) → key ≡ keyOf n
-first-only n h key k first = order-both key (keyOf n) (first (keyOf n) (key-is-key n h)) (key-first n h key k)
+-- 02, job 6, in its own words: of all correct placements with the least tree
+pub first-of-least-trees
+    : (n : Nest)
+    → isValid n ≡ true
+    → (gs : List ℕ)
+    → isCorrect n gs ≡ true
+    → treeOf n (keyOf n) ≡ treeOf n gs
+    → firstInOrder (keyOf n) gs ≡ true
+first-of-least-trees n h gs c e =
+    let shape = valid-is n h .shape in
+    key-first n h gs (same-counts-key n shape (keyOf n) gs (key-is-key n h) c (equal-trees n shape (keyOf n) gs .0 e))
 
--- of the nest that an accepted text spells
-pub accepted-first : (s gs : List ℕ) → readNest s .number ≡ 0 → IsKey (readNest s .nest-is) gs →
-    firstInOrder (keyOf (readNest s .nest-is)) gs ≡ true
-accepted-first s gs h k = key-first (readNest s .nest-is) (accepted-valid s h) gs k
+-- the key of a nest is its first key, and no other placement is
+pub key-is-first : (n : Nest) → isValid n ≡ true → IsFirstKey n (keyOf n)
+key-is-first n h = record { is-key = key-is-key n h; first = key-first n h }
+
+pub first-only : (n : Nest) → isValid n ≡ true → (key : List ℕ) → IsFirstKey n key → key ≡ keyOf n
+first-only n h key k = order-both key (keyOf n) (k .first (keyOf n) (key-is-key n h)) (key-first n h key (k .is-key))

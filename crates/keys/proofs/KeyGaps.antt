@@ -1,5 +1,5 @@
 -- What the key is as a list: rising gaps, those that the planner's placement holds, and no other list has them.
--- Main statements: `key-gaps`, `in-key`, `is-key-of`, `words-of-key`.
+-- Main statements: `key-gaps`, `in-key`, `is-key-of`, `words-of-key`; of a valid nest, `planned-words`, `valid-gaps`.
 use mathlib.Core.Path.{_≡_, sym, _∙_}
 use mathlib.Core.Bool.{Bool, true, false}
 use mathlib.Core.List.{List}
@@ -10,7 +10,8 @@ use lib.ListN.{length}
 use Rattle.laws.specs.Choice.{isIn}
 use Rattle.laws.proofs.Tests.{le-or, false-by}
 use Rattle.nests.specs.Nests.{Nest}
-use Rattle.nests.specs.Valid.{isShape}
+use Rattle.nests.specs.Valid.{isShape, isValid}
+use Rattle.nests.proofs.Deps.{valid-is, deps-fit}
 use Rattle.nests.proofs.Loops.{outermost}
 use Rattle.placements.specs.Placements.{areGaps}
 use Rattle.placements.specs.Words.{GAPS, holds, gapsOf, gapsIn}
@@ -88,3 +89,18 @@ module _ (n : Nest) (shape : isShape (n .points) ≡ true) (fit : AllFit (n .poi
           (λ (z : GAPS ≤ g). in-gaps-beyond ws g z ∙ sym (false-by (λ h. omega (arith, planned .high g h))))
           (λ (z : g < GAPS). in-gaps ws g z ∙ same g z)
           (le-or GAPS g)
+
+-- of a valid nest: what the planner's code gives is the key
+pub planned-words
+    : (n : Nest) (ws : List ℕ)
+    → isValid n ≡ true
+    → ((g : ℕ) → holds ws g ≡ keyIn (n .points) (n .deps) g)
+    → gapsIn ws ≡ keyOf n
+planned-words n ws h same =
+    let v = valid-is n h in
+    words-of-key n (v .shape) (deps-fit (n .points) (n .deps) (v .all-deps)) ws (v .few-points) (λ g l. same g)
+
+pub valid-gaps : (n : Nest) → isValid n ≡ true → areGaps n (keyOf n) ≡ true
+valid-gaps n h =
+    let v = valid-is n h in
+    key-gaps n (v .shape) (deps-fit (n .points) (n .deps) (v .all-deps))

@@ -10,5 +10,7 @@ pub mod KeyFirst
 pub mod Sizes
 pub mod Marking
 pub mod RingKey
+pub mod OneKey
 pub mod KeyCases
+pub mod FirstCases
 pub mod Excluded

@@ -58,8 +58,8 @@ plan-stays d r m h = go (d .loaded) refl
         let p = plan-makes d r a h in
         record {
           made = made-plan d r m h;
-          has-nest = p .has-nest ∙ sym a;
-          nest-is = p .same-nest;
+          has-nest = ap (λ (x : Desk). x .hasNest) (p .holds);
+          nest-is = ap (λ (x : Desk). x .nest-is) (p .holds);
           play-is = rw (h .sitting-is, h .moves-are);
         }
     go false a = stays-same d (r .desk) m (plan-keeps d r a h)

@@ -71,12 +71,13 @@ pub fn step_child(
     ensures { λ r. ⌜ Stepped (now (need .entry)) (now (left .entry)) kids l p c f (r .c) (r .f) (r .ask) ⌝ }
 {
     let b = last_need(need, f, l, p + 1);
-    let first = left[kids + (l + 1)];
+    let start = l + 1;
+    let first = left[kids + start];
     if b == 0 {
         return Step {
             c: c,
             f: first_or(first, f),
-            ask: l + 1,
+            ask: start,
         };
     }
     if b <= p {
@@ -87,13 +88,13 @@ pub fn step_child(
         return Step {
             c: c + 1,
             f: first_or(first, p + 1),
-            ask: l + 1,
+            ask: start,
         };
     }
     Step {
         c: c + 1,
         f: first_or(first, p + 1),
-        ask: l + 1,
+        ask: start,
     }
 }
 

@@ -1,15 +1,15 @@
 -- `over` meets its contract: a made desk's nest and key are a made desk of the old kind (`made-plain`).
-use Rattle.desk.proofs.Made.{made-plain, made-over}
+use Rattle.desk.proofs.Over.{made-plain, made-over}
 use Rattle.seat.proofs.over.Statement.{statement}
 use Rattle.seat.proofs.over.Tie as tie
 
 go-over-requires : tie.Need-go-over-requires
-go-over-requires c κs = made-plain (c .before .before .args .desk) (c .before .before .pre)
+go-over-requires c κs = made-plain (c .before .before .args .desk) _ (c .before .before .pre)
 
 returns : tie.Need-returns
 returns c =
     let s = c .before .before .before in
-    made-over _ (c .go-over .result) (made-plain (s .args .desk) (s .pre)) (c .go-over .ensures)
+    made-over _ (c .go-over .result) (made-plain (s .args .desk) (s .args .desk .key) (s .pre)) (c .go-over .ensures)
 
 pub over-spec : {M : Type 1} → statement M
 over-spec = tie.close (tie.spec go-over-requires returns)

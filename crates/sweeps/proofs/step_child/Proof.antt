@@ -12,11 +12,11 @@ add-last-need c = search needs
 last-need-requires : tie.Need-last-need-requires
 last-need-requires c κs = search needs
 
+add-start : tie.Need-add-start
+add-start c = search needs
+
 add-first : tie.Need-add-first
 add-first c = search needs
-
-add-first-2 : tie.Need-add-first-2
-add-first-2 c = search needs
 
 mul-first : tie.Need-mul-first
 mul-first c = search needs
@@ -26,9 +26,6 @@ shared-slice-read-first c = search needs
 
 first-or-requires : tie.Need-first-or-requires
 first-or-requires c κs = search needs
-
-add-t18 : tie.Need-add-t18
-add-t18 c = search needs
 
 returns : tie.Need-returns
 returns c =
@@ -60,17 +57,14 @@ returns-2 c =
     step-inner (i .need .now) (i .left .now) (i .kids) (i .l) (i .p) (i .c) (i .f) (b .result) (b .ensures)
     (b3 .if1 .left) (b2 .if2 .taken) (c .if3 .taken)
 
-add-t19 : tie.Need-add-t19
-add-t19 c = search needs
+add-t18 : tie.Need-add-t18
+add-t18 c = search needs
 
 add-first-or : tie.Need-add-first-or
 add-first-or c = search needs
 
 first-or-requires-2 : tie.Need-first-or-requires-2
 first-or-requires-2 c κs = search needs
-
-add-t24 : tie.Need-add-t24
-add-t24 c = search needs
 
 returns-3 : tie.Need-returns-3
 returns-3 c =
@@ -83,17 +77,14 @@ returns-3 c =
     step-outer (i .need .now) (i .left .now) (i .kids) (i .l) (i .p) (i .c) (i .f) (b .result) (b .ensures)
     (c .first-or2 .result) (b4 .if1 .left) (λ _. b1 .if3 .left) (c .first-or2 .ensures)
 
-add-t11 : tie.Need-add-t11
-add-t11 c = search needs
+add-t12 : tie.Need-add-t12
+add-t12 c = search needs
 
 add-first-or-2 : tie.Need-add-first-or-2
 add-first-or-2 c = search needs
 
 first-or-requires-3 : tie.Need-first-or-requires-3
 first-or-requires-3 c κs = search needs
-
-add-t15 : tie.Need-add-t15
-add-t15 c = search needs
 
 returns-4 : tie.Need-returns-4
 returns-4 c =
@@ -113,24 +104,21 @@ step-child-spec =
     (tie.spec
     add-last-need
     last-need-requires
+    add-start
     add-first
-    add-first-2
     mul-first
     shared-slice-read-first
     first-or-requires
-    add-t18
     returns
     add-g
     mul-g
     shared-slice-read-g
     returns-2
-    add-t19
+    add-t18
     add-first-or
     first-or-requires-2
-    add-t24
     returns-3
-    add-t11
+    add-t12
     add-first-or-2
     first-or-requires-3
-    add-t15
     returns-4)

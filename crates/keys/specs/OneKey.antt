@@ -1,0 +1,43 @@
+-- One key for one paper: which of the keys is the key.
+-- Main definitions: `IsFirstKey`, `IsFirstSmallest`, `One-key`.
+use mathlib.Core.Path.{_≡_}
+use mathlib.Core.Bool.{true}
+use mathlib.Core.List.{List}
+use Prim.Native.Nat.{ℕ, _≤_}
+use lib.ListN.{length}
+use Rattle.nests.specs.Nests.{Nest}
+use Rattle.nests.specs.Ring.{oneLoop}
+use Rattle.placements.specs.Placements.{isCorrect}
+use Rattle.placements.specs.Keys.{IsKey}
+use Rattle.texts.specs.NestTexts.{readNest}
+use Rattle.keys.specs.KeyOf.{keyOf}
+use Rattle.keys.specs.ListOrder.{firstInOrder}
+
+-- 02, job 6: "Of all correct placements with the least tree, the key is now the one whose rising list has the smaller
+-- gap at the first place where two lists differ."
+pub record IsFirstKey (n : Nest) (key : List ℕ) : Type 0 where
+  pub is-key : IsKey n key
+  pub first : (gs : List ℕ) → IsKey n gs → firstInOrder key gs ≡ true
+
+-- 02, job 6: "For a nest of one loop the planner promises the same": the first of the smallest correct sets of gaps
+pub record IsFirstSmallest (n : Nest) (key : List ℕ) : Type 0 where
+  pub correct : isCorrect n key ≡ true
+  pub smallest : (gs : List ℕ) → isCorrect n gs ≡ true → length key ≤ length gs
+  pub first : (gs : List ℕ) → isCorrect n gs ≡ true → length gs ≤ length key → firstInOrder key gs ≡ true
+
+-- 02, job 6: "the key becomes a function of the nest", here the one that an accepted text spells
+pub record One-key : Type 0 where
+  pub is-first
+      : (s : List ℕ)
+      → readNest s .number ≡ 0
+      → IsFirstKey (readNest s .nest-is) (keyOf (readNest s .nest-is))
+  pub no-other
+      : (s key : List ℕ)
+      → readNest s .number ≡ 0
+      → IsFirstKey (readNest s .nest-is) key
+      → key ≡ keyOf (readNest s .nest-is)
+  pub one-loop
+      : (s : List ℕ)
+      → readNest s .number ≡ 0
+      → oneLoop (readNest s .nest-is .points) ≡ true
+      → IsFirstSmallest (readNest s .nest-is) (keyOf (readNest s .nest-is))
