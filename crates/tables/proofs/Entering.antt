@@ -121,8 +121,8 @@ module _ (ps : List ℕ) (w : Points ps) (heights : List ℕ) (tall : HeightsAre
       line-entered f x x-is =
           record {
             reach-is =
-                ends-lowered (startsAt ps) ds e reach (room .reach-room) x (e .s + 1) (o .loop) (omega (arith, o .below))
-                (omega (arith, o .holds, f .forward)) hit once (p .reach-is);
+                ends-lowered (startsAt ps) ds e reach (room .reach-room) x (e .s + 1) (o .loop)
+                (omega (arith, o .below)) (omega (arith, o .holds, f .forward)) hit once (p .reach-is);
             back-is = ends-kept ps heights (leavesAt ps) ds e back (λ d q. rw (f .kind-is)) (p .back-is);
             has-is = has-more ds e has x (omega (arith, line-there e f x x-is .0, room .has-room)) home-is (p .has-is);
           }

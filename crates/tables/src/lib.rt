@@ -31,7 +31,8 @@ pub fn prepare(
     requires { ⌜ AllFit (nestIn nest .points) (nestIn nest .deps) ⌝ }
     requires { ⌜ ChartRoom (now own) (now ends) (now heights) ⌝ }
     requires { ⌜ LinesRoom (now reach) (now limit) (now has) ⌝ }
-    ensures { λ r. ⌜ Prepared (nestIn nest .points) (nestIn nest .deps) (now (own .exit)) (now (ends .exit)) (now (heights .exit)) (now (reach .exit)) (now (limit .exit)) (now (has .exit)) ⌝ }
+    ensures { λ r. ⌜ Prepared (nestIn nest .points) (nestIn nest .deps) (now (own .exit)) (now (ends .exit))
+        (now (heights .exit)) (now (reach .exit)) (now (limit .exit)) (now (has .exit)) ⌝ }
 {
     let n = nest.count;
     let points = nest.points;
@@ -86,7 +87,8 @@ fn collect(
     requires { ⌜ LinesRoom (now reach) (now back) (now has) ⌝ }
     requires { ⌜ IsCounted nest ⌝ }
     requires { ⌜ AllFit (now points) (nestIn nest .deps) ⌝ }
-    ensures { λ r. ⌜ Collected (now (points .entry)) (nestIn nest .deps) (now (heights .entry)) (now (reach .exit)) (now (back .exit)) (now (has .exit)) ⌝ }
+    ensures { λ r. ⌜ Collected (now (points .entry)) (nestIn nest .deps) (now (heights .entry))
+        (now (reach .exit)) (now (back .exit)) (now (has .exit)) ⌝ }
 {
     fill(reach, points.len());
     fill(back, points.len());
@@ -115,7 +117,9 @@ fn enter(
     requires { ⌜ ChartRoom (now own) (now ends) (now heights) ⌝ }
     requires { ⌜ LinesRoom (now reach) (now back) (now has) ⌝ }
     requires { ⌜ Fits (now points) (depIn e) ⌝ }
-    ensures { λ r. ⌜ Entered (now (points .entry)) (now (heights .entry)) (depIn e) (now (reach .entry)) (now (back .entry)) (now (has .entry)) (now (reach .exit)) (now (back .exit)) (now (has .exit)) ⌝ }
+    ensures { λ r. ⌜ Entered (now (points .entry)) (now (heights .entry)) (depIn e)
+        (now (reach .entry)) (now (back .entry)) (now (has .entry))
+        (now (reach .exit)) (now (back .exit)) (now (has .exit)) ⌝ }
 {
     let s = e.s as usize;
     let t = e.t as usize;

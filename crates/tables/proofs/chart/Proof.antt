@@ -17,6 +17,10 @@ Inv-loop points own₀ ends₀ heights₀ o₀ h₀ i₀ own ends heights o h i 
 abbrev μ-loop : tie.MeasureT-loop
 μ-loop points own₀ ends₀ heights₀ o₀ h₀ i₀ own ends heights o h i = length points - i
 
+-- the call, from the loop
+abbrev called : tie.At-loop Inv-loop μ-loop → tie.Start Inv-loop μ-loop
+called c = c .before .before .before .before .before .before .before .before .before
+
 fill-requires : tie.Need-fill-requires Inv-loop μ-loop
 fill-requires c κs = search needs
 
@@ -47,9 +51,10 @@ slice-write-heights c = search needs
 
 sub-h : tie.Need-sub-h Inv-loop μ-loop
 sub-h c =
-    let a = c .before .before .before .before .before .before .before .before .before .before .before .before .args in
-    let w = c .before .before .before .before .before .before .before .before .before .before .before .before .pre .0 in
-    let l = c .before .before .before .loop in
+    let k = c .before .before .before in
+    let a = called k .args in
+    let w = called k .pre .0 in
+    let l = k .loop in
     height-there (a .points .now) w (l .i) (l .o) (l .h) (l .own) (l .ends) (l .heights) (l .inv .0)
     (omega arith) (c .if1 .taken)
 
@@ -61,9 +66,10 @@ loop-less c = search needs
 
 loop-again : tie.Need-loop-again Inv-loop μ-loop
 loop-again c =
-    let a = c .before .before .before .before .before .before .before .before .before .before .before .before .args in
-    let w = c .before .before .before .before .before .before .before .before .before .before .before .before .pre .0 in
-    let l = c .before .before .before .loop in (
+    let k = c .before .before .before in
+    let a = called k .args in
+    let w = called k .pre .0 in
+    let l = k .loop in (
       on-do (a .points .now) w (l .i) (l .o) (l .h) (l .own) (l .ends) (l .heights) (l .inv .0)
           (omega arith) (c .if1 .taken),
       simp length-set (omega arith),
@@ -92,9 +98,10 @@ loop-less-2 c = search needs
 
 loop-again-2 : tie.Need-loop-again-2 Inv-loop μ-loop
 loop-again-2 c =
-    let a = c .before .before .before .before .before .before .before .before .before .before .before .before .before .before .args in
-    let w = c .before .before .before .before .before .before .before .before .before .before .before .before .before .before .pre .0 in
-    let l = c .before .before .before .before .before .loop in (
+    let k = c .before .before .before .before .before in
+    let a = called k .args in
+    let w = called k .pre .0 in
+    let l = k .loop in (
       on-end (a .points .now) w (l .i) (l .o) (l .h) (l .own) (l .ends) (l .heights) (l .inv .0)
           (omega arith) (c .before .before .if1 .left) (c .before .if2 .taken),
       simp length-set (omega arith),
@@ -108,9 +115,10 @@ loop-less-3 c = search needs
 
 loop-again-3 : tie.Need-loop-again-3 Inv-loop μ-loop
 loop-again-3 c =
-    let a = c .before .before .before .before .before .before .before .before .before .before .before .before .before .args in
-    let w = c .before .before .before .before .before .before .before .before .before .before .before .before .before .pre .0 in
-    let l = c .before .before .before .before .loop in (
+    let k = c .before .before .before .before in
+    let a = called k .args in
+    let w = called k .pre .0 in
+    let l = k .loop in (
       on-plain (a .points .now) w (l .i) (l .o) (l .h) (l .own) (l .ends) (l .heights) (l .inv .0)
           (omega arith) (c .before .if1 .left) (c .if2 .left),
       simp length-set (omega arith),
@@ -127,9 +135,10 @@ same-length-3 c = search needs
 
 returns : tie.Need-returns Inv-loop μ-loop
 returns c =
-    let a = c .before .before .before .before .before .before .before .before .before .before .args in
-    let w = c .before .before .before .before .before .before .before .before .before .before .pre .0 in
-    let l = c .before .loop in
+    let k = c .before in
+    let a = called k .args in
+    let w = called k .pre .0 in
+    let l = k .loop in
     chart-done (a .points .now) w (l .i) (l .o) (l .h) (l .own) (l .ends) (l .heights)
     (c .loop-test .left) (l .inv .0)
 

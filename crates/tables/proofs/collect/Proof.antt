@@ -17,6 +17,12 @@ Inv-loop points own ends heights reach₀ back₀ has₀ nest i₀ reach back ha
 abbrev μ-loop : tie.MeasureT-loop
 μ-loop points own ends heights reach₀ back₀ has₀ nest i₀ reach back has i = i
 
+-- the call, from before the loop
+abbrev called : tie.After-slice-known6 Inv-loop μ-loop → tie.Start Inv-loop μ-loop
+called c =
+    let f = c .before .before .before .before .before .before .before .before .before .before in
+    f .before .before .before .before .before .before .before .before .before
+
 fill-requires : tie.Need-fill-requires Inv-loop μ-loop
 fill-requires c κs = search needs
 
@@ -28,7 +34,7 @@ fill-requires-3 c κs = search needs
 
 loop-holds : tie.Need-loop-holds Inv-loop μ-loop
 loop-holds c =
-    let s = c .before .before .before .before .before .before .before .before .before .before .before .before .before .before .before .before .before .before .before in
+    let s = called c in
     let a = s .args in
     let w = s .pre in
     let r = c .before .before .before .before .before .before .before .before .before .before .fill in
@@ -55,8 +61,9 @@ element-copy-out-e c = search needs
 
 enter-requires : tie.Need-enter-requires Inv-loop μ-loop
 enter-requires c κs =
-    let l = c .before .before .before .before .before .loop in
-    let s = c .before .before .before .before .before .before .before .before .before .before .before .before .before .before .before .before .before .before .before .before .before .before .before .before .before in
+    let t = c .before .before .before .before in
+    let l = t .before .loop in
+    let s = called (t .before .before) in
     let a = s .args in
     let w = s .pre in (
       w .0,
@@ -66,8 +73,8 @@ enter-requires c κs =
           w .1 .1 .0,
           (
             l .inv .0 .room,
-            fits-here (a .points .now) (a .t1 .many) (a .t1 .deps) (w .1 .1 .1 .1 .0 .many-is) (l .i) (c .before .before .before .before .loop-test .taken)
-                (l .inv .0 .here) (w .1 .1 .1 .1 .1),
+            fits-here (a .points .now) (a .t1 .many) (a .t1 .deps) (w .1 .1 .1 .1 .0 .many-is) (l .i)
+                (t .loop-test .taken) (l .inv .0 .here) (w .1 .1 .1 .1 .1),
           ),
         ),
       ),
@@ -78,20 +85,24 @@ loop-less c = search needs
 
 loop-again : tie.Need-loop-again Inv-loop μ-loop
 loop-again c =
-    let l = c .before .before .before .before .before .before .before .before .before .before .before .before .loop in
+    let t = c .before .before .before .before .before .before .before .before .before .before .before in
+    let l = t .before .loop in
     let e = c .before .before .before .before .before .before .enter in
-    let s = c .before .before .before .before .before .before .before .before .before .before .before .before .before .before .before .before .before .before .before .before .before .before .before .before .before .before .before .before .before .before .before .before in
+    let s = called (t .before .before) in
     let a = s .args in
     let reach = e .last .1 .1 .1 .1 .0 in
     let back = e .last .1 .1 .1 .1 .1 .0 in
     let has = e .last .1 .1 .1 .1 .1 .1 .0 in
     let k = e .kept .1 .1 .1 .1 in (
       collect-on (a .points .now) (a .t1 .many) (a .t1 .deps) (s .pre .1 .1 .1 .1 .0 .many-is) (l .i)
-          (c .before .before .before .before .before .before .before .before .before .before .before .loop-test .taken) (l .inv .0 .here) (a .heights .now) (l .reach) (l .back) (l .has) reach back has
+          (t .loop-test .taken) (l .inv .0 .here) (a .heights .now) (l .reach) (l .back) (l .has) reach back has
           (l .inv .0)
           (room-kept (l .reach) (l .back) (l .has) reach back has (l .inv .0 .room) (k .0) (k .1 .0) (k .1 .1 .0))
           (e .ensures),
-      (omega (arith, k .0, l .inv .1 .0), (omega (arith, k .1 .0, l .inv .1 .1 .0), omega (arith, k .1 .1 .0, l .inv .1 .1 .1))),
+      (
+        omega (arith, k .0, l .inv .1 .0),
+        (omega (arith, k .1 .0, l .inv .1 .1 .0), omega (arith, k .1 .1 .0, l .inv .1 .1 .1)),
+      ),
     )
 
 same-length : tie.Need-same-length Inv-loop μ-loop
@@ -105,7 +116,7 @@ same-length-3 c = search needs
 
 returns : tie.Need-returns Inv-loop μ-loop
 returns c =
-    let a = c .before .before .before .before .before .before .before .before .before .before .before .before .before .before .before .before .before .before .before .before .before .args in
+    let a = called (c .before .before) .args in
     let l = c .before .loop in
     collect-done (a .points .now) (depsIn (a .t1 .many) (a .t1 .deps)) (a .heights .now) (l .i) (l .reach) (l .back)
     (l .has) (c .loop-test .left) (l .inv .0)

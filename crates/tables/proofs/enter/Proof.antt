@@ -11,32 +11,40 @@ use Rattle.tables.proofs.Entering.{is-line, is-back, line-there, back-t
 use Rattle.tables.proofs.enter.Statement.{statement}
 use Rattle.tables.proofs.enter.Tie as tie
 
+-- the call, from before the two arms
+abbrev called : tie.After-struct-known3 → tie.Start
+called c = c .before .before .before .before .before .before .before .before .before .before
+
 -- an independent dependence, its home, and its cell
-line-at : (c : tie.Then1) → Line (c .before .before .before .before .before .before .before .before .before .before .before .args .points .now) (depIn (c .before .before .before .before .before .before .before .before .before .before .before .args .e))
+line-at : (c : tie.Then1) → let a = called (c .before) .args in Line (a .points .now) (depIn (a .e))
 line-at c =
-    let a = c .before .before .before .before .before .before .before .before .before .before .before .args in
-    is-line (a .points .now) (depIn (a .e)) (c .before .before .before .before .before .before .before .before .before .before .before .pre .1 .1 .1 .1) (c .if1 .taken)
+    let s = called (c .before) in
+    let a = s .args in
+    is-line (a .points .now) (depIn (a .e)) (s .pre .1 .1 .1 .1) (c .if1 .taken)
 
 home-at :
     (c : tie.After-home-of) →
-    (c .home-of .result < POINTS) ×
-    (cell (c .before .before .before .before .before .before .before .before .before .before .before .before .args .heights .now) (c .home-of .result) (c .before .before .before .before .before .before .before .before .before .before .before .before .args .e .s + 1) < TABLE)
+    let a = called (c .before .before) .args in
+    (c .home-of .result < POINTS) × (cell (a .heights .now) (c .home-of .result) (a .e .s + 1) < TABLE)
 home-at c =
-    let a = c .before .before .before .before .before .before .before .before .before .before .before .before .args in
-    let w = c .before .before .before .before .before .before .before .before .before .before .before .before .pre in
+    let s = called (c .before .before) in
+    let a = s .args in
+    let w = s .pre in
     line-there (a .points .now) (w .0) (a .heights .now) (w .1 .0 .heights-are) (depIn (a .e)) (line-at (c .before))
     (c .home-of .result) (c .home-of .ensures)
 
 -- a carried dependence, and its cell
-back-at : (c : tie.Else1) → Back (c .before .before .before .before .before .before .before .before .before .before .before .args .points .now) (depIn (c .before .before .before .before .before .before .before .before .before .before .before .args .e))
+back-at : (c : tie.Else1) → let a = called (c .before) .args in Back (a .points .now) (depIn (a .e))
 back-at c =
-    let a = c .before .before .before .before .before .before .before .before .before .before .before .args in
-    is-back (a .points .now) (depIn (a .e)) (c .before .before .before .before .before .before .before .before .before .before .before .pre .1 .1 .1 .1) (c .if1 .left)
+    let s = called (c .before) in
+    let a = s .args in
+    is-back (a .points .now) (depIn (a .e)) (s .pre .1 .1 .1 .1) (c .if1 .left)
 
-cell-at : (c : tie.Else1) → cell (c .before .before .before .before .before .before .before .before .before .before .before .args .heights .now) (c .before .before .before .before .before .before .before .before .before .before .before .args .e .d) (c .before .before .before .before .before .before .before .before .before .before .before .args .e .s) < TABLE
+cell-at : (c : tie.Else1) → let a = called (c .before) .args in cell (a .heights .now) (a .e .d) (a .e .s) < TABLE
 cell-at c =
-    let a = c .before .before .before .before .before .before .before .before .before .before .before .args in
-    let w = c .before .before .before .before .before .before .before .before .before .before .before .pre in
+    let s = called (c .before) in
+    let a = s .args in
+    let w = s .pre in
     back-there (a .points .now) (w .0) (a .heights .now) (w .1 .0 .heights-are) (depIn (a .e)) (back-at c) .1
 
 cast-s : tie.Need-cast-s
@@ -47,7 +55,7 @@ cast-t c = search needs
 
 home-of-requires : tie.Need-home-of-requires
 home-of-requires c κs =
-    let w = c .before .before .before .before .before .before .before .before .before .before .before .pre in
+    let w = called (c .before) .pre in
     let f = line-at c in (
       w .0,
       (
@@ -60,7 +68,9 @@ mul-lower : tie.Need-mul-lower
 mul-lower c = omega (arith, home-at (c .before))
 
 shared-slice-read-lower : tie.Need-shared-slice-read-lower
-shared-slice-read-lower c = omega (arith, home-at (c .before .before), c .before .before .before .before .before .before .before .before .before .before .before .before .before .before .pre .1 .1 .0 .heights-room)
+shared-slice-read-lower c =
+    let h = c .before .before in
+    omega (arith, home-at h, called (h .before .before) .pre .1 .1 .0 .heights-room)
 
 mul-lower-2 : tie.Need-mul-lower-2
 mul-lower-2 c = omega (arith, home-at (c .before .before))
@@ -72,13 +82,17 @@ add-lower-2 : tie.Need-add-lower-2
 add-lower-2 c = omega (arith, home-at (c .before .before))
 
 lower-requires : tie.Need-lower-requires
-lower-requires c κs = omega (arith, home-at (c .before .before), c .before .before .before .before .before .before .before .before .before .before .before .before .before .before .pre .1 .1 .1 .0 .reach-room)
+lower-requires c κs =
+    let h = c .before .before in
+    omega (arith, home-at h, called (h .before .before) .pre .1 .1 .1 .0 .reach-room)
 
 mul-has : tie.Need-mul-has
 mul-has c = omega (arith, home-at (c .before .before .before .before .before))
 
 slice-write-has : tie.Need-slice-write-has
-slice-write-has c = omega (arith, home-at (c .before .before .before .before .before), c .before .before .before .before .before .before .before .before .before .before .before .before .before .before .before .before .before .pre .1 .1 .1 .0 .has-room)
+slice-write-has c =
+    let h = c .before .before .before .before .before in
+    omega (arith, home-at h, called (h .before .before) .pre .1 .1 .1 .0 .has-room)
 
 same-length : tie.Need-same-length
 same-length c = search needs
@@ -88,14 +102,16 @@ same-length-2 c = search needs
 
 returns : tie.Need-returns
 returns c =
-    let a = c .before .before .before .before .before .before .before .before .before .before .before .before .before .before .before .before .before .args in
-    let w = c .before .before .before .before .before .before .before .before .before .before .before .before .before .before .before .before .before .pre in
+    let k = c .before .before .before .before .before .before in
     let h = c .before .before .before .before .before .home-of in
+    let s = called (k .before) in
+    let a = s .args in
+    let w = s .pre in
     λ ds p.
     rw
     (c .before .before .lower .ensures)
     (line-entered (a .points .now) (w .0) (a .heights .now) (w .1 .0 .heights-are) ds (depIn (a .e)) (a .reach .now)
-    (a .back .now) (a .has .now) (w .1 .1 .1 .0) p (line-at (c .before .before .before .before .before .before)) (h .result) (h .ensures))
+    (a .back .now) (a .has .now) (w .1 .1 .1 .0) p (line-at k) (h .result) (h .ensures))
 
 cast-d : tie.Need-cast-d
 cast-d c = search needs
@@ -113,7 +129,9 @@ add-lower-3 : tie.Need-add-lower-3
 add-lower-3 c = omega (arith, cell-at (c .before .before .before))
 
 lower-requires-2 : tie.Need-lower-requires-2
-lower-requires-2 c κs = omega (arith, cell-at (c .before .before .before), c .before .before .before .before .before .before .before .before .before .before .before .before .before .before .pre .1 .1 .1 .0 .limit-room)
+lower-requires-2 c κs =
+    let k = c .before .before .before in
+    omega (arith, cell-at k, called (k .before) .pre .1 .1 .1 .0 .limit-room)
 
 mul-has-2 : tie.Need-mul-has-2
 mul-has-2 c = search needs
@@ -129,13 +147,15 @@ same-length-4 c = search needs
 
 returns-2 : tie.Need-returns-2
 returns-2 c =
-    let a = c .before .before .before .before .before .before .before .before .before .before .before .before .before .before .before .before .before .args in
-    let w = c .before .before .before .before .before .before .before .before .before .before .before .before .before .before .before .before .before .pre in
+    let k = c .before .before .before .before .before .before in
+    let s = called (k .before) in
+    let a = s .args in
+    let w = s .pre in
     λ ds p.
     rw
     (c .before .before .lower2 .ensures)
     (back-entered (a .points .now) (w .0) (a .heights .now) (w .1 .0 .heights-are) ds (depIn (a .e)) (a .reach .now)
-    (a .back .now) (a .has .now) (w .1 .1 .1 .0) p (back-at (c .before .before .before .before .before .before)))
+    (a .back .now) (a .has .now) (w .1 .1 .1 .0) p (back-at k))
 
 pub enter-spec : {M : Type 1} → statement M
 enter-spec =

@@ -28,12 +28,12 @@ loop-holds c =
     ⊎-elim
     (λ x.
     rw (x .1)
-    (climb-from-do (a .points .now) (w .0) (a .own .now) (a .ends .now) (w .1 .0) (w .1 .1 .0) (a .s) (a .t) (u .0) (u .1)
-    (x .0 .taken)))
+    (climb-from-do (a .points .now) (w .0) (a .own .now) (a .ends .now) (w .1 .0) (w .1 .1 .0) (a .s) (a .t) (u .0)
+    (u .1) (x .0 .taken)))
     (λ x.
     rw (x .1)
-    (climb-from-owner (a .points .now) (w .0) (a .own .now) (a .ends .now) (w .1 .0) (w .1 .1 .0) (a .s) (a .t) (u .0) (u .1)
-    (x .0 .left)))
+    (climb-from-owner (a .points .now) (w .0) (a .own .now) (a .ends .now) (w .1 .0) (w .1 .1 .0) (a .s) (a .t) (u .0)
+    (u .1) (x .0 .left)))
     (c .if1 .came)
 
 mul-if2 : tie.Need-mul-if2 Inv-loop μ-loop

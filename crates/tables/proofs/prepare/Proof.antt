@@ -6,10 +6,19 @@ use borrow.Author.Needs.{needs}
 use Rattle.tables.proofs.prepare.Statement.{statement}
 use Rattle.tables.proofs.prepare.Tie as tie
 
+-- the call, from after `chart`, and the call of `chart`, from after `collect`
+abbrev called : tie.After-chart → tie.Start
+called c = c .before .before .before .before .before .before .before .before .before .before .before .before
+
+abbrev charted : tie.After-collect → tie.After-chart
+charted c =
+    let p = c .before .before .before .before .before .before .before in
+    p .before .before .before .before .before .before .before
+
 array-share-prefix-points : tie.Need-array-share-prefix-points
 array-share-prefix-points c =
-    let n = c .before .before .before .before .before .before .before .args .nest in
-    count-there (n .count) (n .points) (c .before .before .before .before .before .before .before .pre .0 .count-is)
+    let s = c .before .before .before .before .before .before .before in
+    count-there (s .args .nest .count) (s .args .nest .points) (s .pre .0 .count-is)
 
 slice-aggregate-chart : tie.Need-slice-aggregate-chart
 slice-aggregate-chart c = search needs
@@ -19,16 +28,17 @@ chart-requires c κs = search needs
 
 array-share-prefix-points-2 : tie.Need-array-share-prefix-points-2
 array-share-prefix-points-2 c =
-    let n = c .before .before .before .before .before .before .before .before .before .before .before .before .before .before .before .before .before .before .args .nest in
-    count-there (n .count) (n .points) (c .before .before .before .before .before .before .before .before .before .before .before .before .before .before .before .before .before .before .pre .0 .count-is)
+    let s = called (c .before .before .before .before .before .before) in
+    count-there (s .args .nest .count) (s .args .nest .points) (s .pre .0 .count-is)
 
 slice-aggregate-collect : tie.Need-slice-aggregate-collect
 slice-aggregate-collect c = search needs
 
 collect-requires : tie.Need-collect-requires
 collect-requires c κs =
-    let w = c .before .before .before .before .before .before .before .before .before .before .before .before .before .before .before .before .before .before .before .before .before .before .before .before .before .pre in
-    let h = c .before .before .before .before .before .before .before .before .before .before .before .before .before .chart in (
+    let k = c .before .before .before .before .before .before .before .before .before .before .before .before .before in
+    let w = called k .pre in
+    let h = k .chart in (
       w .1 .0,
       (
         h .ensures,
@@ -45,17 +55,18 @@ collect-requires c κs =
 
 array-share-prefix-points-3 : tie.Need-array-share-prefix-points-3
 array-share-prefix-points-3 c =
-    let n = c .before .before .before .before .before .before .before .before .before .before .before .before .before .before .before .before .before .before .before .before .before .before .before .before .before .before .before .before .before .before .before .before .args .nest in
-    count-there (n .count) (n .points) (c .before .before .before .before .before .before .before .before .before .before .before .before .before .before .before .before .before .before .before .before .before .before .before .before .before .before .before .before .before .before .before .before .pre .0 .count-is)
+    let s = called (charted (c .before .before .before .before .before .before)) in
+    count-there (s .args .nest .count) (s .args .nest .points) (s .pre .0 .count-is)
 
 slice-aggregate-narrow : tie.Need-slice-aggregate-narrow
 slice-aggregate-narrow c = search needs
 
 narrow-requires : tie.Need-narrow-requires
 narrow-requires c κs =
-    let w = c .before .before .before .before .before .before .before .before .before .before .before .before .before .before .before .before .before .before .before .before .before .before .before .before .before .before .before .before .before .before .before .before .before .before .before .before .pre in
-    let h = c .before .before .before .before .before .before .before .before .before .before .before .before .before .before .before .before .before .before .before .before .before .before .before .before .chart in
-    let l = c .before .before .before .before .before .before .before .before .before .before .collect in (
+    let k = c .before .before .before .before .before .before .before .before .before .before in
+    let w = called (charted k) .pre in
+    let h = charted k .chart in
+    let l = k .collect in (
       w .1 .0,
       (
         h .ensures .ends-are,
@@ -92,13 +103,15 @@ same-length-6 c = search needs
 
 returns : tie.Need-returns
 returns c =
-    let n = nestIn (c .before .before .before .before .before .before .before .before .before .before .before .before .before .before .before .before .before .before .before .before .before .before .before .before .before .before .before .before .before .before .before .before .before .before .before .before .before .before .before .args .nest) in
-    let h = c .before .before .before .before .before .before .before .before .before .before .before .before .before .before .before .before .before .before .before .before .before .before .before .before .before .before .before .chart in
-    let l = c .before .before .before .before .before .before .before .before .before .before .before .before .before .collect in
+    let k = c .before .before .before .before .before .before .before .before .before .before .before .before .before in
+    let s = called (charted k) in
+    let n = nestIn (s .args .nest) in
+    let h = charted k .chart in
+    let l = k .collect in
     let r = c .before .before .narrow in
     all-prepared (n .points) (n .deps) (h .last .1 .0) (h .last .1 .1 .0) (h .last .1 .1 .1 .0)
     (l .last .1 .1 .1 .1 .1 .0) (l .last .1 .1 .1 .1 .1 .1 .0) (r .last .1 .1 .1 .0) (l .last .1 .1 .1 .1 .1 .1 .1 .0)
-    (h .ensures) (l .ensures) (c .before .before .before .before .before .before .before .before .before .before .before .before .before .before .before .before .before .before .before .before .before .before .before .before .before .before .before .before .before .before .before .before .before .before .before .before .before .before .before .pre .1 .1 .0) (r .ensures)
+    (h .ensures) (l .ensures) (s .pre .1 .1 .0) (r .ensures)
 
 pub prepare-spec : {M : Type 1} → statement M
 prepare-spec =
