@@ -30,7 +30,8 @@ pub fn sweep(
     e: usize,
 ) -> Front
     requires { ⌜ SweepRoom (now points) (now own) (now need) (now left) kids e ⌝ }
-    ensures { λ r. ⌜ SweepSays (now (points .entry)) (now (own .entry)) (now (need .entry)) (now (left .entry)) kids d e (r .c) (r .f) ⌝ }
+    ensures { λ r. ⌜ SweepSays (now (points .entry)) (now (own .entry)) (now (need .entry)) (now (left .entry)) kids
+        d e (r .c) (r .f) ⌝ }
 {
     let mut c = 0;
     let mut f = e + 1;

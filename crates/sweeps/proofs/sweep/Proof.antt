@@ -1,5 +1,5 @@
--- `sweep` meets its contract. The invariant: the rest of the walk from p gives the whole sweep (`Turn`), and c is at most
--- the gaps passed.
+-- `sweep` meets its contract. The invariant: the rest of the walk from p gives the whole sweep (`Turn`), and c is at
+-- most the gaps passed.
 use mathlib.Core.Path.{_≡_}
 use mathlib.Core.Bool.{Bool}
 use Prim.Native.Nat.{ℕ, _+_, _-_, _≤_}
