@@ -27,7 +27,8 @@ pub fn make_row(
     some: usize,
 )
     requires { ⌜ RowRoom (now points) (now own) (now reach) (now limit) (now left) (now choice) base d e ⌝ }
-    ensures { λ r. ⌜ RowMade (now (points .entry)) (now (own .entry)) (now (reach .entry)) (now (limit .entry)) (now (left .entry)) (now (choice .entry)) (now (left .exit)) (now (choice .exit)) base d e some ⌝ }
+    ensures { λ r. ⌜ RowMade (now (points .entry)) (now (own .entry)) (now (reach .entry)) (now (limit .entry))
+        (now (left .entry)) (now (choice .entry)) (now (left .exit)) (now (choice .exit)) base d e some ⌝ }
 {
     if some == 0 {
         clear(left, base, d, e);
@@ -106,7 +107,8 @@ fn choose(
     requires { ⌜ base + e < length (now left) ⌝ }
     requires { ⌜ base + e < length (now choice) ⌝ }
     requires { ⌜ d < e ⌝ }
-    ensures { λ r. ⌜ ChooseSays (now (cs .entry)) (now (fs .entry)) m (now (left .exit)) (now (choice .exit)) base d e ⌝ }
+    ensures { λ r. ⌜ ChooseSays (now (cs .entry)) (now (fs .entry)) m
+        (now (left .exit)) (now (choice .exit)) base d e ⌝ }
     ensures { λ r. ⌜ Kept (now (left .entry)) (now (left .exit)) (base + d) (base + e) ⌝ }
     ensures { λ r. ⌜ Kept (now (choice .entry)) (now (choice .exit)) (base + d) (base + e) ⌝ }
 {
@@ -157,7 +159,8 @@ pub fn values(
     requires { ⌜ d < e ⌝ }
     requires { ⌜ e < length (now cs) ⌝ }
     requires { ⌜ e < length (now fs) ⌝ }
-    ensures { λ r. ⌜ ValuesSay (now (points .entry)) (now (own .entry)) (now (need .entry)) (now (left .entry)) kids (now (limit .entry)) base d e e (now (cs .exit)) (now (fs .exit)) r ⌝ }
+    ensures { λ r. ⌜ ValuesSay (now (points .entry)) (now (own .entry)) (now (need .entry)) (now (left .entry)) kids
+        (now (limit .entry)) base d e e (now (cs .exit)) (now (fs .exit)) r ⌝ }
     ensures { λ r. ⌜ now (need .exit) ≡ now (need .entry) ⌝ }
 {
     let mut m = 0;
@@ -190,7 +193,8 @@ pub fn value(
     requires { ⌜ base + e < length (now limit) ⌝ }
     requires { ⌜ d < e ⌝ }
     requires { ⌜ q ≤ e ⌝ }
-    ensures { λ r. ⌜ ValueSays (now (points .entry)) (now (own .entry)) (now (need .entry)) (now (left .entry)) kids (now (limit .entry)) base d e q (r .c) (r .f) ⌝ }
+    ensures { λ r. ⌜ ValueSays (now (points .entry)) (now (own .entry)) (now (need .entry)) (now (left .entry)) kids
+        (now (limit .entry)) base d e q (r .c) (r .f) ⌝ }
     ensures { λ r. ⌜ now (need .exit) ≡ now (need .entry) ⌝ }
 {
     let old = need[q];

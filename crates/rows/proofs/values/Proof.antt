@@ -1,4 +1,5 @@
--- `values` meets its contract. The invariant: the values up to p are listed, m is the least (`Listing`), `need` is as before.
+-- `values` meets its contract. The invariant: the values up to p are listed, m is the least (`Listing`), `need` is as
+-- before.
 use mathlib.Core.Path.{_≡_, refl, _∙_}
 use mathlib.Core.Bool.{Bool}
 use Prim.Native.Nat.{ℕ, _+_, _-_, _≤_}
