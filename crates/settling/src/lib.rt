@@ -22,7 +22,8 @@ pub fn settle(
     requires { ⌜ Room (now reach) (now limit) (now has) (now left) (now choice) ⌝ }
     requires { ⌜ isDo (now points) d ≡ true ⌝ }
     requires { ⌜ HasHeight (now points) d h ⌝ }
-    ensures { λ r. ⌜ SettleSays (now (points .entry)) (now (reach .entry)) (now (limit .entry)) (now (has .entry)) (now (left .entry)) (now (choice .entry)) (now (left .exit)) (now (choice .exit)) d ⌝ }
+    ensures { λ r. ⌜ SettleSays (now (points .entry)) (now (reach .entry)) (now (limit .entry)) (now (has .entry))
+        (now (left .entry)) (now (choice .entry)) (now (left .exit)) (now (choice .exit)) d ⌝ }
 {
     let e = ends[d];
     let base = h * rows::ROW;
