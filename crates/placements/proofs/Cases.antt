@@ -59,7 +59,8 @@ row i n k c gs v b =
       also = b;
     }
 
--- the key is correct, has its counts, and is as good as what is marked, loop by loop and as a tree; the verdict is given
+-- the key is correct, has its counts, and is as good as what is marked, loop by loop and as a tree; the verdict is
+-- given
 abbrev pub holds : Case → Bool
 holds c =
     isValid (c .paper) &&

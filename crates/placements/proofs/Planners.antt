@@ -67,8 +67,8 @@ inner-first-fails = not-least paper-P (3 ∷ 9 ∷ 13 ∷ []) (5 ∷ 11 ∷ []) 
 pub greedy-ring-fails : IsKey paper-ring (1 ∷ 2 ∷ []) → ⊥
 greedy-ring-fails = not-least paper-ring (1 ∷ 2 ∷ []) (2 ∷ []) refl refl
 
--- total counts: Q's placements 4, 7 and 2, 6 are both correct and both have two, and 4, 7 is no key. A planner that puts
--- the gap before a DO inside that loop cannot tell them apart either
+-- total counts: Q's placements 4, 7 and 2, 6 are both correct and both have two, and 4, 7 is no key. A planner that
+-- puts the gap before a DO inside that loop cannot tell them apart either
 pub totals-fail :
     (isCorrect paper-Q (4 ∷ 7 ∷ []) ≡ true) × (isCorrect paper-Q (2 ∷ 6 ∷ []) ≡ true) × (IsKey paper-Q (4 ∷ 7 ∷ []) → ⊥)
 totals-fail = (refl, refl, not-least paper-Q (4 ∷ 7 ∷ []) (2 ∷ 6 ∷ []) refl refl)
