@@ -166,7 +166,10 @@ module _ (ps : List ℕ) (shape : isShape ps ≡ true) (g : ℕ) (there : length
             (le-or (suc i) j)
 
         reaches : g ≤ endOf ps i
-        reaches = end-beyond ps shape i g is (λ j a b. omega (arith, w .over j a b, u, w .level)) (omega (arith, w .low))
+        reaches =
+            end-beyond ps shape i g is
+            (λ j a b. omega (arith, w .over j a b, u, w .level))
+            (omega (arith, w .low))
 
         here : getD (set table i true) i false ≡ isAround ps g i
         here =

@@ -62,59 +62,62 @@ module _ (n : Nest) (before after : List ℕ) where
       let z : i ≡ 0 = omega arith in
       (λ j. m .new j (omega arith), let y = rw z at (m .uncut-is) in omega arith)
 
-  module _ (i : ℕ) (counts : List ℕ) (uncut : ℕ) (m : Moving n before after (suc i) counts uncut) (e : Dep) (here : drop i ds ≡ e ∷ drop (suc i) ds) where
-    -- the count that is kept of the dependence, and what it does to the uncut
-    kept-now : getD counts i 0 ≡ cutCount ps e before
-    kept-now = m .old i (omega arith) ∙ count-at ps ds before i e (drop (suc i) ds) here
+  module _
+      (i : ℕ) (counts : List ℕ) (uncut : ℕ) (m : Moving n before after (suc i) counts uncut) (e : Dep)
+      (here : drop i ds ≡ e ∷ drop (suc i) ds)
+    where
+      -- the count that is kept of the dependence, and what it does to the uncut
+      kept-now : getD counts i 0 ≡ cutCount ps e before
+      kept-now = m .old i (omega arith) ∙ count-at ps ds before i e (drop (suc i) ds) here
 
-    uncut-now
-        : uncut ≡
-        (uncutCount ps (take i ds) before + one (eqb (cutCount ps e before) 0)) +
-        uncutCount ps (drop (suc i) ds) after
-    uncut-now = omega (arith, m .uncut-is, uncut-take ps ds before i e (drop (suc i) ds) here)
+      uncut-now
+          : uncut ≡
+          (uncutCount ps (take i ds) before + one (eqb (cutCount ps e before) 0)) +
+          uncutCount ps (drop (suc i) ds) after
+      uncut-now = omega (arith, m .uncut-is, uncut-take ps ds before i e (drop (suc i) ds) here)
 
-    -- the dependence at i is written
-    written
-        : (counts′ : List ℕ) (uncut′ : ℕ)
-        → length counts′ ≡ DEPENDENCES
-        → getD counts′ i 0 ≡ cutCount ps e after
-        → ((j : ℕ) → (j ≡ i → ⊥) → getD counts′ j 0 ≡ getD counts j 0)
-        → uncut′ + one (eqb (cutCount ps e before) 0) ≡ uncut + one (eqb (cutCount ps e after) 0)
-        → Moving n before after i counts′ uncut′
-    written counts′ uncut′ l c others u =
-        record {
-          within = omega (arith, m .within);
-          long = l;
-          old = λ j h. others j (λ z. omega arith) ∙ m .old j (omega arith);
-          new =
-              λ j h.
-              ⊎-elim
-              (λ (z : suc i ≤ j). others j (λ y. omega arith) ∙ m .new j z)
-              (λ (z : j < suc i).
-              let y : j ≡ i = omega arith in
-              rw y (c ∙ sym (count-at ps ds after i e (drop (suc i) ds) here)))
-              (le-or (suc i) j);
-          uncut-is = omega (arith, uncut-now, uncut-drop ps ds after i e here);
-        }
+      -- the dependence at i is written
+      written
+          : (counts′ : List ℕ) (uncut′ : ℕ)
+          → length counts′ ≡ DEPENDENCES
+          → getD counts′ i 0 ≡ cutCount ps e after
+          → ((j : ℕ) → (j ≡ i → ⊥) → getD counts′ j 0 ≡ getD counts j 0)
+          → uncut′ + one (eqb (cutCount ps e before) 0) ≡ uncut + one (eqb (cutCount ps e after) 0)
+          → Moving n before after i counts′ uncut′
+      written counts′ uncut′ l c others u =
+          record {
+            within = omega (arith, m .within);
+            long = l;
+            old = λ j h. others j (λ z. omega arith) ∙ m .old j (omega arith);
+            new =
+                λ j h.
+                ⊎-elim
+                (λ (z : suc i ≤ j). others j (λ y. omega arith) ∙ m .new j z)
+                (λ (z : j < suc i).
+                let y : j ≡ i = omega arith in
+                rw y (c ∙ sym (count-at ps ds after i e (drop (suc i) ds) here)))
+                (le-or (suc i) j);
+            uncut-is = omega (arith, uncut-now, uncut-drop ps ds after i e here);
+          }
 
-    -- a dependence whose count stays
-    pub past : cutCount ps e after ≡ cutCount ps e before → Moving n before after i counts uncut
-    past same = written counts uncut (m .long) (kept-now ∙ sym same) (λ j h. refl) (rw same refl)
+      -- a dependence whose count stays
+      pub past : cutCount ps e after ≡ cutCount ps e before → Moving n before after i counts uncut
+      past same = written counts uncut (m .long) (kept-now ∙ sym same) (λ j h. refl) (rw same refl)
 
-    pub write
-        : (c uncut′ : ℕ)
-        → i < DEPENDENCES
-        → c ≡ cutCount ps e after
-        → uncut′ + one (eqb (cutCount ps e before) 0) ≡ uncut + one (eqb (cutCount ps e after) 0)
-        → Moving n before after i (set counts i c) uncut′
-    write c uncut′ h q u =
-        written
-        (set counts i c)
-        uncut′
-        (length-set counts i c ∙ m .long)
-        (getD-set-same counts i c 0 (omega (arith, m .long)) ∙ q)
-        (λ j z. getD-set-other counts i j c 0 z)
-        u
+      pub write
+          : (c uncut′ : ℕ)
+          → i < DEPENDENCES
+          → c ≡ cutCount ps e after
+          → uncut′ + one (eqb (cutCount ps e before) 0) ≡ uncut + one (eqb (cutCount ps e after) 0)
+          → Moving n before after i (set counts i c) uncut′
+      write c uncut′ h q u =
+          written
+          (set counts i c)
+          uncut′
+          (length-set counts i c ∙ m .long)
+          (getD-set-same counts i c 0 (omega (arith, m .long)) ∙ q)
+          (λ j z. getD-set-other counts i j c 0 z)
+          u
 
 -- the turn for the dependence e before i, as the code writes it
 pub record Turn (n : Nest) (before after : List ℕ) (i : ℕ) (counts : List ℕ) (uncut : ℕ) (e : Dep) : Type 0 where

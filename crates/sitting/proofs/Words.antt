@@ -58,7 +58,10 @@ gapsOf-with x y (suc k) a g p q l h =
         → x a ≡ t
         → gapsOf y k (suc a) ≡ withGap g (gapsOf x k (suc a))
         → kept (y a) a (gapsOf y k (suc a)) ≡ withGap g (kept t a (gapsOf x k (suc a)))
-    later z true e r = rw (p a, ne-eqb a g (λ w. omega arith), e, le-ltb g a (omega arith)) (ap (λ (l : List ℕ). a ∷ l) r)
+    later z true e r =
+        rw
+        (p a, ne-eqb a g (λ w. omega arith), e, le-ltb g a (omega arith))
+        (ap (λ (l : List ℕ). a ∷ l) r)
     later z false e r = rw (p a, ne-eqb a g (λ w. omega arith), e) r
 
     here : a ≡ g → kept (y a) a (gapsOf y k (suc a)) ≡ withGap g (kept (x a) a (gapsOf x k (suc a)))

@@ -3,10 +3,11 @@
 -- (`move-past`). The measure is i.
 use mathlib.Core.Path.{_≡_, sym, _∙_}
 use mathlib.Core.Bool.{Bool, true, false}
-use Prim.Native.Nat.{_+_, _-_}
+use Prim.Native.Nat.{_+_, _-_, _<_}
 use native.Mathlib.Omega.{arith}
 use borrow.Author.Needs.{needs}
 use Rattle.laws.specs.Bits.{one}
+use Rattle.nests.specs.Kinds.{DEPENDENCES}
 use Rattle.nests.specs.Nests.{Dep}
 use Rattle.nests.specs.Gaps.{hasGap}
 use Rattle.nests.specs.Stored.{depIn, nestIn}
@@ -51,11 +52,17 @@ loop-holds c =
 sub-i : tie.Need-sub-i Inv-loop μ-loop
 sub-i c = omega arith
 
+-- a turn's place lies in the table
+inside : (c : tie.In-loop Inv-loop μ-loop) → c .before .loop .i - 1 < DEPENDENCES
+inside c =
+    let b = c .before in
+    turn-inside (b .before .before .before .before .before .pre .0) (c .loop-test .taken) (b .loop .inv)
+
 mul-e : tie.Need-mul-e Inv-loop μ-loop
-mul-e c = omega (arith, turn-inside (c .before .before .before .before .before .before .pre .0) (c .loop-test .taken) (c .before .loop .inv))
+mul-e c = omega (arith, inside c)
 
 element-copy-out-e : tie.Need-element-copy-out-e Inv-loop μ-loop
-element-copy-out-e c = turn-inside (c .before .before .before .before .before .before .pre .0) (c .loop-test .taken) (c .before .loop .inv)
+element-copy-out-e c = inside c
 
 cast-d : tie.Need-cast-d Inv-loop μ-loop
 cast-d c = search needs
@@ -90,8 +97,9 @@ told c =
     let b3 = c .before .before .before in
     let b4 = b3 .before in
     let b6 = b4 .before .before in
-    gap-told (b6 .before .before .before .pre .0) (b3 .loop-test .taken) (b4 .loop .inv) (b6 .loops-around .result) (c .has-gap .result)
-    (b6 .loops-around .ensures) (c .has-gap .ensures)
+    let r = b6 .loops-around in
+    gap-told (b6 .before .before .before .pre .0) (b3 .loop-test .taken) (b4 .loop .inv) (r .result)
+    (c .has-gap .result) (r .ensures) (c .has-gap .ensures)
 
 -- its count before the move
 counted
@@ -107,17 +115,13 @@ counted c b z =
     lift-count (b9 .pre .0) (b9 .pre .1) (tried c) ∙ rw y
 
 array-read-c : tie.Need-array-read-c Inv-loop μ-loop
-array-read-c c =
-    let b5 = c .before .before .before .before .before in
-    turn-inside (b5 .before .before .before .before .before .pre .0) (c .before .before .before .before .loop-test .taken) (b5 .loop .inv)
+array-read-c c = inside (c .before .before .before .before)
 
 sub-counts : tie.Need-sub-counts Inv-loop μ-loop
 sub-counts c = fall-fits (turn (c .before)) (counted (c .before) true (c .if1 .taken))
 
 array-write-counts : tie.Need-array-write-counts Inv-loop μ-loop
-array-write-counts c =
-    let b5 = c .before .before .before .before .before in
-    turn-inside (b5 .before .before .before .before .before .pre .0) (c .before .before .before .before .loop-test .taken) (b5 .loop .inv)
+array-write-counts c = inside (c .before .before .before .before)
 
 add-uncut : tie.Need-add-uncut Inv-loop μ-loop
 add-uncut c =
@@ -147,7 +151,9 @@ loop-again-3 : tie.Need-loop-again-3 Inv-loop μ-loop
 loop-again-3 c = move-past (turn (c .before)) (omega (arith, counted (c .before) false (c .if1 .left)))
 
 lifted-requires : tie.Need-lifted-requires Inv-loop μ-loop
-lifted-requires c κs = (below (c .before .before .before .before .before .before .before .pre .0), c .before .before .before .before .before .before .before .pre .1)
+lifted-requires c κs =
+    let p = c .before .before .before .before .before .before .before .pre in
+    (below (p .0), p .1)
 
 returns : tie.Need-returns Inv-loop μ-loop
 returns c =

@@ -84,8 +84,9 @@ loop-again-4 c =
 
 returns : tie.Need-returns Inv-loop μ-loop
 returns c =
+    let a = c .before .before .args in
     let l = c .before .loop in
-    walk-done (c .before .before .args .points .now) (c .before .before .args .g) (l .depth) (l .i) (l .around) (l .inv) (c .loop-test .left)
+    walk-done (a .points .now) (a .g) (l .depth) (l .i) (l .around) (l .inv) (c .loop-test .left)
 
 pub loops-around-spec : {M : Type 1} → statement M
 loops-around-spec =
