@@ -87,7 +87,8 @@ point-room n k h =
     let place = when (misplacedBy count (depth (n .points)) k) 4 in
     let many = when (tooManyBy count (depth (n .points)) k) 5 in
     let none : many ≡ 0 = first-zero place many (first-zero early (firstOf place many) h .1) .1 in
-    let few : tooManyBy count (depth (n .points)) k ≡ false = when-zero (tooManyBy count (depth (n .points)) k) 4 none in
+    let t = tooManyBy count (depth (n .points)) k in
+    let few : t ≡ false = when-zero t 4 none in
     leb-false POINTS count (or-false (leb POINTS count) (eqb k DO && leb DEPTH (depth (n .points))) few .0)
 
 dependence-room : (n : Nest) (e : Dep) → dependenceFault n e ≡ 0 → length (n .deps) < DEPENDENCES

@@ -45,19 +45,23 @@ unfolding restOf
 rest-skip ws lo g a b n =
     let z : GAPS - lo ≡ (g - lo) + (GAPS - g) = omega arith in
     let y : lo + (g - lo) ≡ g = omega arith in
-    rw (z, gapsOf-add (holds ws) (g - lo) (GAPS - g) lo, gapsOf-none (holds ws) (g - lo) lo (λ i p q. n i p (omega arith)), y)
+    let w = gapsOf-none (holds ws) (g - lo) lo (λ i p q. n i p (omega arith)) in
+    rw (z, gapsOf-add (holds ws) (g - lo) (GAPS - g) lo, w, y)
 
 -- from a place on, the first gap left is the lowest
 pub rest-lowest : (ws : List ℕ) (lo g : ℕ) → lo ≤ GAPS → LowestFrom ws lo g → restOf ws lo ≡ restOf ws g
 rest-lowest ws lo g h l =
-    rest-skip ws lo g (⊎-elim (λ (z : GAPS ≤ g). omega arith) (λ (z : g < GAPS). l .held z .0) (le-or GAPS g)) (l .fits) (λ i p q. l .none i (omega (arith, l .fits)) p q)
+    let a : lo ≤ g = ⊎-elim (λ (z : GAPS ≤ g). omega arith) (λ (z : g < GAPS). l .held z .0) (le-or GAPS g) in
+    rest-skip ws lo g a (l .fits) (λ i p q. l .none i (omega (arith, l .fits)) p q)
 
 pub barrier-length : (g : ℕ) → length (lineText (BARRIER ∷ (g ∷ []))) ≡ 5
 barrier-length g = text-length (BARRIER ∷ (g ∷ []))
 
 pub key-length : (g : ℕ) (gs : List ℕ) → length (keyText (g ∷ gs)) ≡ 5 + length (keyText gs)
 unfolding keyText
-key-length g gs = length-append (lineText (BARRIER ∷ (g ∷ []))) (keyText gs) ∙ ap (λ (n : ℕ). n + length (keyText gs)) (barrier-length g)
+key-length g gs =
+    length-append (lineText (BARRIER ∷ (g ∷ []))) (keyText gs) ∙
+    ap (λ (n : ℕ). n + length (keyText gs)) (barrier-length g)
 
 -- a lowest gap, and what stands from it on
 pub record Lowest (ws : List ℕ) (g : ℕ) : Type 0 where
@@ -82,7 +86,9 @@ pub length-on
     : (ws : List ℕ) (n g r : ℕ) → g < GAPS → LengthInv ws n g → LowestFrom ws (g + 1) r → LengthInv ws (n + 5) r
 length-on ws n g r h i l =
     let z : length (keyText (restOf ws g)) ≡ 5 + length (keyText (restOf ws r)) =
-    rw (rest-held ws g h (i .at-gap .held h), ← rest-lowest ws (g + 1) r (omega arith) l) (key-length g (restOf ws (g + 1))) in
+    rw
+    (rest-held ws g h (i .at-gap .held h), ← rest-lowest ws (g + 1) r (omega arith) l)
+    (key-length g (restOf ws (g + 1))) in
     record { at-gap = lowest ws (g + 1) r l; sum = omega (arith, i .sum) }
 
 pub length-done : (ws : List ℕ) (n g : ℕ) → GAPS ≤ g → LengthInv ws n g → n ≡ length (keyText (gapsIn ws))
@@ -120,7 +126,10 @@ write-in ws o out at g r i =
 -- the next lowest gap lies above
 pub lowest-up : (ws : List ℕ) (g r : ℕ) → g < GAPS → LowestFrom ws (g + 1) r → g < r
 lowest-up ws g r h l =
-    ⊎-elim (λ (z : GAPS ≤ r). omega arith) (λ (z : r < GAPS). let y : g + 1 ≤ r = l .held z .0 in omega arith) (le-or GAPS r)
+    ⊎-elim
+    (λ (z : GAPS ≤ r). omega arith)
+    (λ (z : r < GAPS). let y : g + 1 ≤ r = l .held z .0 in omega arith)
+    (le-or GAPS r)
 
 module _ (ws o out : List ℕ) (at g : ℕ) (h : g < GAPS) (i : WriteInv ws o out at g) where
   step-text : keyText (restOf ws g) ≡ lineText (BARRIER ∷ (g ∷ [])) ++ keyText (restOf ws (g + 1))
@@ -151,7 +160,14 @@ module _ (ws o out : List ℕ) (at g : ℕ) (h : g < GAPS) (i : WriteInv ws o ou
         xs = i .xs ++ lineText f;
         at-is = rw (length-append (i .xs) (lineText f)) (omega (arith, i .at-is));
         out-is = over-part out o (i .xs) (lineText f) p at (i .out-is) (i .at-is) k q;
-        whole = rw (append-assoc (i .xs) (lineText f) (keyText (restOf ws r)), ← rest-lowest ws (g + 1) r (omega arith) l, e, ← step-text) (i .whole);
+        whole =
+            rw (
+              append-assoc (i .xs) (lineText f) (keyText (restOf ws r)),
+              ← rest-lowest ws (g + 1) r (omega arith) l,
+              e,
+              ← step-text,
+            )
+            (i .whole);
       }
 
 pub write-done
@@ -159,5 +175,6 @@ pub write-done
     → (at ≡ length (keyText (gapsIn ws))) × (out ≡ over (keyText (gapsIn ws)) o)
 unfolding keyText
 write-done ws o out at g h i =
-    let z : i .xs ≡ keyText (gapsIn ws) = sym (append-nil (i .xs)) ∙ (ap (λ (x : List ℕ). i .xs ++ keyText x) (sym (rest-end ws g h)) ∙ i .whole) in
+    let e = ap (λ (x : List ℕ). i .xs ++ keyText x) (sym (rest-end ws g h)) in
+    let z : i .xs ≡ keyText (gapsIn ws) = sym (append-nil (i .xs)) ∙ (e ∙ i .whole) in
     (i .at-is ∙ ap length z, i .out-is ∙ ap (λ (x : List ℕ). over x o) z)

@@ -346,7 +346,8 @@ pub fn text_length(p: Placement) -> usize
     n
 }
 
-// Writes a placement as text, a barrier a line, from the start of a buffer that has room for it; gives the text's length.
+// Writes a placement as text, a barrier a line, from the start of a buffer that has room for it; gives the text's
+// length.
 pub fn write_text(p: Placement, out: &mut [u8]) -> usize
     requires { ⌜ length (keyText (gapsIn (p .words))) ≤ length (now out) ⌝ }
     ensures { λ r. ⌜ r ≡ length (keyText (gapsIn (p .words))) ⌝ }

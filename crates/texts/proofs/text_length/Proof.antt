@@ -19,7 +19,9 @@ lowest-from-requires : tie.Need-lowest-from-requires Inv-loop μ-loop
 lowest-from-requires c κs = search needs
 
 loop-holds : tie.Need-loop-holds Inv-loop μ-loop
-loop-holds c = (omega arith, length-begin (c .before .args .p .words) (c .lowest-from .result) (c .lowest-from .ensures))
+loop-holds c =
+    let r = c .lowest-from in
+    (omega arith, length-begin (c .before .args .p .words) (r .result) (r .ensures))
 
 add-n : tie.Need-add-n Inv-loop μ-loop
 add-n c = omega arith
@@ -32,15 +34,19 @@ lowest-from-requires-2 c κs = search needs
 
 loop-less : tie.Need-loop-less Inv-loop μ-loop
 loop-less c =
-    omega (arith, lowest-up (c .before .before .before .before .args .p .words) (c .before .before .loop .g) (c .lowest-from2 .result) (c .before .loop-test .taken) (c .lowest-from2 .ensures))
+    let ws = c .before .before .before .before .args .p .words in
+    let r = c .lowest-from2 in
+    omega (arith, lowest-up ws (c .before .before .loop .g) (r .result) (c .before .loop-test .taken) (r .ensures))
 
 loop-again : tie.Need-loop-again Inv-loop μ-loop
 loop-again c =
     let ws = c .before .before .before .before .args .p .words in
     let l = c .before .before .loop in
     let t = c .before .loop-test .taken in
-    let r = c .lowest-from2 in
-    (omega (arith, lowest-up ws (l .g) (r .result) t (r .ensures)), length-on ws (l .n) (l .g) (r .result) t (l .inv .1) (r .ensures))
+    let r = c .lowest-from2 in (
+      omega (arith, lowest-up ws (l .g) (r .result) t (r .ensures)),
+      length-on ws (l .n) (l .g) (r .result) t (l .inv .1) (r .ensures),
+    )
 
 returns : tie.Need-returns Inv-loop μ-loop
 returns c =
