@@ -72,8 +72,8 @@ module _ {S M : Type 0} (G : Game S M) where
 -- ---- 02, job 5: up to 64 in a row; older moves are forgotten
 
 -- play q, where k moves were made since play p and of these ms, the latest first, are not taken back: they lead from
--- p's state to q's, and the moves kept are the latest of them and of p's. As long as no more are made than there is room
--- for, none of them is forgotten; as long as none is taken back, all are kept that there is room for.
+-- p's state to q's, and the moves kept are the latest of them and of p's. As long as no more are made than there is
+-- room for, none of them is forgotten; as long as none is taken back, all are kept that there is room for.
 pub record Standing {S M : Type 0} (G : Game S M) (p : Play S M) (k : ℕ) (ms : List M) (q : Play S M) : Type 0 where
   pub led : Led G (λ s. p .state ≡ s) ms (q .state)
   pub many : length ms ≤ k

@@ -21,33 +21,35 @@ element-set-from-m c = search needs
 add-r : tie.Need-add-r
 add-r c = search needs
 
+-- the ring's length
+long : (s : tie.Start) → length (s .args .self .ring) ≡ KEPT
+long s = sym (length-map (s .args .self .ring) _) ∙ s .good .0 .1 .1 .0 .1 .0 .1
+
 returns : tie.Need-returns
 returns c =
-    let s = c .before .before .args .self in
+    let b = c .before .before in
+    let a = b .args in
+    let s = a .self in
     let p = c .before .place-after in
     record {
       moves-are =
-          push-more (s .ring) (c .before .before .args .m) (s .many) (s .head) (p .result) (long c) (p .ensures .1) (p .ensures .0)
-          (c .before .before .pre .head-fits) (c .if1 .taken);
+          push-more (s .ring) (a .m) (s .many) (s .head) (p .result) (long b) (p .ensures .1) (p .ensures .0)
+          (b .pre .head-fits) (c .if1 .taken);
       ring = record { head-fits = p .ensures .1; many-fits = omega (arith, c .if1 .taken) };
     }
-  where
-    long : (x : tie.Then1) → length (x .before .before .args .self .ring) ≡ KEPT
-    long x = sym (length-map (x .before .before .args .self .ring) _) ∙ x .before .before .good .0 .1 .1 .0 .1 .0 .1
 
 returns-2 : tie.Need-returns-2
 returns-2 c =
-    let s = c .before .before .args .self in
+    let b = c .before .before in
+    let a = b .args in
+    let s = a .self in
     let p = c .before .place-after in
     record {
       moves-are =
-          push-full (s .ring) (c .before .before .args .m) (s .many) (s .head) (p .result) (long c) (p .ensures .1) (p .ensures .0)
-          (c .before .before .pre .head-fits) (omega (arith, c .if1 .left, c .before .before .pre .many-fits));
-      ring = record { head-fits = p .ensures .1; many-fits = c .before .before .pre .many-fits };
+          push-full (s .ring) (a .m) (s .many) (s .head) (p .result) (long b) (p .ensures .1) (p .ensures .0)
+          (b .pre .head-fits) (omega (arith, c .if1 .left, b .pre .many-fits));
+      ring = record { head-fits = p .ensures .1; many-fits = b .pre .many-fits };
     }
-  where
-    long : (x : tie.Else1) → length (x .before .before .args .self .ring) ≡ KEPT
-    long x = sym (length-map (x .before .before .args .self .ring) _) ∙ x .before .before .good .0 .1 .1 .0 .1 .0 .1
 
 pub push-spec : {M : Type 1} → statement M
 push-spec = tie.close (tie.spec place-after-requires mul-m element-set-from-m add-r returns returns-2)
