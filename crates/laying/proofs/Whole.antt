@@ -1,4 +1,5 @@
--- What the whole sweep lays, with the barrier after the DO where the front lies beyond the limit, is what the loop lays.
+-- What the whole sweep lays, with the barrier after the DO where the front lies beyond the limit, is what the loop
+-- lays.
 -- Main statements: `blank`, `done`.
 use mathlib.Core.Path.{_≡_, refl, sym, _∙_, ap}
 use mathlib.Core.Bool.{Bool, true, _||_}

@@ -30,7 +30,8 @@ pub fn lay(
     requires { ⌜ d < q ⌝ }
     requires { ⌜ q ≤ endOf (now points) d ⌝ }
     requires { ⌜ Choices (now points) (now left) (now choice) d (endOf (now points) d) ⌝ }
-    ensures { λ r. ⌜ LaySays (now (points .entry)) (now (reach .entry)) (now (limit .entry)) (now (left .entry)) (now (choice .entry)) d q (key .words) (r .words) ⌝ }
+    ensures { λ r. ⌜ LaySays (now (points .entry)) (now (reach .entry)) (now (limit .entry))
+        (now (left .entry)) (now (choice .entry)) d q (key .words) (r .words) ⌝ }
 {
     let base = h * ROW;
     if left[base + q] == 0 {

@@ -1,5 +1,5 @@
--- `lay` meets its contract; the height falls at each call. The invariant of its loop: the placement holds what the sweep
--- has laid so far (`Laying`). At its end that is what the loop lays (`done`).
+-- `lay` meets its contract; the height falls at each call. The invariant of its loop: the placement holds what the
+-- sweep has laid so far (`Laying`). At its end that is what the loop lays (`done`).
 use mathlib.Core.Path.{_≡_, refl, _∙_}
 use Prim.Native.Nat.{_+_, _-_, _*_, min, ℕ, _<_}
 use native.Mathlib.Omega.{arith}
