@@ -24,10 +24,18 @@ never-both p q = never (sym q ∙ p)
 
 -- numbers compared: one of the two holds
 pub le-or : (a b : ℕ) → (a ≤ b) ⊎ (b < a)
-le-or a b = ⊎-elim (λ (z : leb a b ≡ true). inl (leb-true a b z)) (λ (z : leb a b ≡ false). inr (leb-false a b z)) (test (leb a b))
+le-or a b =
+    ⊎-elim
+    (λ (z : leb a b ≡ true). inl (leb-true a b z))
+    (λ (z : leb a b ≡ false). inr (leb-false a b z))
+    (test (leb a b))
 
 pub eq-or : (a b : ℕ) → (a ≡ b) ⊎ ((a ≡ b) → ⊥)
-eq-or a b = ⊎-elim (λ (z : eqb a b ≡ true). inl (eqb-true a b z)) (λ (z : eqb a b ≡ false). inr (eqb-false a b z)) (test (eqb a b))
+eq-or a b =
+    ⊎-elim
+    (λ (z : eqb a b ≡ true). inl (eqb-true a b z))
+    (λ (z : eqb a b ≡ false). inr (eqb-false a b z))
+    (test (eqb a b))
 
 -- by contradiction
 pub lt-by : {a b : ℕ} → (b ≤ a → ⊥) → a < b
