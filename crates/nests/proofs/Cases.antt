@@ -129,8 +129,8 @@ eachFault [] = []
 eachFault (e ∷ es) = depFault (paper-Q .points) e ∷ eachFault es
 
 -- numbers 6 and 7 of dependences on Q's points: a good one; no point 10; s an ENDDO; t a DO; d no DO; independent with
--- s at t; carried with s before t is none, nor s at t; s not inside; t not inside; s the loop's own DO; t its own ENDDO;
--- from the one to the other
+-- s at t; carried with s before t is none, nor s at t; s not inside; t not inside; s the loop's own DO; t its own
+-- ENDDO; from the one to the other
 abbrev faults : Bool
 faults =
     sameList

@@ -1,7 +1,7 @@
 -- Loops by levels: a loop's ENDDO is where the level first falls back to the level of its DO; a gap belongs to the last
 -- point before it with a lower level. From here on nothing unfolds `endOf` or `ownerFrom`.
--- Main statements: `end-after`, `end-there`, `end-is-end`, `range-above`, `range-back`, `end-is`, `outermost`, `nested`,
--- `nested-or-disjoint`, `owner-law`, `owner-inside`, `owner-lower`, `end-has-do`, `owner-of-end`.
+-- Main statements: `end-after`, `end-there`, `end-is-end`, `range-above`, `range-back`, `end-is`, `outermost`,
+-- `nested`, `nested-or-disjoint`, `owner-law`, `owner-inside`, `owner-lower`, `end-has-do`, `owner-of-end`.
 use mathlib.Core.Path.{_≡_, refl, ap}
 use mathlib.Core.Bool.{Bool, true, false, _&&_}
 use mathlib.Core.List.{List}

@@ -9,7 +9,8 @@ use Rattle.nests.specs.Kinds.{INDEPENDENT}
 use Rattle.nests.specs.Nests.{Dep}
 use Rattle.nests.specs.Loops.{endOf}
 
--- 01, "The nest and its gaps": independent, s + 1 to t; carried by the loop of DO d and ENDDO e, d + 1 to t and s + 1 to e
+-- 01, "The nest and its gaps": independent, s + 1 to t; carried by the loop of DO d and ENDDO e, d + 1 to t and
+-- s + 1 to e
 abbrev pub hasGap : List ℕ → Dep → ℕ → Bool
 hasGap ps e g =
     pick
