@@ -1,6 +1,6 @@
 -- Count, Mark and Write: what each way through the code says of the reply.
--- Main statements: `count-refused`, `count-no-do`, `count-is`; `write-refused`, `write-short`, `written`; `mark-refused`,
--- `mark-unread`, `mark-given`.
+-- Main statements: `count-refused`, `count-no-do`, `count-is`; `write-refused`, `write-short`, `written`;
+-- `mark-refused`, `mark-unread`, `mark-given`.
 use mathlib.Core.Path.{_≡_, refl, sym, _∙_, ap}
 use mathlib.Core.Bool.{Bool, true, false, not}
 use mathlib.Core.List.{List}
@@ -18,88 +18,110 @@ use Rattle.texts.specs.PlacementTexts.{Placed, placed, keyText}
 use Rattle.desk.specs.declared.Desk as DD
 use Rattle.desk.specs.declared.Answer as DA
 use Rattle.desk.specs.Desks.{Desk, deskIn, stateFault, Fault, fault}
-use Rattle.desk.specs.Says.{RefusedAs, countFault, CountSays, writeFault, WriteSays, Mark, refused, given, readIn, placeFault, marked}
+use Rattle.desk.specs.Says.{RefusedAs, countFault, CountSays, writeFault, WriteSays}
+use Rattle.desk.specs.Says.{Mark, refused, given, readIn, placeFault, marked}
 
-first-set : (a b : ℕ) → (a ≡ 0 → ⊥) → firstOf a b ≡ a
-first-set zero b h = absurd (h refl)
-first-set (suc a) b h = refl
+-- the numbers that the calls look at, in their order: 10 and 11; then 6 of Count, and 9 of Write
+abbrev state : DD.Desk → ℕ
+state d = stateFault true (deskIn d)
 
-first-none : (a b : ℕ) → a ≡ 0 → firstOf a b ≡ b
-first-none a b h = rw h
+abbrev noDo : DD.Desk → ℕ → ℕ
+noDo d p = when (not (isDo (deskIn d .nest-is .points) p)) 6
+
+abbrev short : DD.Desk → List ℕ → ℕ
+short d out = when (ltb (length out) (length (keyText (deskIn d .key)))) 9
+
+-- the number and the line of a reading
+abbrev faultIn : Placed → Fault
+faultIn x = fault (x .number) (x .place)
+
+first-set : (a b k : ℕ) → k ≡ a → (k ≡ 0 → ⊥) → firstOf a b ≡ k
+first-set zero b k e h = absurd (h e)
+first-set (suc a) b k e h = sym e
+
+first-none : (a b k : ℕ) → a ≡ 0 → b ≡ k → firstOf a b ≡ k
+first-none a b k e h = rw e h
+
+is-set : (f k : ℕ) → f ≡ k → (k ≡ 0 → ⊥) → eqb f 0 ≡ false
+is-set f k e h = ne-eqb f 0 (λ q. h (sym e ∙ q))
 
 module _ (d : DD.Desk) (p : ℕ) (r : DA.Answer) where
   count-by : (k : ℕ) → countFault (deskIn d) p ≡ k → (k ≡ 0 → ⊥) → RefusedAs k r → CountSays d p r
   count-by k e h a =
-      let z : eqb (countFault (deskIn d) p) 0 ≡ false = ne-eqb (countFault (deskIn d) p) 0 (λ q. h (sym e ∙ q)) in
+      let z = is-set (countFault (deskIn d) p) k e h in
       record { number-is = a .number-is ∙ sym e; line-is = a .line-is; value-is = rw z (a .value-is) }
 
-  pub count-refused : (k : ℕ) → k ≡ stateFault true (deskIn d) → (k ≡ 0 → ⊥) → RefusedAs k r → CountSays d p r
-  count-refused k e h a =
-      count-by k (first-set (stateFault true (deskIn d)) (when (not (isDo (deskIn d .nest-is .points) p)) 6) (λ q. h (e ∙ q)) ∙ sym e) h a
+  pub count-refused : (k : ℕ) → k ≡ state d → (k ≡ 0 → ⊥) → RefusedAs k r → CountSays d p r
+  count-refused k e h a = count-by k (first-set (state d) (noDo d p) k e h) h a
 
-  pub count-no-do
-      : stateFault true (deskIn d) ≡ 0 → isDo (deskIn d .nest-is .points) p ≡ false → RefusedAs 6 r → CountSays d p r
-  count-no-do e i a =
-      let z : countFault (deskIn d) p ≡ 6 = first-none (stateFault true (deskIn d)) (when (not (isDo (deskIn d .nest-is .points) p)) 6) e ∙ ap (λ (t : Bool). when (not t) 6) i in
-      count-by 6 z (λ q. omega arith) a
+  do-fault
+      : (t : Bool) → state d ≡ 0 → isDo (deskIn d .nest-is .points) p ≡ t → countFault (deskIn d) p ≡ when (not t) 6
+  do-fault t e i = first-none (state d) (noDo d p) (when (not t) 6) e (ap (λ (x : Bool). when (not x) 6) i)
+
+  pub count-no-do : state d ≡ 0 → isDo (deskIn d .nest-is .points) p ≡ false → RefusedAs 6 r → CountSays d p r
+  count-no-do e i a = count-by 6 (do-fault false e i) (λ q. omega arith) a
 
   pub count-is
-      : stateFault true (deskIn d) ≡ 0 → isDo (deskIn d .nest-is .points) p ≡ true → r .number ≡ 0 → r .line ≡ 0
+      : state d ≡ 0 → isDo (deskIn d .nest-is .points) p ≡ true → r .number ≡ 0 → r .line ≡ 0
       → r .value ≡ loopCount (deskIn d .nest-is) (deskIn d .key) p → CountSays d p r
   count-is e i n l v =
-      let z : countFault (deskIn d) p ≡ 0 = first-none (stateFault true (deskIn d)) (when (not (isDo (deskIn d .nest-is .points) p)) 6) e ∙ ap (λ (t : Bool). when (not t) 6) i in
+      let z : countFault (deskIn d) p ≡ 0 = do-fault true e i in
       record { number-is = n ∙ sym z; line-is = l; value-is = rw (eq-eqb (countFault (deskIn d) p) 0 z) v }
 
 module _ (d : DD.Desk) (out out′ : List ℕ) (r : DA.Answer) where
   write-by : (k : ℕ) → writeFault (deskIn d) out ≡ k → (k ≡ 0 → ⊥) → RefusedAs k r → out′ ≡ out → WriteSays d out out′ r
   write-by k e h a o =
-      let z : eqb (writeFault (deskIn d) out) 0 ≡ false = ne-eqb (writeFault (deskIn d) out) 0 (λ q. h (sym e ∙ q)) in
+      let z = is-set (writeFault (deskIn d) out) k e h in
       record { number-is = a .number-is ∙ sym e; line-is = a .line-is; value-is = rw z (a .value-is); out-is = rw z o }
 
-  pub write-refused
-      : (k : ℕ) → k ≡ stateFault true (deskIn d) → (k ≡ 0 → ⊥) → RefusedAs k r → out′ ≡ out → WriteSays d out out′ r
-  write-refused k e h a o =
-      write-by k (first-set (stateFault true (deskIn d)) (when (ltb (length out) (length (keyText (deskIn d .key)))) 9) (λ q. h (e ∙ q)) ∙ sym e) h a o
+  pub write-refused : (k : ℕ) → k ≡ state d → (k ≡ 0 → ⊥) → RefusedAs k r → out′ ≡ out → WriteSays d out out′ r
+  write-refused k e h a o = write-by k (first-set (state d) (short d out) k e h) h a o
+
+  short-fault
+      : (t : Bool) → state d ≡ 0 → ltb (length out) (length (keyText (deskIn d .key))) ≡ t
+      → writeFault (deskIn d) out ≡ when t 9
+  short-fault t e i = first-none (state d) (short d out) (when t 9) e (ap (λ (x : Bool). when x 9) i)
 
   pub write-short
-      : stateFault true (deskIn d) ≡ 0 → length out < length (keyText (deskIn d .key)) → RefusedAs 9 r → out′ ≡ out
-      → WriteSays d out out′ r
+      : state d ≡ 0 → length out < length (keyText (deskIn d .key)) → RefusedAs 9 r → out′ ≡ out → WriteSays d out out′ r
   write-short e i a o =
-      let z : writeFault (deskIn d) out ≡ 9 = first-none (stateFault true (deskIn d)) (when (ltb (length out) (length (keyText (deskIn d .key)))) 9) e ∙ ap (λ (t : Bool). when t 9) (lt-ltb (length out) (length (keyText (deskIn d .key))) i) in
-      write-by 9 z (λ q. omega arith) a o
+      let t = lt-ltb (length out) (length (keyText (deskIn d .key))) i in
+      write-by 9 (short-fault true e t) (λ q. omega arith) a o
 
   pub written
-      : stateFault true (deskIn d) ≡ 0 → length (keyText (deskIn d .key)) ≤ length out → r .number ≡ 0 → r .line ≡ 0
+      : state d ≡ 0 → length (keyText (deskIn d .key)) ≤ length out → r .number ≡ 0 → r .line ≡ 0
       → r .value ≡ length (keyText (deskIn d .key)) → out′ ≡ over (keyText (deskIn d .key)) out → WriteSays d out out′ r
   written e i n l v o =
-      let z : writeFault (deskIn d) out ≡ 0 = first-none (stateFault true (deskIn d)) (when (ltb (length out) (length (keyText (deskIn d .key)))) 9) e ∙ ap (λ (t : Bool). when t 9) (le-ltb (length out) (length (keyText (deskIn d .key))) i) in
-      let t = eq-eqb (writeFault (deskIn d) out) 0 z in
-      record { number-is = n ∙ sym z; line-is = l; value-is = rw t v; out-is = rw t o }
+      let t = le-ltb (length out) (length (keyText (deskIn d .key))) i in
+      let z : writeFault (deskIn d) out ≡ 0 = short-fault false e t in
+      let y = eq-eqb (writeFault (deskIn d) out) 0 z in
+      record { number-is = n ∙ sym z; line-is = l; value-is = rw y v; out-is = rw y o }
 
 module _ (d : DD.Desk) (s : List ℕ) where
   mark-by : (f : Fault) → placeFault (deskIn d) s ≡ f → (f .number ≡ 0 → ⊥) → refused f ≡ marked (deskIn d) s
   mark-by f e h =
-      let z : eqb (placeFault (deskIn d) s .number) 0 ≡ false = ne-eqb (placeFault (deskIn d) s .number) 0 (λ q. h (sym (ap (λ (x : Fault). x .number) e) ∙ q)) in
+      let z = is-set (placeFault (deskIn d) s .number) (f .number) (ap (λ (x : Fault). x .number) e) h in
       rw z (ap refused (sym e))
 
-  pub mark-refused : (k : ℕ) → k ≡ stateFault true (deskIn d) → (k ≡ 0 → ⊥) → refused (fault k 0) ≡ marked (deskIn d) s
+  pub mark-refused : (k : ℕ) → k ≡ state d → (k ≡ 0 → ⊥) → refused (fault k 0) ≡ marked (deskIn d) s
   mark-refused k e h =
-      let z : eqb (stateFault true (deskIn d)) 0 ≡ false = ne-eqb (stateFault true (deskIn d)) 0 (λ q. h (e ∙ q)) in
+      let z = is-set (state d) k (sym e) h in
       mark-by (fault k 0) (rw z (ap (λ (x : ℕ). fault x 0) (sym e))) h
 
-  read-fault : stateFault true (deskIn d) ≡ 0 → placeFault (deskIn d) s ≡ fault (readIn (deskIn d) s .number) (readIn (deskIn d) s .place)
-  read-fault e = rw (eq-eqb (stateFault true (deskIn d)) 0 e)
+  read-fault
+      : (n l : ℕ) (gs : List ℕ) → state d ≡ 0 → placed n l gs ≡ readIn (deskIn d) s
+      → placeFault (deskIn d) s ≡ fault n l
+  read-fault n l gs e q = rw (eq-eqb (state d) 0 e) (ap faultIn (sym q))
 
   pub mark-unread
-      : (n l : ℕ) (gs : List ℕ) → stateFault true (deskIn d) ≡ 0 → placed n l gs ≡ readIn (deskIn d) s → (n ≡ 0 → ⊥)
+      : (n l : ℕ) (gs : List ℕ) → state d ≡ 0 → placed n l gs ≡ readIn (deskIn d) s → (n ≡ 0 → ⊥)
       → refused (fault n l) ≡ marked (deskIn d) s
-  mark-unread n l gs e q h =
-      mark-by (fault n l) (read-fault e ∙ ap (λ (x : Placed). fault (x .number) (x .place)) (sym q)) h
+  mark-unread n l gs e q h = mark-by (fault n l) (read-fault n l gs e q) h
 
   pub mark-given
-      : (n l : ℕ) (gs : List ℕ) (v : Verdict) → stateFault true (deskIn d) ≡ 0 → placed n l gs ≡ readIn (deskIn d) s → n ≡ 0
+      : (n l : ℕ) (gs : List ℕ) (v : Verdict) → state d ≡ 0 → placed n l gs ≡ readIn (deskIn d) s → n ≡ 0
       → v ≡ markOf (deskIn d .nest-is) (deskIn d .key) gs → given v ≡ marked (deskIn d) s
   mark-given n l gs v e q h m =
-      let z : placeFault (deskIn d) s .number ≡ 0 = ap (λ (x : Fault). x .number) (read-fault e) ∙ (sym (ap (λ (x : Placed). x .number) q) ∙ h) in
+      let z : placeFault (deskIn d) s .number ≡ 0 = ap (λ (x : Fault). x .number) (read-fault n l gs e q) ∙ h in
       rw (eq-eqb (placeFault (deskIn d) s .number) 0 z)
       (ap given (m ∙ ap (λ (x : Placed). markOf (deskIn d .nest-is) (deskIn d .key) (x .gaps)) q))

@@ -12,6 +12,11 @@ use Rattle.placements.specs.Placements.{uncut, differ, loopCount}
 use Rattle.placements.specs.Answers.{Difference, difference, differenceOf}
 use Rattle.placements.specs.Verdicts.{Verdict, Uncut, Dearer, Best, verdictBy, markOf}
 
+-- the difference, of the place where the counts differ
+abbrev differenceAt : Nest → List ℕ → List ℕ → ℕ → Difference
+differenceAt n key gs k =
+    pick (eqb k 0) (difference 0 0 0) (difference k (loopCount n gs (k - 1)) (loopCount n key (k - 1)))
+
 module _ (n : Nest) (key gs : List ℕ) where
   pub uncut-is : (u : ℕ) → u ≡ uncut n gs → (u ≡ 0 → ⊥) → Uncut (u - 1) ≡ markOf n key gs
   uncut-is u e h = go (uncut n gs) e
@@ -26,10 +31,7 @@ module _ (n : Nest) (key gs : List ℕ) where
       : (d t o : ℕ) → uncut n gs ≡ 0 → difference (suc d) t o ≡ differenceOf n key gs → Dearer d t o ≡ markOf n key gs
   dearer-is d t o u e = rw u (go (differ n key gs) e)
     where
-      go
-          : (k : ℕ)
-          → difference (suc d) t o ≡ pick (eqb k 0) (difference 0 0 0) (difference k (loopCount n gs (k - 1)) (loopCount n key (k - 1)))
-          → Dearer d t o ≡ verdictBy n key gs zero k
+      go : (k : ℕ) → difference (suc d) t o ≡ differenceAt n key gs k → Dearer d t o ≡ verdictBy n key gs zero k
       go zero q =
           let z : suc d ≡ 0 = ap (λ (x : Difference). x .place) q in
           absurd (omega arith)
@@ -45,10 +47,7 @@ module _ (n : Nest) (key gs : List ℕ) where
   pub best-is : uncut n gs ≡ 0 → difference 0 0 0 ≡ differenceOf n key gs → Best ≡ markOf n key gs
   best-is u e = rw u (go (differ n key gs) e)
     where
-      go
-          : (k : ℕ)
-          → difference 0 0 0 ≡ pick (eqb k 0) (difference 0 0 0) (difference k (loopCount n gs (k - 1)) (loopCount n key (k - 1)))
-          → Best ≡ verdictBy n key gs zero k
+      go : (k : ℕ) → difference 0 0 0 ≡ differenceAt n key gs k → Best ≡ verdictBy n key gs zero k
       go zero q = refl
       go (suc k) q =
           let z : 0 ≡ suc k = ap (λ (x : Difference). x .place) (rw (eqb·suc-zero k) at q) in

@@ -17,11 +17,13 @@ use Rattle.desk.specs.Desks.{withPlay, deskIn, IsMade}
 use Rattle.desk.specs.Says.{Holds, LoadSays, PlanSays}
 
 -- 01, "Which placement is better": a desk whose last accepted Load read the text s, with no Reset since, whatever it
--- was used for before. Plans, refused Loads, moves of the sitting and take-backs may lie between; the other calls change
--- nothing.
+-- was used for before. Plans, refused Loads, moves of the sitting and take-backs may lie between; the other calls
+-- change nothing.
 pub data Since (s : List ℕ) : DD.Desk → Type 0 where
   loaded : (d : DD.Desk) (r : DR.Reply) → IsMade d → LoadSays d s r → r .number ≡ 0 → Since s (r .desk)
-  refused : (d : DD.Desk) (t : List ℕ) (r : DR.Reply) → Since s d → LoadSays d t r → (r .number ≡ 0 → ⊥) → Since s (r .desk)
+  refused
+      : (d : DD.Desk) (t : List ℕ) (r : DR.Reply) → Since s d → LoadSays d t r → (r .number ≡ 0 → ⊥)
+      → Since s (r .desk)
   planned : (d : DD.Desk) (r : DR.Reply) → Since s d → PlanSays d r → Since s (r .desk)
   moved : (d e : DD.Desk) (p : Play (List ℕ) DM.Move) → Since s d → Holds e (withPlay p (deskIn d)) → Since s e
 

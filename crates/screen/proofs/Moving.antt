@@ -39,7 +39,12 @@ module _ (d : DD.Desk) (made : IsMade d) (r : DM.Moved) where
   -- the desk with the new sitting, whose kept number is told, and the new moves
   pub made-with
       : (number : ℕ) (p : Play (List ℕ) DG.Move) (s : DS.Sitting) (v : DV.Moves)
-      → number ≡ 0 → Kept.barriers s ≡ p .state → Kept.Kept (nestIn (d .nest)) s → movesIn v ≡ p .kept → IsRing v → r ≡ movedTo d s v
+      → number ≡ 0
+      → Kept.barriers s ≡ p .state
+      → Kept.Kept (nestIn (d .nest)) s
+      → movesIn v ≡ p .kept
+      → IsRing v
+      → r ≡ movedTo d s v
       → MoveSays number (withPlay p (deskIn d)) d r
   made-with number p s v e b k m i is =
       let z : eqb number 0 ≡ true = eq-eqb number 0 e in
@@ -162,8 +167,8 @@ module _ (d : DD.Desk) (g : ℕ) (made : IsMade d) (r : DM.Moved) where
         → r ≡ movedTo d s v
         → PutSays d g r
     put-made s v h p q =
-        made-with d made r (putFault (deskIn d) g)
-        (moved (sittingGame (nestIn (d .nest))) (playOn (deskIn d)) (putAt g)) s v (put-number false h) (p .barriers-are) (p .kept)
+        let after = moved (sittingGame (nestIn (d .nest))) (playOn (deskIn d)) (putAt g) in
+        made-with d made r (putFault (deskIn d) g) after s v (put-number false h) (p .barriers-are) (p .kept)
         (q .moves-are) (q .ring)
 
     pub lift-made
@@ -174,6 +179,6 @@ module _ (d : DD.Desk) (g : ℕ) (made : IsMade d) (r : DM.Moved) where
         → r ≡ movedTo d s v
         → LiftSays d g r
     lift-made s v h p q =
-        made-with d made r (liftFault (deskIn d) g)
-        (moved (sittingGame (nestIn (d .nest))) (playOn (deskIn d)) (liftAt g)) s v (lift-number true h) (p .barriers-are) (p .kept)
+        let after = moved (sittingGame (nestIn (d .nest))) (playOn (deskIn d)) (liftAt g) in
+        made-with d made r (liftFault (deskIn d) g) after s v (lift-number true h) (p .barriers-are) (p .kept)
         (q .moves-are) (q .ring)

@@ -52,8 +52,8 @@ afterBack x = withPlay (takenBack (sittingGame (x .nest-is)) (playOn x)) x
 abbrev pub uncutOn : Desk → ℕ
 uncutOn x = uncutCount (x .nest-is .points) (x .nest-is .deps) (x .sitting)
 
--- a move or a take-back: its number, with line 0; made, it leaves the desk `after` and tells how many dependences remain
--- uncut there; refused, it leaves the desk as it was and tells 0
+-- a move or a take-back: its number, with line 0; made, it leaves the desk `after` and tells how many dependences
+-- remain uncut there; refused, it leaves the desk as it was and tells 0
 pub record MoveSays (number : ℕ) (after : Desk) (d : DD.Desk) (r : DM.Moved) : Type 0 where
   pub number-is : r .number ≡ number
   pub line-is : r .line ≡ 0

@@ -1,3 +1,4 @@
+-- `judge` meets its contract: the verdict follows from what the uncut test and the comparison answer (proofs/Judged).
 use mathlib.Core.Path.{_≡_, refl, sym, _∙_, ap}
 use Rattle.nests.specs.Stored.{nestIn}
 use Rattle.nests.proofs.Stored.{counted-points}
@@ -8,10 +9,6 @@ use Rattle.desk.proofs.Judged.{uncut-is, dearer-is, best-is}
 use borrow.Author.Needs.{needs}
 use Rattle.desk.proofs.judge.Statement.{statement}
 use Rattle.desk.proofs.judge.Tie as tie
-use Rattle.desk.proofs.judge.Reads as reads
-use Rattle.desk.proofs.judge.Lts as lts
-use Rattle.placements.proofs.compare.Reads as compare-reads
-use Rattle.placements.proofs.uncut.Reads as uncut-reads
 
 uncut-requires : tie.Need-uncut-requires
 uncut-requires c κs = search needs
@@ -20,10 +17,16 @@ sub-t10 : tie.Need-sub-t10
 sub-t10 c = search needs
 
 returns : tie.Need-returns
-returns c = uncut-is (nestIn (c .before .before .args .nest)) (gapsIn (c .before .before .args .key .words)) (gapsIn (c .before .before .args .placement .words)) (c .before .uncut .result) (c .before .uncut .ensures) (c .if1 .taken)
+returns c =
+    let a = c .before .before .args in
+    let u = c .before .uncut in
+    uncut-is (nestIn (a .nest)) (gapsIn (a .key .words)) (gapsIn (a .placement .words)) (u .result) (u .ensures)
+    (c .if1 .taken)
 
 array-share-prefix-points : tie.Need-array-share-prefix-points
-array-share-prefix-points c = counted-points (c .before .before .before .args .nest) (c .before .before .before .pre .0)
+array-share-prefix-points c =
+    let s = c .before .before .before in
+    counted-points (s .args .nest) (s .pre .0)
 
 slice-aggregate-compare : tie.Need-slice-aggregate-compare
 slice-aggregate-compare c = search needs
@@ -41,10 +44,23 @@ enum-told : tie.Need-enum-told
 enum-told c = search needs
 
 returns-2 : tie.Need-returns-2
-returns-2 c = dearer-is (nestIn (c .before .before .before .before .before .before .before .before .args .nest)) (gapsIn (c .before .before .before .before .before .before .before .before .args .key .words)) (gapsIn (c .before .before .before .before .before .before .before .before .args .placement .words)) _ _ _ (sym (c .before .before .before .before .before .before .before .uncut .ensures) ∙ c .before .before .before .before .before .before .if1 .left) (ap differenceIn (sym (c .before .compared .given .1)) ∙ c .before .before .before .compare .ensures (nestIn (c .before .before .before .before .before .before .before .before .args .nest) .deps))
+returns-2 c =
+    let t = c .before .before .before .before .before .before in
+    let a = t .before .before .args in
+    let n = nestIn (a .nest) in
+    let difference = c .before .before .before .compare .ensures (n .deps) in
+    dearer-is n (gapsIn (a .key .words)) (gapsIn (a .placement .words)) _ _ _
+    (sym (t .before .uncut .ensures) ∙ t .if1 .left)
+    (ap differenceIn (sym (c .before .compared .given .1)) ∙ difference)
 
 returns-3 : tie.Need-returns-3
-returns-3 c = best-is (nestIn (c .before .before .before .before .before .before .before .args .nest)) (gapsIn (c .before .before .before .before .before .before .before .args .key .words)) (gapsIn (c .before .before .before .before .before .before .before .args .placement .words)) (sym (c .before .before .before .before .before .before .uncut .ensures) ∙ c .before .before .before .before .before .if1 .left) (ap differenceIn (sym (c .enum-told .given .1)) ∙ c .before .before .compare .ensures (nestIn (c .before .before .before .before .before .before .before .args .nest) .deps))
+returns-3 c =
+    let t = c .before .before .before .before .before in
+    let a = t .before .before .args in
+    let n = nestIn (a .nest) in
+    let difference = c .before .before .compare .ensures (n .deps) in
+    best-is n (gapsIn (a .key .words)) (gapsIn (a .placement .words)) (sym (t .before .uncut .ensures) ∙ t .if1 .left)
+    (ap differenceIn (sym (c .enum-told .given .1)) ∙ difference)
 
 pub judge-spec : {M : Type 1} → statement M
 judge-spec =

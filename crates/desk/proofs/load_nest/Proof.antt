@@ -1,14 +1,9 @@
+-- `load_nest` meets its contract: one law for a refused text, one for an accepted one (proofs/Loads).
 use mathlib.Core.Path.{refl}
 use borrow.Author.Needs.{needs}
 use Rattle.desk.proofs.Loads.{load-refused, load-accepted}
 use Rattle.desk.proofs.load_nest.Statement.{statement}
 use Rattle.desk.proofs.load_nest.Tie as tie
-use Rattle.desk.proofs.load_nest.Reads as reads
-use Rattle.desk.proofs.load_nest.Lts as lts
-use Rattle.placements.proofs.Placement.empty.Reads as Placement-empty-reads
-use Rattle.sitting.proofs.Sitting.empty.Reads as Sitting-empty-reads
-use Rattle.moves.proofs.Moves.empty.Reads as Moves-empty-reads
-use Rattle.texts.proofs.read_nest.Reads as read-nest-reads
 
 read-nest-requires : tie.Need-read-nest-requires
 read-nest-requires c κs = search needs
@@ -16,7 +11,8 @@ read-nest-requires c κs = search needs
 returns : tie.Need-returns
 returns c =
     let r = c .before .read-nest in
-    load-refused (c .before .before .before .args .text .now) (r .result) (r .ensures) (c .before .before .before .args .desk) _ (c .if1 .taken) refl refl refl
+    let a = c .before .before .before .args in
+    load-refused (a .text .now) (r .result) (r .ensures) (a .desk) _ (c .if1 .taken) refl refl refl
 
 empty-requires : tie.Need-empty-requires
 empty-requires c κs = search needs

@@ -10,8 +10,9 @@ refused-requires c κs = search needs
 returns : tie.Need-returns
 returns c =
     let b4 = c .before .before .before .before in
+    let d = b4 .before .args .desk in
     let m = b4 .before .pre in
-    back-none (b4 .before .args .desk) m (c .refused .result) (b4 .if1 .taken) (c .before .if2 .taken) (c .refused .ensures)
+    back-none d m (c .refused .result) (b4 .if1 .taken) (c .before .if2 .taken) (c .refused .ensures)
 
 latest-requires : tie.Need-latest-requires
 latest-requires c κs = search needs
