@@ -6,11 +6,11 @@ ghost use Prim.Native.Nat.{_≤_};
 ghost use lib.ListN.{length};
 ghost use Rattle.desk.specs.Desks.{IsMade};
 use desk::Desk;
-use desk::PlainDesk;
 use libc::STDIN_FILENO;
 use libc::STDOUT_FILENO;
 use lines::Read;
 use lines::read_line;
+use trials::gone_over;
 
 const PUT: u8 = 0x30;
 
@@ -104,26 +104,11 @@ fn make(desk: Desk, kind: u8, gap: usize) -> Desk
             back.desk
         }
         _ => {
-            let gone = over(desk);
+            let gone = gone_over(desk);
             report(0, gone.sitting.uncut);
             gone
         }
     }
-}
-
-// The desk's nest and key as a desk of the kind before sittings, gone over.
-fn over(desk: Desk) -> Desk
-    requires { ⌜ IsMade desk ⌝ }
-    ensures { λ r. ⌜ IsMade r ⌝ }
-{
-    let nest = desk.nest;
-    let key = desk.key;
-    desk::go_over(PlainDesk {
-        loaded: desk.loaded,
-        nest: nest,
-        planned: desk.planned,
-        key: key,
-    })
 }
 
 // Reports each dependence and its kept count.

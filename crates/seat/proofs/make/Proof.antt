@@ -41,8 +41,8 @@ cast-report-4 c = search needs
 report-requires-4 : tie.Need-report-requires-4
 report-requires-4 c κs = search needs
 
-over-requires : tie.Need-over-requires
-over-requires c κs = search needs
+gone-over-requires : tie.Need-gone-over-requires
+gone-over-requires c κs = search needs
 
 report-requires-5 : tie.Need-report-requires-5
 report-requires-5 c κs = search needs
@@ -90,7 +90,7 @@ make-spec =
     take-back-requires
     cast-report-4
     report-requires-4
-    over-requires
+    gone-over-requires
     report-requires-5
     returns
     returns-2
