@@ -2,8 +2,10 @@
 """Full-size papers for measuring: papers.py KIND POINTS writes a nest text, the same each time.
 
 KIND: deep (8 loops, one in the other), one (one loop), many (small loops side by side), mixed (a random tree), carried
-(empty loops side by side, 8 deep). There are twice as many dependences as points, independent and carried in equal
-parts; in a carried paper the outermost loop carries them all.
+(empty loops side by side, 8 deep), tails (deep, with a statement at the end of each loop), pairs (tails 7 deep, with
+empty loops in the innermost). There are twice as many dependences as points, independent and carried in equal parts; in
+a carried paper the outermost loop carries them all. In tails and pairs all are independent, from the statement at each
+loop's end to its ENDDO and from each empty loop to the next, again and again: each search of the planner goes far.
 """
 import random
 import sys
@@ -21,6 +23,10 @@ def points(kind, n, rng):
         return [DO] + inner + [ST] * (n - 2 - len(inner)) + [END]
     if kind == 'carried':
         return [DO] * 7 + [DO, END] * ((n - 14) // 2) + [END] * 7
+    if kind == 'tails':
+        return [DO] * 8 + [ST] * (n - 23) + [END] + [ST, END] * 7
+    if kind == 'pairs':
+        return [DO] * 7 + [DO, END] * ((n - 20) // 2) + [END] + [ST, END] * 6
     ps, depth = [DO], 1
     while len(ps) < n - depth:
         r = rng.random()
@@ -45,6 +51,14 @@ def ends(ps):
     return end
 
 
+def short_lines(ps, end):
+    """From the statement at a loop's end to its ENDDO; from an empty loop to the end of the next, or of their loop."""
+    lines = [(e - 1, e) for e in end.values() if ps[e - 1] == ST]
+    empty = sorted(d for d, e in end.items() if e == d + 1)
+    lines += [(a, end[b]) for a, b in zip(empty, empty[1:])]
+    return lines + [(d, end[d] + 1) for d in empty[-1:]]
+
+
 def main():
     kind, n = sys.argv[1], int(sys.argv[2])
     rng = random.Random(kind + str(n))
@@ -52,6 +66,11 @@ def main():
     end = ends(ps)
     out = ['%02x' % p for p in ps]
     loops, deps = list(end), 0
+    if kind in ('tails', 'pairs'):
+        lines = short_lines(ps, end)
+        while deps < 2 * n:
+            out.append('11%02x%02x' % lines[deps % len(lines)])
+            deps += 1
     while deps < 2 * n:
         s, t = rng.randrange(n), rng.randrange(n)
         if ps[s] == END or ps[t] == DO:

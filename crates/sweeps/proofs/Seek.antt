@@ -33,7 +33,7 @@ pub pass-two
 pass-two need f a low x y h =
     let z : a - 2 ≡ a - 1 - 1 = omega arith in
     let u : seek (at need) f low (a - 1 - 1) ≡ seek (at need) f low a =
-        seek-on (at need) f low (a - 1) (omega arith) y ∙ seek-on (at need) f low a (omega arith) x in
+    seek-on (at need) f low (a - 1) (omega arith) y ∙ seek-on (at need) f low a (omega arith) x in
     rw z u
 
 -- k gaps and the k before them.
