@@ -83,7 +83,8 @@ module _ (d : DD.Desk) (out out′ : List ℕ) (r : DA.Answer) where
   short-fault t e i = first-none (state d) (short d out) (when t 9) e (ap (λ (x : Bool). when x 9) i)
 
   pub write-short
-      : state d ≡ 0 → length out < length (keyText (deskIn d .key)) → RefusedAs 9 r → out′ ≡ out → WriteSays d out out′ r
+      : state d ≡ 0 → length out < length (keyText (deskIn d .key)) → RefusedAs 9 r → out′ ≡ out
+      → WriteSays d out out′ r
   write-short e i a o =
       let t = lt-ltb (length out) (length (keyText (deskIn d .key))) i in
       write-by 9 (short-fault true e t) (λ q. omega arith) a o
