@@ -40,9 +40,6 @@ const BARRIER: u8 = 0x21;
 const COUNT: u8 = 0x22;
 const REFUSAL: u8 = 0x2f;
 
-/// Whether a carried dependence may have s before t. Before request 1 it got number 7.
-const FORWARD: bool = true;
-
 /// Nests of at most so many points are searched whole; random ones mostly have SMALL points or fewer.
 const SEARCHED: usize = 15;
 const SMALL: usize = 12;
@@ -94,7 +91,7 @@ impl Nest {
         if x.kind == INDEPENDENT { return if x.s >= x.t { Some(7) } else { None } }
         if !sort(x.d, [DO, DO]) { return Some(6) }
         let inside = |p: usize| x.d < p && p < self.end[x.d];
-        if (x.s < x.t && !FORWARD) || !inside(x.s) || !inside(x.t) { Some(7) } else { None }
+        if !inside(x.s) || !inside(x.t) { Some(7) } else { None }
     }
 
     fn text(&self) -> Vec<u8> {
