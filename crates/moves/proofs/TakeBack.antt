@@ -1,15 +1,20 @@
 -- Taking back: of the moves made since a play, those not taken back lead to the state, and the latest of them are kept.
 -- Main statements: `history-moved`, `history-back`; `standing-start`, `standing-moved`, `standing-back`, `all-back`,
--- `one-kept`.
+-- `one-kept`, `still-latest`.
 use mathlib.Core.Path.{_≡_, refl, sym, ap, _∙_, subst}
+use mathlib.Core.Bool.{Bool, true, false}
 use mathlib.Core.List.{List, [], _∷_, _++_}
-use mathlib.Core.Logic.{⊎-elim}
+use mathlib.Core.Logic.{_⊎_, inl, inr, ⊎-elim}
 use Prim.Native.Nat.{ℕ, zero, suc, _+_, _-_, _≤_, _<_}
 use native.Mathlib.Omega.{arith}
-use lib.ListN.{length, take, length-take}
+use lib.Dec.{ltb}
+use lib.ListN.{length, take, length-take, length-append}
 use lib.Seq.{take-all, take-take}
+use borrow.Author.Tests.{ltb-true, ltb-false}
+use Rattle.laws.specs.Choice.{pick}
 use Rattle.laws.proofs.Tests.{le-or}
 use Rattle.moves.specs.TakeBack.{Game, Undoes, Play, moved, backTo, takenBack, Came, Led, History}
+use Rattle.moves.specs.TakeBack.{most, stillKept}
 
 -- ---- lists
 
@@ -71,77 +76,103 @@ module _ {S M : Type 0} (G : Game S M) where
 
 -- ---- 02, job 5: up to 64 in a row; older moves are forgotten
 
--- play q, where k moves were made since play p and of these ms, the latest first, are not taken back: they lead from
--- p's state to q's, and the moves kept are the latest of them and of p's. As long as no more are made than there is
--- room for, none of them is forgotten; as long as none is taken back, all are kept that there is room for.
+pub most-is : (a b : ℕ) → ((most a b ≡ a) × (b ≤ a)) ⊎ ((most a b ≡ b) × (a < b))
+most-is a b = go (ltb a b) refl
+  where
+    go : (t : Bool) → ltb a b ≡ t → ((pick t b a ≡ a) × (b ≤ a)) ⊎ ((pick t b a ≡ b) × (a < b))
+    go true e = inr (refl, ltb-true a b e)
+    go false e = inl (refl, ltb-false a b e)
+
+-- play q, where of the moves made since play p ms, the latest first, are not taken back, and at one time k were not:
+-- they lead from p's state to q's, and of them and p's moves those are kept for which there was room
 pub record Standing {S M : Type 0} (G : Game S M) (p : Play S M) (k : ℕ) (ms : List M) (q : Play S M) : Type 0 where
   pub led : Led G (λ s. p .state ≡ s) ms (q .state)
+  pub fits : length (p .kept) ≤ G .room
   pub many : length ms ≤ k
-  pub depth : ℕ
-  pub kept-are : q .kept ≡ take depth (ms ++ p .kept)
-  pub depth-fits : depth ≤ G .room
-  pub none-forgotten : k ≤ G .room → length ms ≤ depth
-  pub latest : length ms ≡ k → q .kept ≡ take (G .room) (ms ++ p .kept)
+  pub not-all : k ≤ length ms + G .room
+  pub kept-are : q .kept ≡ stillKept G (k + length (p .kept)) (ms ++ p .kept)
+
+-- how many moves are kept, and which
+module _ {S M : Type 0} (G : Game S M) (p : Play S M) (k : ℕ) (ms : List M) where
+  abbrev keptMany : ℕ
+  keptMany = length ms + length (p .kept) - (k + length (p .kept) - G .room)
+
+  still-is : stillKept G (k + length (p .kept)) (ms ++ p .kept) ≡ take keptMany (ms ++ p .kept)
+  still-is =
+      ap (λ (l : ℕ). take (l - (k + length (p .kept) - G .room)) (ms ++ p .kept)) (length-append ms (p .kept))
+
+  kept-take : (q : Play S M) → Standing G p k ms q → q .kept ≡ take keptMany (ms ++ p .kept)
+  kept-take q s = s .kept-are ∙ still-is
 
 module _ {S M : Type 0} (G : Game S M) (p : Play S M) where
   pub standing-start : length (p .kept) ≤ G .room → Standing G p 0 [] p
   standing-start h =
-      let all : p .kept ≡ take (G .room) (p .kept) = sym (take-all (G .room) (p .kept) h) in
+      let z : keptMany G p 0 [] ≡ length (p .kept) = omega arith in
+      let all : take (keptMany G p 0 []) (p .kept) ≡ p .kept =
+      rw z (take-all (length (p .kept)) (p .kept) (omega arith)) in
       record {
         led = refl;
+        fits = h;
         many = omega arith;
-        depth = G .room;
-        kept-are = all;
-        depth-fits = omega arith;
-        none-forgotten = λ _. omega arith;
-        latest = λ _. all;
+        not-all = omega arith;
+        kept-are = sym (still-is G p 0 [] ∙ all);
       }
 
   pub standing-moved
       : (k : ℕ) (ms : List M) (q : Play S M) (m : M)
       → Standing G p k ms q
       → G .fits (q .state) m
-      → Standing G p (suc k) (m ∷ ms) (moved G q m)
-  standing-moved k ms q m s f =
-      ⊎-elim (λ (z : G .room ≤ s .depth). full z) (λ (z : s .depth < G .room). more z) (le-or (G .room) (s .depth))
+      → Standing G p (most k (suc (length ms))) (m ∷ ms) (moved G q m)
+  standing-moved k ms q m s f = go (most k (suc (length ms))) (most-is k (suc (length ms)))
     where
       came : Led G (λ t. p .state ≡ t) (m ∷ ms) (G .apply (q .state) m)
       came = record { from = q .state; fitted = f; came = refl; earlier = s .led }
 
-      front : (xs : List M) → q .kept ≡ xs → take (G .room) (m ∷ q .kept) ≡ take (G .room) (m ∷ xs)
-      front xs e = ap (λ (l : List M). take (G .room) (m ∷ l)) e
+      -- one more is kept, as far as there is room
+      front
+          : (j : ℕ)
+          → keptMany G p k ms ≤ G .room
+          → (keptMany G p k ms < G .room → j ≡ suc (keptMany G p k ms))
+          → (G .room ≤ keptMany G p k ms → j ≡ G .room)
+          → take (G .room) (m ∷ q .kept) ≡ take j (m ∷ (ms ++ p .kept))
+      front j h more full =
+          ap (λ (l : List M). take (G .room) (m ∷ l)) (kept-take G p k ms q s) ∙
+          ⊎-elim
+          (λ (z : G .room ≤ keptMany G p k ms).
+          let e : keptMany G p k ms ≡ G .room = omega arith in
+          rw (e, full z) (take-front (G .room) m (ms ++ p .kept)))
+          (λ (z : keptMany G p k ms < G .room).
+          rw (more z) (take-more (G .room) (keptMany G p k ms) m (ms ++ p .kept) z))
+          (le-or (G .room) (keptMany G p k ms))
 
-      still : length (m ∷ ms) ≡ suc k → take (G .room) (m ∷ q .kept) ≡ take (G .room) (m ∷ (ms ++ p .kept))
-      still e =
-          front (take (G .room) (ms ++ p .kept)) (s .latest (omega arith)) ∙
-          take-front (G .room) m (ms ++ p .kept)
-
-      full : G .room ≤ s .depth → Standing G p (suc k) (m ∷ ms) (moved G q m)
-      full z =
-          let e : s .depth ≡ G .room = omega (arith, s .depth-fits) in
-          let c : q .kept ≡ take (G .room) (ms ++ p .kept) = rw e at (s .kept-are) in
+      go
+          : (j : ℕ) → ((j ≡ k) × (suc (length ms) ≤ k)) ⊎ ((j ≡ suc (length ms)) × (k < suc (length ms)))
+          → Standing G p j (m ∷ ms) (moved G q m)
+      go j (inl h) =
           record {
             led = came;
-            many = omega (arith, s .many);
-            depth = G .room;
-            kept-are = front (take (G .room) (ms ++ p .kept)) c ∙ take-front (G .room) m (ms ++ p .kept);
-            depth-fits = omega arith;
-            none-forgotten = λ h. omega (arith, s .many);
-            latest = still;
-          }
-
-      more : s .depth < G .room → Standing G p (suc k) (m ∷ ms) (moved G q m)
-      more z =
-          record {
-            led = came;
-            many = omega (arith, s .many);
-            depth = suc (s .depth);
+            fits = s .fits;
+            many = omega (arith, h .0, h .1);
+            not-all = omega (arith, h .0, s .not-all);
             kept-are =
-                front (take (s .depth) (ms ++ p .kept)) (s .kept-are) ∙
-                take-more (G .room) (s .depth) m (ms ++ p .kept) z;
-            depth-fits = omega arith;
-            none-forgotten = λ h. omega (arith, s .none-forgotten (omega arith));
-            latest = still;
+                front (keptMany G p j (m ∷ ms))
+                (omega (arith, h .1, s .many))
+                (λ z. omega (arith, h .0, h .1, s .not-all))
+                (λ z. omega (arith, h .0, h .1)) ∙
+                sym (still-is G p j (m ∷ ms));
+          }
+      go j (inr h) =
+          record {
+            led = came;
+            fits = s .fits;
+            many = omega (arith, h .0);
+            not-all = omega (arith, h .0);
+            kept-are =
+                front (keptMany G p j (m ∷ ms))
+                (omega (arith, h .1, s .many))
+                (λ z. omega (arith, h .0, h .1, s .many))
+                (λ z. omega (arith, h .0, h .1, s .many)) ∙
+                sym (still-is G p j (m ∷ ms));
           }
 
   -- a take-back where a move is kept
@@ -151,42 +182,55 @@ module _ {S M : Type 0} (G : Game S M) (p : Play S M) where
       → Standing G p k (m ∷ ms) q
       → (length (q .kept) ≡ 0 → ⊥)
       → Standing G p k ms (takenBack G q)
-  standing-back undoes k ms q m s some = go (s .depth) refl
+  standing-back undoes k ms q m s some = go (keptMany G p k (m ∷ ms)) refl
     where
-      go : (j : ℕ) → s .depth ≡ j → Standing G p k ms (takenBack G q)
+      go : (j : ℕ) → keptMany G p k (m ∷ ms) ≡ j → Standing G p k ms (takenBack G q)
       go zero e =
-          let z : q .kept ≡ [] = rw e at (s .kept-are) in
+          let z : q .kept ≡ [] = rw e at (kept-take G p k (m ∷ ms) q s) in
           absurd (some (ap length z))
       go (suc j) e =
-          let c : q .kept ≡ m ∷ take j (ms ++ p .kept) = rw e at (s .kept-are) in
+          let c : q .kept ≡ m ∷ take j (ms ++ p .kept) = rw e at (kept-take G p k (m ∷ ms) q s) in
           let u = came-undone G undoes (Led G (λ t. p .state ≡ t) ms) (q .state) m (s .led) in
+          let l : keptMany G p k ms ≡ j = omega arith in
+          let r : take j (ms ++ p .kept) ≡ stillKept G (k + length (p .kept)) (ms ++ p .kept) =
+          sym (still-is G p k ms ∙ ap (λ (i : ℕ). take i (ms ++ p .kept)) l) in
           rw
           c
           (record {
             led = subst (λ (x : S). Led G (λ t. p .state ≡ t) ms x) (sym u) (s .led .earlier);
+            fits = s .fits;
             many = omega (arith, s .many);
-            depth = j;
-            kept-are = refl;
-            depth-fits = omega (arith, s .depth-fits);
-            none-forgotten = λ h. omega (arith, s .none-forgotten h);
-            latest = λ h. absurd (omega (arith, s .many));
+            not-all = omega arith;
+            kept-are = r;
           })
 
   -- all taken back, the state is that of before
   pub all-back : (k : ℕ) (q : Play S M) → Standing G p k [] q → p .state ≡ q .state
   all-back k q s = s .led
 
-  -- as long as one is not taken back, one is kept
+  -- as long as one is not taken back, and there never were more than there is room for, one is kept
   pub one-kept
       : (k : ℕ) (ms : List M) (q : Play S M) (m : M)
       → Standing G p k (m ∷ ms) q
       → k ≤ G .room
       → length (q .kept) ≡ 0 → ⊥
-  one-kept k ms q m s h e = go (s .depth) refl
+  one-kept k ms q m s h e = go (keptMany G p k (m ∷ ms)) refl
     where
-      go : (j : ℕ) → s .depth ≡ j → ⊥
-      go zero d = omega (arith, s .none-forgotten h)
+      go : (j : ℕ) → keptMany G p k (m ∷ ms) ≡ j → ⊥
+      go zero d = omega arith
       go (suc j) d =
-          let c : q .kept ≡ m ∷ take j (ms ++ p .kept) = rw d at (s .kept-are) in
+          let c : q .kept ≡ m ∷ take j (ms ++ p .kept) = rw d at (kept-take G p k (m ∷ ms) q s) in
           let l : length (q .kept) ≡ suc (length (take j (ms ++ p .kept))) = ap length c in
           omega arith
+
+-- where none was taken back, the latest are kept that there is room for
+pub still-latest
+    : {S M : Type 0} (G : Game S M) (ms : List M) → stillKept G (length ms) ms ≡ take (G .room) ms
+still-latest G ms = ⊎-elim
+    (λ (h : G .room ≤ length ms).
+    let z : length ms - (length ms - G .room) ≡ G .room = omega arith in
+    rw z)
+    (λ (h : length ms < G .room).
+    let z : length ms - (length ms - G .room) ≡ length ms = omega arith in
+    rw z (take-all (length ms) ms (omega arith) ∙ sym (take-all (G .room) ms (omega arith))))
+    (le-or (G .room) (length ms))

@@ -1,9 +1,11 @@
 -- Moves that can be undone, the latest of them kept, and taking back: of any states and any moves.
--- Main definitions: `Game`, `Undoes`, `Play`, `moved`, `takenBack`, `Led`, `History`.
+-- Main definitions: `Game`, `Undoes`, `Play`, `moved`, `takenBack`, `Led`, `History`, `most`, `stillKept`.
 use mathlib.Core.Path.{_≡_}
 use mathlib.Core.List.{List, [], _∷_}
-use Prim.Native.Nat.{ℕ}
-use lib.ListN.{take}
+use Prim.Native.Nat.{ℕ, _-_}
+use lib.Dec.{ltb}
+use lib.ListN.{length, take}
+use Rattle.laws.specs.Choice.{pick}
 
 -- states and moves: which moves fit a state, what a move makes of it, what undoes it; `room` moves are kept
 pub record Game (S M : Type 0) : Type 1 where
@@ -52,3 +54,12 @@ module _ {S M : Type 0} (G : Game S M) where
   -- from any state
   abbrev pub History : List M → S → Type 0
   History ms s = Led (λ t. Unit) ms s
+
+  -- 02, job 5: older moves are forgotten: of `all` moves not yet taken back, where at one time there were `peak`, those
+  -- for which there was no room then, the oldest
+  abbrev pub stillKept : ℕ → List M → List M
+  stillKept peak all = take (length all - (peak - G .room)) all
+
+-- the greater of two numbers
+abbrev pub most : ℕ → ℕ → ℕ
+most a b = pick (ltb a b) b a

@@ -1,13 +1,13 @@
 -- Runs of calls at the screen: a run's moves stand as in the game of a sitting (moves/proofs/TakeBack), so that taking
 -- back gives the sitting of before.
--- Main statements: `taken-back`, `none-refused`, `sixty-fifth`, `latest-kept`, `cleared`.
+-- Main statements: `taken-back`, `none-refused`, `sixty-fifth`, `latest-kept`, `latest-in-order`, `cleared`.
 use mathlib.Core.Path.{_≡_, refl, sym, _∙_, ap, subst}
 use mathlib.Core.Bool.{Bool, true, false}
-use mathlib.Core.List.{List, [], _∷_}
+use mathlib.Core.List.{List, [], _∷_, _++_}
 use Prim.Native.Nat.{ℕ, zero, suc, _-_, _≤_, _<_}
 use native.Mathlib.Omega.{arith}
 use lib.Dec.{eqb}
-use lib.ListN.{length, getD, drop, drop-of-length-le}
+use lib.ListN.{length, getD, drop, drop-of-length-le, length-append}
 use borrow.Author.Tests.{eq-eqb, ne-eqb}
 use Rattle.nests.specs.Nests.{Nest}
 use Rattle.nests.specs.Stored.{nestIn}
@@ -15,10 +15,11 @@ use Rattle.sitting.specs.Kept.{barriers, Kept}
 use Rattle.sitting.proofs.Outcome.{kept-same}
 use Rattle.moves.specs.declared.Move as DG
 use Rattle.moves.specs.Ring.{KEPT}
-use Rattle.moves.specs.TakeBack.{Game, Play, moved, backTo, takenBack}
+use Rattle.moves.specs.TakeBack.{Game, Play, moved, backTo, takenBack, most, stillKept}
 use Rattle.moves.specs.Game.{putAt, liftAt, Fits}
 use Rattle.moves.proofs.Ring.{moves-many}
 use Rattle.moves.proofs.TakeBack.{Standing, standing-start, standing-moved, standing-back, all-back, one-kept}
+use Rattle.moves.proofs.TakeBack.{still-latest}
 use Rattle.moves.proofs.Game.{undoes}
 use Rattle.desk.specs.declared.Desk as DD
 use Rattle.desk.specs.declared.Reply as DR
@@ -28,7 +29,7 @@ use Rattle.desk.proofs.Made.{loaded-holds, refused-keeps, plan-makes, plan-keep
 use Rattle.screen.specs.declared.Moved as DM
 use Rattle.screen.specs.Says.{putFault, liftFault, backFault, PutSays, LiftSays, BackSays}
 use Rattle.screen.specs.Runs.{Unmoved, Run, Backs, NoMove}
-use Rattle.screen.specs.Runs.{TakenBack, NoneRefused, SixtyFifth, LatestKept, Cleared}
+use Rattle.screen.specs.Runs.{TakenBack, NoneRefused, SixtyFifth, LatestKept, LatestInOrder, Cleared}
 use Rattle.screen.proofs.Made.{gameOn, playIn, put-fits, lift-fits, back-some}
 use Rattle.screen.proofs.Made.{move-makes, move-keeps, made-put, made-lift, made-back}
 
@@ -116,19 +117,21 @@ module _ (d : DD.Desk) (k : ℕ) (ms : List DG.Move) (e : DD.Desk) (i : Along d 
       : (m : DG.Move) → Fits (deskIn e .nest-is) (deskIn e .sitting) m → Fits (deskIn d .nest-is) (deskIn e .sitting) m
   fits-along m f = subst (λ (n : Nest). Fits n (deskIn e .sitting) m) (i .nest-is) f
 
-  along-put : (g : ℕ) → PutSays e g r → r .number ≡ 0 → Along d (suc k) (putAt g ∷ ms) (r .desk)
+  along-put : (g : ℕ) → PutSays e g r → r .number ≡ 0 → Along d (most k (suc (length ms))) (putAt g ∷ ms) (r .desk)
   along-put g h z =
       let w : putFault (deskIn e) g ≡ 0 = sym (h .number-is) ∙ z in
       let p = moved (gameOn e) (playIn e) (putAt g) in
-      along-to (suc k) (putAt g ∷ ms) p (made-put e g r (i .made) h) (move-makes (putFault (deskIn e) g) p e r h w)
+      along-to (most k (suc (length ms))) (putAt g ∷ ms) p (made-put e g r (i .made) h)
+      (move-makes (putFault (deskIn e) g) p e r h w)
       (standing-moved (gameOn d) (playIn d) k ms (playIn e) (putAt g) (i .standing)
       (fits-along (putAt g) (put-fits (deskIn e) g (i .made .kept .gaps-fit) w)))
 
-  along-lift : (g : ℕ) → LiftSays e g r → r .number ≡ 0 → Along d (suc k) (liftAt g ∷ ms) (r .desk)
+  along-lift : (g : ℕ) → LiftSays e g r → r .number ≡ 0 → Along d (most k (suc (length ms))) (liftAt g ∷ ms) (r .desk)
   along-lift g h z =
       let w : liftFault (deskIn e) g ≡ 0 = sym (h .number-is) ∙ z in
       let p = moved (gameOn e) (playIn e) (liftAt g) in
-      along-to (suc k) (liftAt g ∷ ms) p (made-lift e g r (i .made) h) (move-makes (liftFault (deskIn e) g) p e r h w)
+      along-to (most k (suc (length ms))) (liftAt g ∷ ms) p (made-lift e g r (i .made) h)
+      (move-makes (liftFault (deskIn e) g) p e r h w)
       (standing-moved (gameOn d) (playIn d) k ms (playIn e) (liftAt g) (i .standing)
       (fits-along (liftAt g) (lift-fits (deskIn e) g (i .made .kept .gaps-fit) w)))
 
@@ -228,7 +231,15 @@ none-refused d e f k j ms r made q few b l h =
     run-taken d k (drop (suc j) ms) (getD ms j (putAt 0)) f r made u few h
 
 pub latest-kept : LatestKept
-latest-kept d e ms made q = along d (length ms) ms e made q .standing .latest refl
+latest-kept d e k ms made q = along d k ms e made q .standing .kept-are
+
+pub latest-in-order : LatestInOrder
+latest-in-order d e ms made q =
+    latest-kept d e (length ms) ms made q ∙
+    ap
+    (λ (l : ℕ). stillKept (gameOn d) l (ms ++ deskIn d .moves))
+    (sym (length-append ms (deskIn d .moves))) ∙
+    still-latest (gameOn d) (ms ++ deskIn d .moves)
 
 -- a take-back of a desk with a nest and no moves
 no-move : (d : DD.Desk) (r : DM.Moved) → d .loaded ≡ true → length (deskIn d .moves) ≡ 0 → BackSays d r → NoMove d r

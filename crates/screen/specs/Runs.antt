@@ -1,13 +1,15 @@
 -- Runs of calls at the screen: what job 5 says of them.
--- Main definitions: `Unmoved`, `Run`, `Backs`; `TakenBack`, `NoneRefused`, `SixtyFifth`, `LatestKept`, `Cleared`.
+-- Main definitions: `Unmoved`, `Run`, `Backs`; `TakenBack`, `NoneRefused`, `SixtyFifth`, `LatestKept`, `LatestInOrder`,
+-- `Cleared`.
 use mathlib.Core.Path.{_≡_}
 use mathlib.Core.Bool.{true}
 use mathlib.Core.List.{List, [], _∷_, _++_}
-use Prim.Native.Nat.{ℕ, suc, _≤_, _<_}
+use Prim.Native.Nat.{ℕ, suc, _+_, _≤_, _<_}
 use lib.ListN.{length, getD, take}
 use Rattle.moves.specs.declared.Move as DG
 use Rattle.moves.specs.Ring.{KEPT}
-use Rattle.moves.specs.Game.{putAt, liftAt}
+use Rattle.moves.specs.TakeBack.{most, stillKept}
+use Rattle.moves.specs.Game.{putAt, liftAt, sittingGame}
 use Rattle.desk.specs.declared.Desk as DD
 use Rattle.desk.specs.declared.Reply as DR
 use Rattle.desk.specs.Desks.{deskIn, IsMade}
@@ -24,16 +26,18 @@ pub data Unmoved (d : DD.Desk) : DD.Desk → Type 0 where
   not-lifted : (g : ℕ) (r : DM.Moved) → LiftSays d g r → (r .number ≡ 0 → ⊥) → Unmoved d (r .desk)
   not-taken : (r : DM.Moved) → BackSays d r → (r .number ≡ 0 → ⊥) → Unmoved d (r .desk)
 
--- calls from desk d on, with no accepted Load and no Reset, of which k were Puts and Lifts that were made; ms are those
--- of them, the latest first, that are not taken back
+-- calls from desk d on, with no accepted Load and no Reset; ms are the Puts and Lifts among them, the latest first, that
+-- are made and not taken back, and k is the most of these at any time
 pub data Run (d : DD.Desk) : ℕ → List DG.Move → DD.Desk → Type 0 where
   start : Run d 0 [] d
   put
       : (k : ℕ) (ms : List DG.Move) (e : DD.Desk) (g : ℕ) (r : DM.Moved)
-      → Run d k ms e → PutSays e g r → r .number ≡ 0 → Run d (suc k) (putAt g ∷ ms) (r .desk)
+      → Run d k ms e → PutSays e g r → r .number ≡ 0
+      → Run d (most k (suc (length ms))) (putAt g ∷ ms) (r .desk)
   lift
       : (k : ℕ) (ms : List DG.Move) (e : DD.Desk) (g : ℕ) (r : DM.Moved)
-      → Run d k ms e → LiftSays e g r → r .number ≡ 0 → Run d (suc k) (liftAt g ∷ ms) (r .desk)
+      → Run d k ms e → LiftSays e g r → r .number ≡ 0
+      → Run d (most k (suc (length ms))) (liftAt g ∷ ms) (r .desk)
   back
       : (k : ℕ) (ms : List DG.Move) (m : DG.Move) (e : DD.Desk) (r : DM.Moved)
       → Run d k (m ∷ ms) e → BackSays e r → r .number ≡ 0 → Run d k ms (r .desk)
@@ -51,8 +55,8 @@ pub record SameSitting (d e : DD.Desk) : Type 0 where
   pub counts-are : (i : ℕ) → getD (d .sitting .counts) i 0 ≡ getD (e .sitting .counts) i 0
   pub uncut-is : d .sitting .uncut ≡ e .sitting .uncut
 
--- 02, job 5: after at most 64 moves, as many take-backs as there are moves not yet taken back give back the placement,
--- the counts and the number uncut of before
+-- 02, job 5: where at no time more than 64 moves were not yet taken back, as many take-backs as there are such moves
+-- give back the placement, the counts and the number uncut of before, however many moves were made in all
 abbrev pub TakenBack : Type 0
 TakenBack =
     (d e f : DD.Desk) (k : ℕ) (ms : List DG.Move) →
@@ -75,9 +79,17 @@ abbrev pub SixtyFifth : Type 0
 SixtyFifth =
     (d e : DD.Desk) (r : DM.Moved) → IsMade d → d .loaded ≡ true → Backs d KEPT e → BackSays e r → NoMove e r
 
--- 02, job 5: older moves are forgotten; the moves kept are the latest 64 in order
+-- 02, job 5: older moves are forgotten; of the run's moves and those kept before it, not yet taken back, these are kept
+-- in order but for the oldest, as many as at one time there were above 64
 abbrev pub LatestKept : Type 0
 LatestKept =
+    (d e : DD.Desk) (k : ℕ) (ms : List DG.Move) →
+    IsMade d → Run d k ms e →
+    deskIn e .moves ≡ stillKept (sittingGame (deskIn d .nest-is)) (k + length (deskIn d .moves)) (ms ++ deskIn d .moves)
+
+-- where there never were more of them than now, as in a run without take-backs, these are the latest 64
+abbrev pub LatestInOrder : Type 0
+LatestInOrder =
     (d e : DD.Desk) (ms : List DG.Move) →
     IsMade d → Run d (length ms) ms e → deskIn e .moves ≡ take KEPT (ms ++ deskIn d .moves)
 
