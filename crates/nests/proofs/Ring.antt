@@ -1,7 +1,7 @@
 -- In a nest of one loop the gaps of each dependence are one unbroken run of the ring 1 … n - 1.
 -- An independent dependence's run goes from s + 1 to t. A carried one's goes from s + 1 to n - 1 and on from 1 to t;
 -- where t lies after s the two parts meet and it is the whole ring.
--- Main statement: `ring-run`.
+-- Main statements: `one-loop-is-first`, `first-is-one-loop`, `ring-run`.
 use mathlib.Core.Path.{_≡_, refl, _∙_}
 use mathlib.Core.Bool.{true, false, _||_, not}
 use mathlib.Core.List.{List, [], _∷_}
@@ -13,7 +13,7 @@ use lib.ListN.{length}
 use borrow.Author.Tests.{lt-ltb, le-ltb, eqb-true, eq-eqb}
 use Rattle.laws.specs.Choice.{between, isIn}
 use Rattle.laws.proofs.Ranges.{in-between, between-in}
-use Rattle.laws.proofs.Tests.{never, le-or, eq-or, and-true, or-true, or-left, or-right, bool-by}
+use Rattle.laws.proofs.Tests.{never, le-or, eq-or, and-true, or-true, or-left, or-right, bool-by, false-by}
 use Rattle.nests.specs.Kinds.{DO}
 use Rattle.nests.specs.Nests.{Dep}
 use Rattle.nests.specs.Loops.{isDo, endOf}
@@ -173,6 +173,17 @@ pub one-loop-is-first : (ps : List ℕ) → oneLoop ps ≡ true → (d : ℕ) �
 one-loop-is-first [] h d k = never k
 one-loop-is-first (p ∷ ps) h zero k = refl
 one-loop-is-first (p ∷ ps) h (suc d) k = absurd (no-do ps d h k)
+
+none-do : (ps : List ℕ) → ((i : ℕ) → isDo ps i ≡ true → ⊥) → noDo ps ≡ true
+none-do [] h = refl
+none-do (p ∷ ps) h =
+    let z : eqb p DO ≡ false = false-by (h 0) in
+    rw z (none-do ps (λ i. h (suc i)))
+
+-- and where it is, there is one loop
+pub first-is-one-loop : (ps : List ℕ) → ((d : ℕ) → isDo ps d ≡ true → d ≡ 0) → oneLoop ps ≡ true
+first-is-one-loop [] h = refl
+first-is-one-loop (p ∷ ps) h = none-do ps (λ i k. omega (arith, h (suc i) k))
 
 module _ (ps : List ℕ) (shape : isShape ps ≡ true) (e : Dep) where
   line-interval : Line ps e → Interval ps e

@@ -1,5 +1,5 @@
 -- The ring of the gaps of a nest of one loop, and runs of gaps round it.
--- Main definitions: `oneLoop`, `nextGap`, `runOf`, `Interval`.
+-- Main definitions: `oneLoop`, `nextGap`, `runOf`, `Interval`, `Meets`.
 use mathlib.Core.Path.{_≡_}
 use mathlib.Core.Bool.{Bool, true, _&&_, not}
 use mathlib.Core.List.{List, [], _∷_}
@@ -37,3 +37,9 @@ pub record Interval (ps : List ℕ) (e : Dep) : Type 0 where
   pub size-first : 1 ≤ size
   pub size-last : size ≤ length ps - 1
   pub gaps : (g : ℕ) → hasGap ps e g ≡ isIn g (runOf (length ps - 1) start size)
+
+-- 01, "The nest and its gaps": a set of gaps cuts the interval if it holds one of its gaps
+pub record Meets (ps : List ℕ) (e : Dep) (i : Interval ps e) (gs : List ℕ) : Type 0 where
+  pub gap : ℕ
+  pub held : isIn gap gs ≡ true
+  pub within : isIn gap (runOf (length ps - 1) (i .start) (i .size)) ≡ true

@@ -1,28 +1,27 @@
 -- Keys: all keys of a nest have the same counts, and a key is least loop by loop (demand 3).
 -- Main statements: `keys-agree`, `keys-same-tree`, `key-least-tree`, `same-counts-key`, `by-loops`.
-use mathlib.Core.Path.{_≡_, refl, sym, _∙_}
+use mathlib.Core.Path.{_≡_, refl, sym}
 use mathlib.Core.Bool.{true, _&&_}
 use mathlib.Core.List.{List, [], _∷_}
-use mathlib.Core.Logic.{⊎-elim}
 use Prim.Native.Nat.{ℕ, _≤_, _<_}
 use native.Mathlib.Omega.{arith}
 use lib.Dec.{eqb, ltb}
 use lib.ListN.{length}
 use borrow.Author.Tests.{ltb-true, eq-eqb}
-use Rattle.laws.specs.Choice.{isIn, when}
-use Rattle.laws.proofs.Tests.{never, and-true}
-use Rattle.laws.proofs.Members.{in-cons}
+use Rattle.laws.specs.Choice.{when}
+use Rattle.laws.proofs.Tests.{and-true}
 use Rattle.nests.specs.Nests.{Nest}
 use Rattle.nests.specs.Loops.{isDo, ownerOf}
+use Rattle.nests.specs.Ring.{oneLoop}
 use Rattle.nests.specs.Valid.{isShape}
 use Rattle.nests.proofs.Levels.{starts-with-do}
 use Rattle.nests.proofs.Loops.{owner-is-do}
-use Rattle.placements.specs.Placements.{areGapsFrom, areGaps, isCorrect, loopCount, loopsOf}
+use Rattle.nests.proofs.Ring.{one-loop-is-first}
+use Rattle.placements.specs.Placements.{areGapsFrom, areGaps, isCorrect, loopCount}
 use Rattle.placements.specs.Trees.{treeOf, asGoodTree}
 use Rattle.placements.specs.Keys.{IsKey, By-loops}
 use Rattle.placements.proofs.Cuts.{correct-gaps}
 use Rattle.placements.proofs.Inside.{inside-lies}
-use Rattle.placements.proofs.LoopLists.{loop-listed}
 use Rattle.placements.proofs.LoopOrder.{SameCounts, SameInside, asGood-elim, asGood-moved, asGood-both}
 use Rattle.placements.proofs.TreeOrder.{tree-order, equal-trees}
 
@@ -47,15 +46,6 @@ pub same-counts-key :
 same-counts-key n shape k gs p c s =
     record { correct = c; least = λ xs h. asGood-moved n shape k gs xs s (p .least xs h) }
 
--- a list of one has one member
-one-member : (xs : List ℕ) (x y : ℕ) → length xs ≡ 1 → isIn x xs ≡ true → isIn y xs ≡ true → x ≡ y
-one-member [] x y l p q = never p
-one-member (z ∷ []) x y l p q = first x p ∙ sym (first y q)
-  where
-    first : (w : ℕ) → isIn w (z ∷ []) ≡ true → w ≡ z
-    first w h = ⊎-elim (λ (e : w ≡ z). e) (λ (e : isIn w [] ≡ true). never e) (in-cons w z [] h)
-one-member (z ∷ (w ∷ ws)) x y l p q = absurd (omega arith)
-
 -- where every gap belongs to loop 0, its count is the number of gaps
 count-all :
     (n : Nest) → ((g : ℕ) → 0 < g → g < length (n .points) → ownerOf (n .points) g ≡ 0) → (gs : List ℕ) (last : ℕ) →
@@ -70,11 +60,9 @@ count-all n own (g ∷ gs) last h =
     omega (arith, w, count-all n own gs g (y .1))
 
 -- a nest of one loop: its gaps are all the outermost loop's
-module _ (n : Nest) (shape : isShape (n .points) ≡ true) (one : length (loopsOf n) ≡ 1) where
+module _ (n : Nest) (shape : isShape (n .points) ≡ true) (one : oneLoop (n .points) ≡ true) where
   only-loop : (x : ℕ) → isDo (n .points) x ≡ true → x ≡ 0
-  only-loop x h =
-      let first = loop-listed n shape 0 (starts-with-do (n .points) shape) in
-      one-member (loopsOf n) x 0 one (loop-listed n shape x h) first
+  only-loop = one-loop-is-first (n .points) one
 
   pub one-loop-count : (gs : List ℕ) → areGaps n gs ≡ true → loopCount n gs 0 ≡ length gs
   one-loop-count gs h =

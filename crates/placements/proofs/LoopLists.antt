@@ -1,24 +1,26 @@
 -- The list of a nest's loops by their ENDDO, and the first loop at which two placements' counts differ.
--- Main statements: `loop-listed`, `listed-loop`, `earlier-end-first`, `inside-first`, `differ-none`, `none-differ`,
+-- Main statements: `loop-listed`, `listed-loop`, `one-loop-listed`, `earlier-end-first`, `inside-first`, `differ-none`, `none-differ`,
 -- `differ-at`.
 use mathlib.Core.Path.{_≡_, refl, sym, ap, _∙_}
 use mathlib.Core.Bool.{Bool, true, false}
 use mathlib.Core.List.{List, [], _∷_, _++_}
-use mathlib.Core.Logic.{⊎-elim}
-use Prim.Native.Nat.{ℕ, zero, suc, _<_}
+use mathlib.Core.Logic.{⊎-elim, _↔_}
+use Prim.Native.Nat.{ℕ, zero, suc, _+_, _≤_, _<_}
 use native.Mathlib.Omega.{arith}
 use lib.Dec.{eqb}
 use lib.ListN.{length}
 use borrow.Author.Tests.{eqb-true, eqb-false, eq-eqb}
 use Rattle.laws.specs.Choice.{pick, isIn}
-use Rattle.laws.proofs.Tests.{never}
+use Rattle.laws.proofs.Tests.{never, never-both, false-by}
 use Rattle.laws.proofs.Members.{in-here, in-later, in-cons}
 use Rattle.laws.proofs.Members.{gather, From, in-gathered, gathered-in, SplitAt, gathered-before}
 use Rattle.nests.specs.Nests.{Nest}
 use Rattle.nests.specs.Loops.{isDo, isEnd, endOf, ownerOf, inLoop}
+use Rattle.nests.specs.Ring.{oneLoop}
 use Rattle.nests.specs.Valid.{isShape}
-use Rattle.nests.proofs.Levels.{point-in, end-not-first}
+use Rattle.nests.proofs.Levels.{point-in, starts-with-do, end-not-first}
 use Rattle.nests.proofs.Loops.{end-is-end, end-there, end-has-do, owner-of-end, owner-is-do}
+use Rattle.nests.proofs.Ring.{one-loop-is-first, first-is-one-loop}
 use Rattle.placements.specs.Placements.{loopCount, loopsFrom, loopsOf, differFrom, differ}
 use Rattle.placements.proofs.Inside.{inside-ends}
 
@@ -74,6 +76,76 @@ module _ (n : Nest) (shape : isShape (n .points) ≡ true) where
       (xs ys : List ℕ) (d x : ℕ) → loopsOf n ≡ xs ++ (d ∷ ys) → isDo (n .points) d ≡ true → isDo (n .points) x ≡ true →
       inLoop (n .points) d x ≡ true → isIn x xs ≡ true
   inside-first xs ys d x e k h i = earlier-end-first xs ys d x e h (inside-ends (n .points) shape d x k h i)
+
+-- a list of one has one member
+one-member : (xs : List ℕ) (x y : ℕ) → length xs ≡ 1 → isIn x xs ≡ true → isIn y xs ≡ true → x ≡ y
+one-member [] x y l p q = never p
+one-member (z ∷ []) x y l p q = first x p ∙ sym (first y q)
+  where
+    first : (w : ℕ) → isIn w (z ∷ []) ≡ true → w ≡ z
+    first w h = ⊎-elim (λ (e : w ≡ z). e) (λ (e : isIn w [] ≡ true). never e) (in-cons w z [] h)
+one-member (z ∷ (w ∷ ws)) x y l p q = absurd (omega arith)
+
+-- as many as pass the test
+none-gathered
+    : (passes : ℕ → Bool) (value : ℕ → ℕ) (f i : ℕ)
+    → ((j : ℕ) → i ≤ j → passes j ≡ true → ⊥)
+    → length (gather passes value f i) ≡ 0
+none-gathered passes value zero i none = refl
+none-gathered passes value (suc f) i none =
+    rw (false-by (none i (omega arith))) (none-gathered passes value f (suc i) (λ j l. none j (omega arith)))
+
+one-gathered
+    : (passes : ℕ → Bool) (value : ℕ → ℕ) (k : ℕ)
+    → passes k ≡ true
+    → ((j : ℕ) → passes j ≡ true → j ≡ k)
+    → (f i : ℕ)
+    → i ≤ k
+    → k < i + f
+    → length (gather passes value f i) ≡ 1
+one-gathered passes value k p only zero i l m = absurd (omega arith)
+one-gathered passes value k p only (suc f) i l m =
+    go (passes i) refl (λ (z : suc i ≤ k). one-gathered passes value k p only f (suc i) z (omega arith))
+  where
+    go
+        : (t : Bool) → passes i ≡ t → (suc i ≤ k → length (gather passes value f (suc i)) ≡ 1)
+        → length (pick t (value i ∷ []) [] ++ gather passes value f (suc i)) ≡ 1
+    go true e r =
+        let z = only i e in
+        ap suc (none-gathered passes value f (suc i) (λ j q h. omega (arith, only j h)))
+    go false e r =
+        let other : i ≡ k → ⊥ = λ z. never-both p (ap passes (sym z) ∙ e) in
+        r (omega (arith, other))
+
+module _ (n : Nest) (shape : isShape (n .points) ≡ true) where
+  -- a nest of one loop is one whose list has one loop
+  pub one-loop-listed : (oneLoop (n .points) ≡ true) ↔ (length (loopsOf n) ≡ 1)
+  one-loop-listed = (to, from)
+    where
+      first : isDo (n .points) 0 ≡ true
+      first = starts-with-do (n .points) shape
+
+      -- the only ENDDO is the outermost loop's
+      only : oneLoop (n .points) ≡ true → (e : ℕ) → isEnd (n .points) e ≡ true → e ≡ endOf (n .points) 0
+      only one e h =
+          let ps = n .points in
+          let o : ownerOf ps e ≡ 0 =
+          one-loop-is-first ps one (ownerOf ps e)
+          (owner-is-do ps shape e (end-not-first ps shape e h) (point-in ps e 1 h)) in
+          sym (rw o at (end-has-do ps shape e h))
+
+      to : oneLoop (n .points) ≡ true → length (loopsOf n) ≡ 1
+      to one =
+          let ps = n .points in
+          rw (loops-gathered (length ps) 0 ps)
+          (one-gathered (isEnd ps) (ownerOf ps) (endOf ps 0) (end-is-end ps shape 0 first) (only one) (length ps) 0
+          (omega arith)
+          (omega (arith, end-there ps shape 0 first)))
+
+      from : length (loopsOf n) ≡ 1 → oneLoop (n .points) ≡ true
+      from one =
+          first-is-one-loop (n .points)
+          (λ d h. one-member (loopsOf n) d 0 one (loop-listed n shape d h) (loop-listed n shape 0 first))
 
 -- the first of some loops at which two counts differ
 record FirstOf (n : Nest) (a b xs : List ℕ) (d : ℕ) : Type 0 where
