@@ -6,6 +6,7 @@ pub mod Answers
 pub mod Judged
 pub mod Made
 pub mod TwoDesks
+pub mod ReadAgain
 pub mod Over
 pub mod Plans
 pub mod ListCases

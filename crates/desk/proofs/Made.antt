@@ -9,10 +9,14 @@ use native.Mathlib.Omega.{arith}
 use lib.Dec.{eqb}
 use lib.ListN.{getD}
 use borrow.Author.Tests.{eq-eqb, ne-eqb}
-use Rattle.laws.specs.Choice.{pickT, when, firstOf}
+use Rattle.laws.specs.Choice.{pick, pickT, when, firstOf}
 use Rattle.laws.proofs.Tests.{never-both, eq-or}
 use Rattle.nests.specs.Nests.{Nest}
 use Rattle.nests.specs.Valid.{isValid}
+use Rattle.nests.specs.Stored.{nestIn}
+use Rattle.nests.proofs.Deps.{valid-is}
+use Rattle.placements.specs.Keys.{LeastOnRing}
+use Rattle.placements.proofs.Keys.{key-least-tree}
 use Rattle.sitting.specs.Counts.{countAt, uncutCount}
 use Rattle.moves.specs.declared.Move as DM
 use Rattle.moves.specs.TakeBack.{Play, History}
@@ -23,10 +27,12 @@ use Rattle.keys.specs.KeyOf.{keyOf}
 use Rattle.keys.specs.OneKey.{IsFirstKey, IsFirstSmallest}
 use Rattle.keys.proofs.Demand3.{valid-by-loops}
 use Rattle.keys.proofs.KeyFirst.{key-is-first}
-use Rattle.keys.proofs.RingKey.{ring-first-smallest}
+use Rattle.keys.proofs.RingKey.{least-on-ring, ring-first-smallest}
 use Rattle.desk.specs.declared.Desk as DD
+use Rattle.desk.specs.declared.PlainDesk as OD
 use Rattle.desk.specs.declared.Reply as DR
-use Rattle.desk.specs.Desks.{Desk, emptyDesk, loadedDesk, withPlay, withKey, deskIn, IsPaper, IsMade, stateFault}
+use Rattle.desk.specs.Desks.{Desk, desk, emptyDesk, loadedDesk, withPlay, withKey, deskIn, overIn}
+use Rattle.desk.specs.Desks.{IsPaper, IsMade, stateFault}
 use Rattle.desk.specs.Says.{Holds, EmptySays, LoadSays, PlanSays}
 use Rattle.desk.specs.Since.{Since, PlansKey, LoadThenPlan}
 
@@ -149,6 +155,20 @@ pub record HoldsNest (s : List ℕ) (d : DD.Desk) : Type 0 where
   pub has-nest : d .loaded ≡ true
   pub nest-is : deskIn d .nest-is ≡ readNest s .nest-is
 
+-- going over keeps the nest, with a key or without
+over-nest
+    : (old : OD.PlainDesk) → (overIn old .hasNest ≡ old .loaded) × (overIn old .nest-is ≡ nestIn (old .nest))
+over-nest old = go (old .planned)
+  where
+    bare : Desk
+    bare = desk (old .loaded) (nestIn (old .nest)) false [] [] []
+
+    go
+        : (t : Bool)
+        → (pick t (withKey bare) bare .hasNest ≡ old .loaded) × (pick t (withKey bare) bare .nest-is ≡ nestIn (old .nest))
+    go true = (refl, refl)
+    go false = (refl, refl)
+
 pub since-holds : (s : List ℕ) (d : DD.Desk) → Since s d → HoldsNest s d
 since-holds s d (Since.loaded d′ r m h z) =
     let p = loaded-holds d′ s r h z in
@@ -174,6 +194,12 @@ since-holds s d (Since.moved d′ e p q h) =
       has-nest = ap (λ (x : Desk). x .hasNest) (h .holds) ∙ i .has-nest;
       nest-is = ap (λ (x : Desk). x .nest-is) (h .holds) ∙ i .nest-is;
     }
+since-holds s d (Since.went-over old r i h) =
+    record {
+      accepted = i .accepted;
+      has-nest = ap (λ (x : Desk). x .hasNest) (h .holds) ∙ over-nest old .0 ∙ i .has-nest;
+      nest-is = ap (λ (x : Desk). x .nest-is) (h .holds) ∙ over-nest old .1 ∙ i .nest-is;
+    }
 
 -- demand 3: whatever nest is accepted, Plan gives a key that is correct and, against every other correct set of gaps,
 -- as good or better; of all such keys it is the first
@@ -188,8 +214,11 @@ load-then-plan s d r q h =
     let k = subst (λ (x : List ℕ). IsFirstKey n x) (sym e) (key-is-first n v) in
     record {
       no-refusal = rw (i .has-nest) at (h .number-is);
+      has-key = ap (λ (x : Desk). x .hasKey) (p .holds);
       is-key = k .is-key;
+      least-tree = λ gs c. key-least-tree n (valid-is n v .shape) key gs (k .is-key) c;
       by-loops = valid-by-loops n v key (k .is-key);
+      on-ring = λ one. subst (λ (x : List ℕ). LeastOnRing n x) (sym e) (least-on-ring n v one);
       key-is = e;
       is-first = k;
       one-loop = λ one. subst (λ (x : List ℕ). IsFirstSmallest n x) (sym e) (ring-first-smallest n v one);

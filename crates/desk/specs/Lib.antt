@@ -3,3 +3,4 @@ pub mod Desks
 pub mod Says
 pub mod Since
 pub mod TwoDesks
+pub mod ReadAgain

@@ -1,24 +1,35 @@
 -- Desks since a Load: what demand 3, and the rule of one key for one paper, say of the calls.
--- Main definitions: `Since`, `LoadThenPlan`.
+-- Main definitions: `PlainSince`, `Since`, `PlansKey`, `LoadThenPlan`.
 use mathlib.Core.Path.{_≡_}
 use mathlib.Core.Bool.{true}
 use mathlib.Core.List.{List}
 use Prim.Native.Nat.{ℕ}
 use Rattle.nests.specs.Ring.{oneLoop}
-use Rattle.placements.specs.Keys.{IsKey, By-loops}
+use Rattle.nests.specs.Stored.{nestIn}
+use Rattle.placements.specs.Placements.{isCorrect}
+use Rattle.placements.specs.Trees.{treeOf, asGoodTree}
+use Rattle.placements.specs.Keys.{IsKey, By-loops, LeastOnRing}
 use Rattle.moves.specs.declared.Move as DM
 use Rattle.moves.specs.TakeBack.{Play}
 use Rattle.texts.specs.NestTexts.{readNest}
 use Rattle.keys.specs.KeyOf.{keyOf}
 use Rattle.keys.specs.OneKey.{IsFirstKey, IsFirstSmallest}
 use Rattle.desk.specs.declared.Desk as DD
+use Rattle.desk.specs.declared.PlainDesk as OD
 use Rattle.desk.specs.declared.Reply as DR
-use Rattle.desk.specs.Desks.{withPlay, deskIn, IsMade}
-use Rattle.desk.specs.Says.{Holds, LoadSays, PlanSays}
+use Rattle.desk.specs.Desks.{withPlay, deskIn, IsMade, IsMadePlain}
+use Rattle.desk.specs.Says.{Holds, LoadSays, PlanSays, OverSays}
+
+-- a desk of the kind before sittings that holds the nest which the accepted text s spells
+pub record PlainSince (s : List ℕ) (old : OD.PlainDesk) : Type 0 where
+  pub made : IsMadePlain old
+  pub accepted : readNest s .number ≡ 0
+  pub has-nest : old .loaded ≡ true
+  pub nest-is : nestIn (old .nest) ≡ readNest s .nest-is
 
 -- 01, "Which placement is better": a desk whose last accepted Load read the text s, with no Reset since, whatever it
--- was used for before. Plans, refused Loads, moves of the sitting and take-backs may lie between; the other calls
--- change nothing.
+-- was used for before. Plans, refused Loads, moves of the sitting and take-backs may lie between, and going over; the
+-- other calls change nothing.
 pub data Since (s : List ℕ) : DD.Desk → Type 0 where
   loaded : (d : DD.Desk) (r : DR.Reply) → IsMade d → LoadSays d s r → r .number ≡ 0 → Since s (r .desk)
   refused
@@ -26,13 +37,24 @@ pub data Since (s : List ℕ) : DD.Desk → Type 0 where
       → Since s (r .desk)
   planned : (d : DD.Desk) (r : DR.Reply) → Since s d → PlanSays d r → Since s (r .desk)
   moved : (d e : DD.Desk) (p : Play (List ℕ) DM.Move) → Since s d → Holds e (withPlay p (deskIn d)) → Since s e
+  went-over : (old : OD.PlainDesk) (r : DD.Desk) → PlainSince s old → OverSays old r → Since s r
 
--- demand 3 of the calls: Plan of such a desk is never refused, and its key is a key of the nest that s spells;
--- 02, job 6: it is the key of that nest, the first of all its keys, and of one loop the first of the smallest
+-- demand 3 of the calls: Plan of such a desk is never refused and leaves a key, and this is a key of the nest that s
+-- spells: correct, and as good or better than every correct placement in the tree order of 001, definition 1, and loop
+-- by loop; of one loop, no set of gaps that meets all circular intervals has fewer; 02, job 6: it is the key of that
+-- nest, the first of all its keys, and of one loop the first of the smallest
 pub record PlansKey (s : List ℕ) (r : DR.Reply) : Type 0 where
   pub no-refusal : r .number ≡ 0
+  pub has-key : deskIn (r .desk) .hasKey ≡ true
   pub is-key : IsKey (readNest s .nest-is) (deskIn (r .desk) .key)
+  pub least-tree
+      : (gs : List ℕ)
+      → isCorrect (readNest s .nest-is) gs ≡ true
+      → asGoodTree (treeOf (readNest s .nest-is) (deskIn (r .desk) .key)) (treeOf (readNest s .nest-is) gs) ≡ true
   pub by-loops : By-loops (readNest s .nest-is) (deskIn (r .desk) .key)
+  pub on-ring
+      : oneLoop (readNest s .nest-is .points) ≡ true
+      → LeastOnRing (readNest s .nest-is) (deskIn (r .desk) .key)
   pub key-is : deskIn (r .desk) .key ≡ keyOf (readNest s .nest-is)
   pub is-first : IsFirstKey (readNest s .nest-is) (deskIn (r .desk) .key)
   pub one-loop

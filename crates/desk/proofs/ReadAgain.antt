@@ -1,0 +1,62 @@
+-- A key written and read again: what Write leaves in the buffer is the key's text, which is read as the key, and the key
+-- of the nest is Best beside itself.
+-- Main statement: `written-read-best`.
+use mathlib.Core.Path.{_≡_, sym, _∙_, ap, subst}
+use mathlib.Core.Bool.{true}
+use mathlib.Core.List.{List}
+use Prim.Native.Nat.{ℕ}
+use lib.Dec.{eqb, ltb}
+use lib.ListN.{length, take, drop}
+use lib.Seq.{take-append-seam}
+use borrow.Author.Tests.{eq-eqb, le-leb}
+use Rattle.laws.specs.Choice.{pick, when}
+use Rattle.laws.proofs.Choices.{first-zero}
+use Rattle.nests.specs.Kinds.{POINTS}
+use Rattle.lines.specs.Writing.{over}
+use Rattle.placements.specs.Verdicts.{Best, markOf}
+use Rattle.placements.proofs.Verdicts.{key-best}
+use Rattle.texts.specs.PlacementTexts.{Placed, placed, keyText}
+use Rattle.texts.proofs.ReadsBack.{reads-back}
+use Rattle.desk.specs.declared.Desk as DD
+use Rattle.desk.specs.declared.Answer as DA
+use Rattle.desk.specs.Desks.{deskIn, IsMade, stateFault, fault}
+use Rattle.desk.specs.Says.{Mark, given, refused, readIn, marked, writeFault, WriteSays}
+use Rattle.desk.specs.ReadAgain.{KeyBack, ReadAgain}
+use Rattle.desk.proofs.Ready.{ready, ready-has}
+use Rattle.desk.proofs.TwoDesks.{made-first}
+
+-- what Mark says of a text that is read
+marked-read
+    : (d : DD.Desk) (s gs : List ℕ)
+    → stateFault true (deskIn d) ≡ 0
+    → readIn (deskIn d) s ≡ placed 0 0 gs
+    → marked (deskIn d) s ≡ given (markOf (deskIn d .nest-is) (deskIn d .key) gs)
+marked-read d s gs state e = rw (eq-eqb (stateFault true (deskIn d)) 0 state, e)
+
+module _ (d : DD.Desk) (m : IsMade d) (state : stateFault true (deskIn d) ≡ 0) where
+  key-read : readIn (deskIn d) (keyText (deskIn d .key)) ≡ placed 0 0 (deskIn d .key)
+  key-read =
+      let r = ready d m state in
+      let n = deskIn d .nest-is in
+      reads-back n (deskIn d .key) (r .key-gaps) (le-leb (length (n .points)) POINTS (r .few))
+
+  key-marked : marked (deskIn d) (keyText (deskIn d .key)) ≡ given Best
+  key-marked =
+      let r = ready d m state in
+      let k = made-first d m (ready-has d state .1) .is-key in
+      marked-read d (keyText (deskIn d .key)) (deskIn d .key) state key-read ∙
+      ap given (key-best (deskIn d .nest-is) (r .shape) (deskIn d .key) (deskIn d .key) k (r .key-gaps) k)
+
+  key-back : KeyBack d (keyText (deskIn d .key))
+  key-back = record { read-is = key-read; mark-is = λ r h. h ∙ key-marked }
+
+pub written-read-best : ReadAgain
+written-read-best d out out′ a m h z =
+    let t = keyText (deskIn d .key) in
+    let f : writeFault (deskIn d) out ≡ 0 = sym (h .number-is) ∙ z in
+    let ok : eqb (writeFault (deskIn d) out) 0 ≡ true = eq-eqb (writeFault (deskIn d) out) 0 f in
+    let l : a .value ≡ length t = rw ok at (h .value-is) in
+    let o : out′ ≡ over t out = rw ok at (h .out-is) in
+    let e : take (a .value) out′ ≡ t = rw (l, o) (take-append-seam t (drop (length t) out)) in
+    let state = first-zero (stateFault true (deskIn d)) (when (ltb (length out) (length t)) 9) f .0 in
+    subst (λ (s : List ℕ). KeyBack d s) (sym e) (key-back d m state)
