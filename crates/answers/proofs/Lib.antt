@@ -3,3 +3,4 @@ pub mod Lengths
 pub mod Counting
 pub mod Both
 pub mod Answering
+pub mod Calls

@@ -1,2 +1,3 @@
 -- What the program answers.
 pub mod Answers
+pub mod Calls

@@ -1,6 +1,6 @@
 -- A key written and read again: what Write leaves in the buffer is the key's text, which is read as the key, and the key
 -- of the nest is Best beside itself.
--- Main statement: `written-read-best`.
+-- Main statements: `written-text`, `written-read-best`.
 use mathlib.Core.Path.{_≡_, sym, _∙_, ap, subst}
 use mathlib.Core.Bool.{true}
 use mathlib.Core.List.{List}
@@ -50,13 +50,22 @@ module _ (d : DD.Desk) (m : IsMade d) (state : stateFault true (deskIn d) ≡ 0)
   key-back : KeyBack d (keyText (deskIn d .key))
   key-back = record { read-is = key-read; mark-is = λ r h. h ∙ key-marked }
 
+-- what Write leaves where it answers 0
+module _
+    (d : DD.Desk) (out out′ : List ℕ) (a : DA.Answer) (h : WriteSays d out out′ a) (z : a .number ≡ 0) where
+  no-fault : writeFault (deskIn d) out ≡ 0
+  no-fault = sym (h .number-is) ∙ z
+
+  pub written-text : take (a .value) out′ ≡ keyText (deskIn d .key)
+  written-text =
+      let t = keyText (deskIn d .key) in
+      let ok : eqb (writeFault (deskIn d) out) 0 ≡ true = eq-eqb (writeFault (deskIn d) out) 0 no-fault in
+      let l : a .value ≡ length t = rw ok at (h .value-is) in
+      let o : out′ ≡ over t out = rw ok at (h .out-is) in
+      rw (l, o) (take-append-seam t (drop (length t) out))
+
 pub written-read-best : ReadAgain
 written-read-best d out out′ a m h z =
-    let t = keyText (deskIn d .key) in
-    let f : writeFault (deskIn d) out ≡ 0 = sym (h .number-is) ∙ z in
-    let ok : eqb (writeFault (deskIn d) out) 0 ≡ true = eq-eqb (writeFault (deskIn d) out) 0 f in
-    let l : a .value ≡ length t = rw ok at (h .value-is) in
-    let o : out′ ≡ over t out = rw ok at (h .out-is) in
-    let e : take (a .value) out′ ≡ t = rw (l, o) (take-append-seam t (drop (length t) out)) in
-    let state = first-zero (stateFault true (deskIn d)) (when (ltb (length out) (length t)) 9) f .0 in
-    subst (λ (s : List ℕ). KeyBack d s) (sym e) (key-back d m state)
+    let short = when (ltb (length out) (length (keyText (deskIn d .key)))) 9 in
+    let state = first-zero (stateFault true (deskIn d)) short (no-fault d out out′ a h z) .0 in
+    subst (λ (s : List ℕ). KeyBack d s) (sym (written-text d out out′ a h z)) (key-back d m state)

@@ -1,0 +1,105 @@
+-- The program's answer is what the desk's calls give: Load leaves the nest that the text spells, Plan its key, Write the
+-- key's text, and Count of a DO that loop's count.
+-- Main statement: `answers-by-calls`.
+use mathlib.Core.Path.{_≡_, refl, sym, _∙_, ap, subst}
+use mathlib.Core.Bool.{Bool, true, false}
+use mathlib.Core.List.{List, [], _∷_, _++_}
+use mathlib.Core.Logic.{_⊎_, inl, inr}
+use Prim.Native.Nat.{ℕ, suc, _+_}
+use native.Mathlib.Omega.{arith}
+use lib.Dec.{eqb}
+use lib.ListN.{length, take}
+use borrow.Author.Tests.{eq-eqb, ne-eqb, le-ltb}
+use Rattle.laws.specs.Choice.{pick}
+use Rattle.laws.proofs.Tests.{eq-or}
+use Rattle.nests.specs.Kinds.{DO}
+use Rattle.nests.specs.Nests.{Nest}
+use Rattle.nests.specs.Loops.{isDo}
+use Rattle.lines.specs.Lines.{lineText}
+use Rattle.placements.specs.Placements.{loopCount}
+use Rattle.texts.specs.NestTexts.{readNest}
+use Rattle.texts.specs.PlacementTexts.{keyText}
+use Rattle.texts.specs.Program.{COUNT, LONGEST, countsFrom, countsText, answerText, programText}
+use Rattle.keys.specs.KeyOf.{keyOf}
+use Rattle.desk.specs.Desks.{Desk, loadedDesk, withKey, deskIn}
+use Rattle.desk.specs.Says.{countFault}
+use Rattle.desk.proofs.Made.{loaded-holds, plan-makes}
+use Rattle.desk.proofs.ReadAgain.{written-text}
+use Rattle.answers.specs.Calls.{countedFrom, Calls, answerOf, AnswersByCalls}
+
+-- the counts' lines, from counts that are those of each DO
+counted-counts
+    : (n : Nest) (key : List ℕ) (count : ℕ → ℕ) (i : ℕ) (ps : List ℕ)
+    → ((k j : ℕ) → k ≡ i + j → isDo ps j ≡ true → count k ≡ loopCount n key k)
+    → countedFrom count i ps ≡ countsFrom n key i ps
+unfolding countedFrom countsFrom
+counted-counts n key count i [] h = refl
+counted-counts n key count i (p ∷ ps) h =
+    go (eqb p DO) refl (counted-counts n key count (suc i) ps (λ k j e q. h k (suc j) (omega arith) q))
+  where
+    go
+        : (t : Bool) → eqb p DO ≡ t → countedFrom count (suc i) ps ≡ countsFrom n key (suc i) ps
+        → pick t (lineText (COUNT ∷ (i ∷ (count i ∷ [])))) [] ++ countedFrom count (suc i) ps
+        ≡ pick t (lineText (COUNT ∷ (i ∷ (loopCount n key i ∷ [])))) [] ++ countsFrom n key (suc i) ps
+    go true e r = let z = h i 0 (omega arith) e in rw (z, r)
+    go false e r = r
+
+-- Count of a DO on a desk that holds a nest and its key
+count-held
+    : (x : Desk) (n : Nest) (d v : ℕ)
+    → x ≡ withKey (loadedDesk n)
+    → isDo (n .points) d ≡ true
+    → v ≡ pick (eqb (countFault x d) 0) (loopCount (x .nest-is) (x .key) d) 0
+    → v ≡ loopCount n (keyOf n) d
+count-held x n d v e h q =
+    q ∙ ap (λ (y : Desk). pick (eqb (countFault y d) 0) (loopCount (y .nest-is) (y .key) d) 0) e ∙ rw h
+
+module _ (s : List ℕ) (c : Calls s) (accepted : c .load .number ≡ 0) where
+  -- what the desk holds after Load and Plan
+  held : deskIn (c .plan .desk) ≡ withKey (loadedDesk (readNest s .nest-is))
+  held =
+      let l = loaded-holds (c .desk) s (c .load) (c .load-says) accepted in
+      let a : c .load .desk .loaded ≡ true = ap (λ (x : Desk). x .hasNest) (l .holds) in
+      plan-makes (c .load .desk) (c .plan) a (c .plan-says) .holds ∙ ap withKey (l .holds)
+
+  key-written : take (c .write .value) (c .out′) ≡ keyText (keyOf (readNest s .nest-is))
+  key-written =
+      written-text (c .plan .desk) (c .out) (c .out′) (c .write) (c .write-says) (c .fits accepted) ∙
+      ap (λ (x : Desk). keyText (x .key)) held
+
+  counts-given
+      : countedFrom (λ d. c .count d .value) 0 (deskIn (c .plan .desk) .nest-is .points)
+      ≡ countsText (readNest s .nest-is) (keyOf (readNest s .nest-is))
+  counts-given =
+      let n = readNest s .nest-is in
+      ap (λ (x : Desk). countedFrom (λ d. c .count d .value) 0 (x .nest-is .points)) held ∙
+      counted-counts n (keyOf n) (λ d. c .count d .value) 0 (n .points)
+      (λ k j e h. given k (subst (λ (i : ℕ). isDo (n .points) i ≡ true) (omega arith) h))
+    where
+      given
+          : (d : ℕ) → isDo (readNest s .nest-is .points) d ≡ true
+          → c .count d .value ≡ loopCount (readNest s .nest-is) (keyOf (readNest s .nest-is)) d
+      given d h =
+          count-held (deskIn (c .plan .desk)) (readNest s .nest-is) d (c .count d .value) held h
+          (c .count-says d .value-is)
+
+pub answers-by-calls : AnswersByCalls
+unfolding programText
+answers-by-calls s c short =
+    rw (le-ltb LONGEST (length s) short) (go (eq-or (c .load .number) 0))
+  where
+    n : Nest
+    n = readNest s .nest-is
+
+    go
+        : (c .load .number ≡ 0) ⊎ ((c .load .number ≡ 0) → ⊥)
+        → answerText (readNest s) (keyOf n) ≡ answerOf s c
+    go (inl z) =
+        let a : eqb (readNest s .number) 0 ≡ true = eq-eqb (readNest s .number) 0 (sym (c .load-says .number-is) ∙ z) in
+        let b : eqb (c .load .number) 0 ≡ true = eq-eqb (c .load .number) 0 z in
+        rw (a, b, key-written s c z, counts-given s c z)
+    go (inr z) =
+        let a : eqb (readNest s .number) 0 ≡ false =
+        ne-eqb (readNest s .number) 0 (λ q. z (c .load-says .number-is ∙ q)) in
+        let b : eqb (c .load .number) 0 ≡ false = ne-eqb (c .load .number) 0 z in
+        rw (a, b) (sym (cc (c .load-says .number-is, c .load-says .line-is)))
