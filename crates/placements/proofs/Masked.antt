@@ -70,7 +70,7 @@ pub count-tally
 unfolding gapsIn
 count-tally n ws d = count-of n (holds ws) d GAPS 0
 
--- 01, "Expected forms": four words masked by the loop's gaps; count of ones gives the node's weight
+-- 01, "Expected forms by place": four words masked by the loop's gaps; count of ones gives the node's weight
 pub count-masked
     : (n : Nest) (ws ms : List ℕ) (d : ℕ)
     → areGapsFrom 0 (length (n .points)) (gapsIn ws) ≡ true
