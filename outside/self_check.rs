@@ -79,6 +79,7 @@ fn check_explained(checks: &mut Checks) {
     checks.that("two beat one", search(&s) == [[2, 7]] && mark(&s, &[2, 7], &[4]) == dearer(2, 1, 0));
     checks.that("calls there", [2, 7, 4].map(|g| calls(&s, g)) == [10, 10, 100]);
     checks.that("P with 5, 9", mark(&p, &[5, 11], &[5, 9]) == Mark::Uncut(4));
+    checks.that("P with 4, 5, 10, 11", mark(&p, &[5, 11], &[4, 5, 10, 11]) == dearer(1, 2, 1));
     let costs = [[4, 5, 11], [5, 10, 11]].map(|gaps| tree(&p, 0, &p.counts(&gaps)));
     checks.that("neither as good as the other", !as_good(&costs[0], &costs[1]) && !as_good(&costs[1], &costs[0]));
     checks.that("R's keys", search(&r) == [[1, 4], [2, 4], [2, 5], [2, 6], [3, 6], [4, 6], [4, 7]]);
