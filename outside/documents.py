@@ -66,15 +66,20 @@ def anchor(heading: str) -> str:
 
 
 def rows(text: str, heading: str) -> list[list[str]]:
-    """The rows of the first table under a heading."""
+    """The rows of the first table under a heading, each with as many cells as the table has columns."""
     under = text.partition(f'\n## {heading}\n')[2] if heading else text
-    table = re.search(r'^\|.*\n\|[-|]+\n((?:\|.*\n)*)', under, re.M)
-    return [[cell.strip() for cell in row.strip('|').split('|')] for row in table[1].splitlines()] if table else []
+    table = re.search(r'^\|.*\n\|([-|]+)\|\n((?:\|.*\n)*)', under, re.M)
+    if not table:
+        sys.exit(f'there is no table under "{heading}"')
+    columns, body = table.groups()
+    cells = [[cell.strip() for cell in row[1:].split('|')] for row in body.splitlines()]
+    return [(row + [''] * len(columns))[:len(columns.split('|'))] for row in cells]
 
 
 def linked(cell: str) -> list[pathlib.Path]:
-    """The files that a cell of a document under docs/ links to."""
-    return [(ROOT / 'docs' / target).resolve() for target in re.findall(r'\]\(([^)#]+)', cell)]
+    """The files that a line of a document under docs/ links to, as far as they are there."""
+    paths = [(ROOT / 'docs' / target).resolve() for target in re.findall(r'\]\(([^)#]+)', cell)]
+    return [path for path in paths if path.is_file()]
 
 
 # ---- The checks
@@ -163,18 +168,23 @@ def names(docs: Documents) -> Iterator[Check]:
 
 
 def tables(docs: Documents) -> Iterator[Check]:
-    """Theorems stand where the table says; every rule's names are links; every crate is a layer."""
+    """Theorems and lemmas stand where it says; every rule's names are links; every crate is a layer."""
     for theorem, where, _ in rows(docs['docs/PROOFS.md'], 'The theorems by name'):
         held, files = re.findall(r'`([^`]+)`', theorem), linked(where)
-        public = {name for file in files if file.exists() for name, public in defined(file).items() if public}
+        public = {name for file in files for name, public in defined(file).items() if public}
         yield Check('docs/PROOFS.md', f'{theorem}: a file for every name', bool(held) and bool(files))
         for name in held:
             yield Check('docs/PROOFS.md', f'`{name}` stands in {where}', name in public)
         for file in files:
             yield Check('docs/PROOFS.md', f'{file.name} has one of {theorem}', bool(set(held) & set(defined(file))))
+    chain = docs['docs/PROOFS.md'].partition("\n## The planner's theorem, bottom up\n")[2].partition('\n## ')[0]
+    for step in re.findall(r'^\d+\. .*', chain, re.M):
+        there = set().union(*map(defined, linked(step)))
+        for name in re.findall(r'`([^`]+)`', step):
+            yield Check('docs/PROOFS.md', f'`{name}` stands in the files of step {step[:2]}', name in there)
     for row in rows(docs['docs/ARCHITECTURE.md'], 'Where each rule lives'):
         linkless = re.sub(r'\[`[^`]+`\]\([^)]+\)', '', ' '.join(row))
-        yield Check('docs/ARCHITECTURE.md', f'{row[0]}: every name is a link', '`' not in linkless and len(row) == 3)
+        yield Check('docs/ARCHITECTURE.md', f'{row[0]}: every name is a link', '`' not in linkless)
     layers = [re.sub(r'\[(\w+)\].*', r'\1', row[0]) for row in rows(docs['docs/ARCHITECTURE.md'], '')]
     yield Check('docs/ARCHITECTURE.md', 'the layers are the crates of crates.txt, in order', layers == crates())
 
@@ -183,6 +193,7 @@ def believed(docs: Documents) -> Iterator[Check]:
     """The files that a reader must believe: all there, each after those it uses, with their lengths."""
     seen, total = [], 0
     for file, length, _ in rows(docs['docs/PROOFS.md'], 'What a reader must believe'):
+        yield Check('docs/PROOFS.md', f'{file} is a file', bool(linked(file)) or file == 'together')
         for path in linked(file):
             name = str(path.relative_to(CRATES).with_suffix(''))
             lines = len(path.read_text().splitlines())
@@ -242,17 +253,19 @@ FAULTS = [
     ('README.md', '(docs/WHY.md)', '(docs/WHAT.md)'),
     ('README.md', '`./draw ', '`./drawn '),
     ('README.md', '`put_gap(', '`put_gaps('),
-    ('README.md', '`rt check seat`', '`rt check seats`'),
+    ('docs/CONTRIBUTING.md', '`rt must-fail lines`', '`rt must-fail line`'),
+    ('docs/CONTRIBUTING.md', 'outside/repository.py', 'outside/repositories.py'),
     ('README.md', '$ ./key examples/p.hex', '$ ./key example/p.hex'),
     ('docs/PROOFS.md', '| `reads-back` |', '| `read-back` |'),
     ('docs/PROOFS.md', '| `reads-back` | [texts/proofs/ReadsBack](../crates/texts/proofs/ReadsBack.antt)',
      '| `reads-back` | [texts/proofs/Accepted](../crates/texts/proofs/Accepted.antt)'),
     ('docs/PROOFS.md', 'planner/proofs/FirstSweep.antt', 'planner/proofs/FirstExchange.antt'),
+    ('docs/PROOFS.md', '`nest-key`.', '`key-is-key`.'),
     ('docs/PROOFS.md', 'rate `keys` joins', 'rate `along` joins'),
     ('docs/PROOFS.md', 'desk/specs/Desks.antt) | ', 'desk/specs/Desks.antt) | 1'),
     ('docs/PROOFS.md', '| [keys/specs/OneKey](../crates/keys/specs/OneKey.antt)',
      '| [keys/specs/Lib](../crates/keys/specs/Lib.antt)'),
-    ('docs/PROOFS.md', '(rows/specs/Made)', '(rows/specs/Maid)'),
+    ('docs/PROOFS.md', '(../crates/moves/specs/Game.antt)', '(../crates/moves/specs/Games.antt)'),
     ('docs/ARCHITECTURE.md', '(../crates/nests/specs/Loops.antt)', '(../crates/nests/specs/Gaps.antt)'),
     ('docs/ARCHITECTURE.md', '[`asGood`](../crates/placements/specs/Placements.antt)', '`asGood`'),
     ('docs/ARCHITECTURE.md', '| [plan](../crates/plan) |', '| [planner](../crates/plan) |'),
@@ -267,8 +280,8 @@ def noticed(docs: Documents) -> Iterator[Check]:
     without = failing(docs)
     for where, old, new in FAULTS:
         faulty = docs | {where: docs[where].replace(old, new, 1)}
-        held = old in docs[where] and bool(failing(faulty) - without)
-        yield Check('outside/documents.py', f'noticed in {where}: {new.strip()}', held)
+        held = bool(failing(faulty) - without)
+        yield Check('outside/documents.py', f'noticed in {where}: {new.strip()} for {old.strip()}', held)
 
 
 def write_lengths() -> None:
@@ -279,7 +292,8 @@ def write_lengths() -> None:
 
     def lines(row: re.Match) -> str:
         nonlocal total
-        length = len((ROOT / 'docs' / row[2]).resolve().read_text().splitlines())
+        path = ROOT / 'docs' / row[2]
+        length = len(path.read_text().splitlines()) if path.exists() else 0
         total += length
         return f'{row[1]}{length} |'
     after = re.sub(r'^(\| \[[^\]]+\]\(([^)]+)\) \| )\d+ \|', lines, after, flags=re.M)
@@ -290,6 +304,9 @@ def main() -> int:
     if sys.argv[1:] == ['--lengths']:
         write_lengths()
         return 0
+    if sys.argv[1:]:
+        print(__doc__, file=sys.stderr)
+        return 2
     docs = documents()
     checks = [check for reading in [*READING, papers, examples, noticed] for check in reading(docs)]
     failed = [check for check in checks if not check.holds]
