@@ -8,7 +8,7 @@ What is checked:
   - comments that cite 01, 02 or a demand find their heading in docs/RULES.md;
   - links lead to files and headings; a link whose text is a name leads to the file that defines it;
   - names, paths, commands and crates in code type are there;
-  - the theorems stand in the files that are named beside them, and every crate is in the table of layers;
+  - the theorems stand in the files that are named beside them; every crate, call and request is in its table;
   - the files that a reader must believe are all there, in order, with their lengths;
   - papers are shown one frame a line and the program reads them; examples print what is shown;
   - a fault put into a copy of the documents is noticed.
@@ -18,7 +18,7 @@ Needs target/bin/key and target/bin/seat, which `rt ci` builds.
 import pathlib, re, subprocess, sys
 from typing import Iterator, NamedTuple
 
-from repository import CRATES, ROOT, UNREAD, cited, crates, defined, known, must_be_read, specs_used
+from repository import CRATES, ROOT, UNREAD, calls, cited, crates, defined, known, must_be_read, specs_used
 
 Documents = dict[str, str]
 
@@ -168,7 +168,7 @@ def names(docs: Documents) -> Iterator[Check]:
 
 
 def tables(docs: Documents) -> Iterator[Check]:
-    """Theorems and lemmas stand where it says; every rule's names are links; every crate is a layer."""
+    """Theorems and lemmas stand where it says; rules' names are links; all calls, requests and crates are there."""
     for theorem, where, _ in rows(docs['docs/PROOFS.md'], 'The theorems by name'):
         held, files = re.findall(r'`([^`]+)`', theorem), linked(where)
         public = {name for file in files for name, public in defined(file).items() if public}
@@ -185,6 +185,11 @@ def tables(docs: Documents) -> Iterator[Check]:
     for row in rows(docs['docs/ARCHITECTURE.md'], 'Where each rule lives'):
         linkless = re.sub(r'\[`[^`]+`\]\([^)]+\)', '', ' '.join(row))
         yield Check('docs/ARCHITECTURE.md', f'{row[0]}: every name is a link', '`' not in linkless)
+    for call in calls():
+        yield Check('README.md', f'the call {call} is in the table of calls', f'{call}(' in docs['README.md'])
+    jobs = [title.split()[1].strip('.') for title in headings(docs['docs/RULES.md']) if title.startswith('Job ')]
+    notes = [str(int(path.stem)) for path in sorted((ROOT / 'docs/changes').glob('*.md'))]
+    yield Check('docs/RULES.md', f'jobs {jobs} have sections, {notes} have notes', jobs == notes)
     layers = [re.sub(r'\[(\w+)\].*', r'\1', row[0]) for row in rows(docs['docs/ARCHITECTURE.md'], '')]
     yield Check('docs/ARCHITECTURE.md', 'the layers are the crates of crates.txt, in order', layers == crates())
 
@@ -247,12 +252,14 @@ def run(command: list[str], text: str = '') -> str:
 READING = [citations, links, names, tables, believed]
 FAULTS = [
     ('docs/RULES.md', '\n## The program\n', '\n## The programme\n'),
+    ('docs/RULES.md', '\n### Job 2. ', '\n### Request 2. '),
     ('docs/RULES.md', '\n### Job 5. ', '\n### Request 5. '),
     ('docs/RULES.md', '\n2. **', '\n4. **'),
     ('README.md', '#numbers-from-the-input', '#numbers'),
     ('README.md', '(docs/WHY.md)', '(docs/WHAT.md)'),
     ('README.md', '`./draw ', '`./drawn '),
     ('README.md', '`put_gap(', '`put_gaps('),
+    ('README.md', '`take_back(desk)`', 'Take back'),
     ('docs/CONTRIBUTING.md', '`rt must-fail lines`', '`rt must-fail line`'),
     ('docs/CONTRIBUTING.md', 'outside/repository.py', 'outside/repositories.py'),
     ('README.md', '$ ./key examples/p.hex', '$ ./key example/p.hex'),

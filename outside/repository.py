@@ -69,11 +69,21 @@ def specs_used(path: pathlib.Path) -> list[str]:
 
 
 @functools.cache
+def contracts(crate: str) -> list[tuple[str, str]]:
+    """The public functions of a crate that have a contract, each with it."""
+    text = (CRATES / crate / 'src/lib.rt').read_text()
+    return re.findall(r'^ *pub fn (\w+)[^{]*?\)[^{]*?\n((?: *(?:requires|ensures) .*\n)+)', text, re.M)
+
+
+def calls() -> list[str]:
+    """The public calls: what each promises is a definition called after it, as LoadSays."""
+    return [name for crate in CALLS for name, contract in contracts(crate) if re.search(r'[a-z]Says\b', contract)]
+
+
 def contracts_cite(crate: str) -> set[str]:
     """The specs files that the contracts of a crate's public functions cite."""
     text = (CRATES / crate / 'src/lib.rt').read_text()
-    public = re.findall(r'^ *pub fn [^{]*?\)[^{]*?\n((?: *(?:requires|ensures) .*\n)+)', text, re.M)
-    words = set(re.findall(r'[\w-]+', ' '.join(public)))
+    words = set(re.findall(r'[\w-]+', ' '.join(contract for _, contract in contracts(crate))))
     uses = re.findall(r'^ghost use Rattle·(\w+)[·\w]*\.specs\.(\w+)\.\{(.*)\}', text, re.M)
     return {f'{owner}/specs/{file}' for owner, file, names in uses if words & set(names.split(', '))}
 
