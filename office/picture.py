@@ -1,0 +1,233 @@
+"""A paper as SVG: one row a point, in the boxes of its loops; gaps between rows; at the right the dependences.
+
+A dependence runs down its lane from s to t; one that is carried runs on to the loop's ENDDO, round to its DO and down to
+t. Its number stands on the lane at both ends, and below the drawing it is told in words.
+"""
+import html
+import textwrap
+
+from office.lanes import packed
+from office.paper import DO, STATEMENT, Dependence, Paper
+
+ROW, INDENT, MARGIN, LABEL, LEFT, NARROWEST, CAPTION = 44, 30, 10, 172, 52, 560, 460
+INK, PALE, BLUE, BROWN = '#17202a', '#5b6875', '#00619a', '#a34700'
+SHADES = ['#f3f6f9', '#e4ebf2', '#d5e0ea', '#c6d5e3', '#b8cadb', '#a9bfd4', '#9bb4cc', '#8da9c5']
+SIGNS = ['Small numbers are gaps, in the column of the loop they belong to.',
+         'A black bar is a barrier; a dot marks each dependence that it cuts. A hollow number: uncut.',
+         'A dashed line goes round to the next turn of the loop.']
+STYLE = f'''
+text {{ font-size: 13px; fill: {INK} }}
+.title {{ font-size: 15px; font-weight: bold }}
+.word {{ font-size: 12px }}
+.pale {{ font-size: 11px; fill: {PALE} }}
+.end {{ text-anchor: end }}
+.middle {{ text-anchor: middle }}
+.bold {{ font-weight: bold }}
+.box {{ stroke: {PALE} }}
+.gap {{ stroke: {PALE}; stroke-dasharray: 1 5 }}
+.bar {{ stroke: {INK}; stroke-width: 5 }}
+.on {{ stroke: {INK}; stroke-dasharray: 2 4 }}
+.dots {{ fill: none; stroke: {INK}; stroke-width: 9; stroke-linecap: round }}
+.white {{ fill: white }}
+.i {{ fill: {BLUE}; stroke: {BLUE} }}
+.c {{ fill: {BROWN}; stroke: {BROWN} }}
+.l {{ fill: none; stroke-width: 2 }}
+.r {{ fill: none; stroke-width: 1.5; stroke-dasharray: 4 3 }}
+.h {{ stroke: none }}
+.b {{ stroke-width: 1.5 }}
+.n {{ fill: white; stroke: none; font-weight: bold; text-anchor: middle }}
+.u .b {{ fill: white }}
+.u .n {{ fill: inherit }}
+'''
+
+
+def ranges(numbers: list[int]) -> str:
+    """Rising numbers in words: 1, 4 to 7."""
+    runs: list[list[int]] = []
+    for n in numbers:
+        if runs and runs[-1][-1] == n - 1:
+            runs[-1][1:] = [n]
+        else:
+            runs.append([n])
+    return ', '.join(f'{run[0]} to {run[-1]}' if len(run) > 1 else str(run[0]) for run in runs)
+
+
+def rows_of(paper: Paper, x: Dependence) -> tuple[int, int]:
+    """The rows that a dependence passes: from s to t, or the whole loop that carries it."""
+    return (x.s, x.t) if x.d is None else (x.d, paper.end[x.d])
+
+
+class Picture:
+    """Drawn piece by piece into a list of elements."""
+
+    def __init__(self, paper: Paper, barriers: list[int], name: str):
+        self.paper, self.barriers, self.out = paper, barriers, []
+        self.title = f'{name}, barriers {ranges(barriers) or "none"}'
+        self.right = LEFT + (max(paper.depth[d] for d in paper.end) + 1) * (INDENT + MARGIN) + LABEL
+        self.lane = packed([rows_of(paper, x) for x in paper.dependences])
+        lanes = max(self.lane, default=-1) + 1
+        self.step = 34 if lanes <= 20 else 24
+        self.round = self.step * 0.4
+        self.radius, self.digits = (9, 11) if lanes <= 20 else (8, 8)
+        self.width = max(self.right + 40 + self.step * lanes, NARROWEST)
+        self.ends = {1: {}, 2: {}}
+        for number in sorted(range(len(self.lane)), key=lambda i: self.lane[i]):
+            for end, point in ((1, paper.dependences[number].s), (2, paper.dependences[number].t)):
+                self.ends[end].setdefault(point, []).append(number)
+        self.top = 0
+
+    def y(self, point: int) -> float:
+        return self.top + ROW * point
+
+    def gap_y(self, gap: int) -> float:
+        return self.y(gap) - ROW / 2
+
+    def x(self, number: int, gap: int = 256) -> float:
+        """Where a dependence runs down. Where s lies before t the stretches of a carried one lie side by side."""
+        dependence = self.paper.dependences[number]
+        beside = dependence.d is not None and dependence.s < dependence.t and gap <= dependence.s
+        return self.right + 40 + self.step * self.lane[number] + (6 if beside else 0)
+
+    def edges(self, point: int) -> tuple[float, float]:
+        """Left and right edge of a statement, or of the box of a DO's loop."""
+        return LEFT + self.paper.depth[point] * INDENT, self.right - self.paper.depth[point] * MARGIN
+
+    def add(self, tag: str, text: object = None, **attributes: object) -> None:
+        names = {'cls': 'class'}
+        listed = ''.join(f' {names.get(k, k)}="{v:g}"' if isinstance(v, float) else f' {names.get(k, k)}="{v}"'
+                         for k, v in attributes.items())
+        self.out.append(f'<{tag}{listed}/>' if text is None else f'<{tag}{listed}>{html.escape(str(text))}</{tag}>')
+
+    def label(self, x: float, y: float, text: object, cls: str = '', size: int = 13) -> None:
+        self.add('text', text, **({'cls': cls} if cls else {}), x=x, y=y + size * 0.35)
+
+    def wrapped(self, x: float, y: float, text: str, width: float, cls: str, size: int) -> float:
+        """Words in lines of a width; gives the height below them."""
+        for line in textwrap.wrap(text, max(int(width / (size * 0.5)), 20)):
+            self.label(x, y, line, cls, size)
+            y += size + 4
+        return y
+
+    def loops(self) -> None:
+        for d in sorted(self.paper.end):
+            left, right = self.edges(d)
+            self.add('rect', cls='box', x=left, y=self.y(d) - 15, width=right - left,
+                     height=ROW * (self.paper.end[d] - d) + 30, rx=6, fill=SHADES[min(self.paper.depth[d], 7)])
+            count = sum(self.paper.owner[g] == d for g in self.barriers)
+            self.label(right - 8, self.y(d), f'count {count}', 'word end', 12)
+
+    def rows(self) -> None:
+        self.label(LEFT - 12, self.y(0) - 28, 'point', 'pale end', 11)
+        starts = {e: d for d, e in self.paper.end.items()}
+        for point, kind in enumerate(self.paper.points):
+            y, (left, right) = self.y(point), self.edges(point)
+            self.label(LEFT - 12, y, point, 'pale end', 11)
+            if kind == STATEMENT:
+                self.add('rect', cls='box white', x=left, y=y - 12, width=right - left, height=24, rx=3)
+                self.label(left + 10, y, f'statement {point}')
+            else:
+                word = 'DO' if kind == DO else 'ENDDO'
+                self.label(left + 10, y, f'{word} loop {starts.get(point, point)}', 'bold')
+
+    def gaps(self) -> None:
+        for gap in range(1, len(self.paper.points)):
+            left, right = self.edges(self.paper.owner[gap])
+            y, middle = self.gap_y(gap), left + INDENT / 2
+            if gap not in self.barriers:
+                self.add('path', cls='gap', d=f'M{left + INDENT:g} {y:g}H{right - 8:g}')
+                self.label(middle, y, gap, 'pale middle', 11)
+                continue
+            cut = sorted(self.x(i, gap) for i, x in enumerate(self.paper.dependences) if x.is_cut_by(gap))
+            self.add('path', cls='on', d=f'M{right:g} {y:g}H{max(cut, default=right):g}')
+            self.add('path', cls='bar', d=f'M{left + 4:g} {y:g}H{right - 4:g}')
+            self.add('rect', x=middle - 14, y=y - 9, width=28, height=18, rx=9, fill=INK)
+            self.label(middle, y, gap, 'word middle bold white', 12)
+            if cut:
+                self.dots(cut, y)
+
+    def dots(self, places: list[float], y: float) -> None:
+        """A dot at each place: a line of dots where one stands in each lane."""
+        drawn, begin = [], 0
+        for i, x in enumerate(places):
+            if i + 1 == len(places) or places[i + 1] != x + self.step:
+                drawn.append(f'M{places[begin]:g} {y:g}H{x + 0.2:g}')
+                begin = i + 1
+        self.add('path', cls='dots', d=''.join(drawn))
+
+    def level(self, number: int, end: int) -> float:
+        """Where a dependence leaves its s (end 1, below the middle) or arrives at its t (end 2, above the middle).
+        Those of one point are spread, the outer lanes towards the middle, so that they do not cross."""
+        dependence = self.paper.dependences[number]
+        point = dependence.s if end == 1 else dependence.t
+        group = self.ends[end][point]
+        away = 12 - 10 * (group.index(number) + 0.5) / len(group)
+        return round(self.y(point) + (away if end == 1 else -away), 1)
+
+    def dependence(self, number: int) -> None:
+        dependence, x = self.paper.dependences[number], self.x(number)
+        d, leave, arrive = dependence.d, self.level(number, 1), self.level(number, 2)
+        start, tip = self.edges(dependence.s)[1], self.edges(dependence.t)[1] + 2
+        out, into = f'M{start:g} {leave:g}H{x - 6:g}q6 0 6 6', f'V{arrive - 6:g}q0 6 -6 6H{tip + 6:g}'
+        heads = f'M{tip:g} {arrive:g}l8-4v8z'
+        self.out.append(f'<g class="{"i" if d is None else "c"}">')
+        down = x if d is None else self.x(number, 0)
+        if d is None:
+            self.add('path', cls='l', d=out + into)
+        else:
+            top, bottom, back = self.y(d) + 10, self.y(self.paper.end[d]) - 10, x + self.round
+            there, here = (back - x) / 2, (down - back) / 2
+            self.add('path', cls='l', d=f'{out}V{bottom:g}M{down:g} {top:g}{into}')
+            self.add('path', cls='r', d=f'M{x:g} {bottom:g}q0 8 {there:g} 8t{there:g}-8V{top:g}q0-8 {here:g}-8t{here:g} 8')
+            heads += f'M{back - 4:g} {(top + bottom) / 2 + 4:g}l4-8l4 8z'
+        self.add('path', cls='h', d=heads)
+        self.add('circle', cx=start, cy=leave, r=3)
+        self.out.append('</g>')
+
+    def badges(self, number: int, places: list[tuple[float, float]]) -> None:
+        """A dependence's number in some places; hollow if no barrier cuts it."""
+        dependence = self.paper.dependences[number]
+        is_cut = any(dependence.is_cut_by(gap) for gap in self.barriers)
+        self.out.append(f'<g class="{"i" if dependence.d is None else "c"}{"" if is_cut else " u"}">')
+        for x, y in places:
+            self.add('circle', cls='b', cx=x, cy=y, r=self.radius)
+            self.label(x, y, number, 'n', self.digits)
+        self.out.append('</g>')
+
+    def words(self, y: float) -> float:
+        """The dependences in words, in as many columns as have room, and the signs; gives the height below them."""
+        columns = max(int(self.width - 32) // CAPTION, 1)
+        wide = (self.width - 32) / columns
+        for first in range(0, len(self.paper.dependences), columns):
+            below = [self.caption(LEFT - 21 + wide * k, y, first + k, wide)
+                     for k in range(min(columns, len(self.paper.dependences) - first))]
+            y = max(below) + 10
+        for line in SIGNS:
+            y = self.wrapped(LEFT - 32, y, line, self.width - 40, 'pale', 11)
+        return y
+
+    def caption(self, x: float, y: float, number: int, wide: float) -> float:
+        dependence = self.paper.dependences[number]
+        kind = 'independent' if dependence.d is None else f'carried by loop {dependence.d}'
+        spans = ' and '.join(f'{low} to {high}' if low < high else str(low) for low, high in dependence.stretches)
+        cutting = ranges([g for g in self.barriers if dependence.is_cut_by(g)])
+        verdict = f'cut by {cutting}' if cutting else 'UNCUT'
+        self.badges(number, [(x, y)])
+        words = f'{kind}, {dependence.s} to {dependence.t}: gaps {spans}; {verdict}'
+        return max(self.wrapped(x + 21, y, words, wide - 40, 'word', 12), y + 18)
+
+    def svg(self) -> str:
+        self.top = self.wrapped(LEFT - 32, 18, self.title, self.width - 40, 'title', 15) + 45
+        self.loops()
+        self.rows()
+        for number in range(len(self.paper.dependences)):
+            self.dependence(number)
+        self.gaps()
+        for number in range(len(self.paper.dependences)):
+            self.badges(number, [(self.x(number), self.level(number, 1)), (self.x(number, 0), self.level(number, 2))])
+        height = self.words(self.y(len(self.paper.points)) + 8)
+        size = f'width="{self.width:g}" height="{height:g}" viewBox="0 0 {self.width:g} {height:g}"'
+        return '\n'.join([f'<svg xmlns="http://www.w3.org/2000/svg" {size} role="img" '
+                          'font-family="Helvetica, Arial, sans-serif">', f'<title>{html.escape(self.title)}</title>',
+                          f'<style>{STYLE}.dots {{ stroke-dasharray: .1 {self.step - 0.1:g} }}\n'
+                          f'.n {{ font-size: {self.digits}px }}\n</style>',
+                          '<rect width="100%" height="100%" fill="white"/>', *self.out, '</svg>', ''])

@@ -1,0 +1,46 @@
+"""A refusal in words: the line in decimal, the line as typed, the rule, and slips of the keyboard by name.
+
+  python3 -m office.refusal NAME ANSWER FILE    NAME: who says it; ANSWER: the program's line 2f; FILE: what it read
+"""
+import pathlib
+import sys
+from dataclasses import dataclass
+
+from office.typed import line_at
+from office.words import RULES
+
+DIGITS_RULE = 1
+
+
+@dataclass(frozen=True)
+class Refusal:
+    """The number of a rule and a line from 1; line 0 stands for the whole text."""
+    number: int
+    line: int
+
+    def words(self, text: bytes) -> list[str]:
+        """What the refusal of a text means, a sentence a line."""
+        line = line_at(text, self.line)
+        if line is not None:
+            where = f'line {self.line} is refused: {line.quoted()}'
+        elif self.line > 0:
+            where = f'the end of the text is refused, which counts as line {self.line}'
+        else:
+            where = 'the text is refused as a whole'
+        slips = line.slips() if line is not None and self.number == DIGITS_RULE else []
+        return [where, f'number {self.number}: {RULES[self.number]}', *slips]
+
+
+def refusal_in(answer: str) -> Refusal:
+    """The refusal that the program's line 2f tells: the number in one byte, the line in two."""
+    _, number, high, low = bytes.fromhex(answer)
+    return Refusal(number, 256 * high + low)
+
+
+def main(name: str, answer: str, file: str) -> None:
+    for sentence in refusal_in(answer).words(pathlib.Path(file).read_bytes()):
+        print(f'{name}: {sentence}', file=sys.stderr)
+
+
+if __name__ == '__main__':
+    main(*sys.argv[1:])
