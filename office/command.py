@@ -17,9 +17,9 @@ class Fault(Exception):
         self.status = status
 
 
-def version() -> str:
+def version() -> int:
     """The number of the last change request that has landed."""
-    return max(note.stem for note in (ROOT / 'docs' / 'changes').glob('*.md'))
+    return max(int(note.stem) for note in (ROOT / 'docs' / 'changes').glob('*.md'))
 
 
 def write_out(data: bytes) -> None:

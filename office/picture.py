@@ -1,7 +1,7 @@
 """A paper as SVG: one row a point, in the boxes of its loops; gaps between rows; at the right the dependences.
 
-A dependence runs down its lane from s to t; one that is carried runs on to the loop's ENDDO, round to its DO and down to
-t. Its number stands on the lane at both ends, and below the drawing it is told in words.
+A dependence runs down its lane from s to t; one that is carried runs on to the loop's ENDDO, round to its DO and down
+to t. Its number stands on the lane at both ends, and below the drawing it is told in words.
 """
 import html
 import textwrap
@@ -9,7 +9,8 @@ import textwrap
 from office.lanes import packed
 from office.paper import DO, STATEMENT, Dependence, Paper
 
-ROW, INDENT, MARGIN, LABEL, LEFT, NARROWEST, CAPTION = 44, 30, 10, 172, 52, 560, 460
+ROW, INDENT, MARGIN, LABEL, LEFT = 44, 30, 10, 172, 52
+NARROWEST, CAPTION, TITLE = 560, 460, 1000
 INK, PALE, BLUE, BROWN = '#17202a', '#5b6875', '#00619a', '#a34700'
 SHADES = ['#f3f6f9', '#e4ebf2', '#d5e0ea', '#c6d5e3', '#b8cadb', '#a9bfd4', '#9bb4cc', '#8da9c5']
 SIGNS = ['Small numbers are gaps, in the column of the loop they belong to.',
@@ -177,7 +178,8 @@ class Picture:
             top, bottom, back = self.y(d) + 10, self.y(self.paper.end[d]) - 10, x + self.round
             there, here = (back - x) / 2, (down - back) / 2
             self.add('path', cls='l', d=f'{out}V{bottom:g}M{down:g} {top:g}{into}')
-            self.add('path', cls='r', d=f'M{x:g} {bottom:g}q0 8 {there:g} 8t{there:g}-8V{top:g}q0-8 {here:g}-8t{here:g} 8')
+            turn = f'M{x:g} {bottom:g}q0 8 {there:g} 8t{there:g}-8V{top:g}q0-8 {here:g}-8t{here:g} 8'
+            self.add('path', cls='r', d=turn)
             heads += f'M{back - 4:g} {(top + bottom) / 2 + 4:g}l4-8l4 8z'
         self.add('path', cls='h', d=heads)
         self.add('circle', cx=start, cy=leave, r=3)
@@ -216,7 +218,7 @@ class Picture:
         return max(self.wrapped(x + 21, y, words, wide - 40, 'word', 12), y + 18)
 
     def svg(self) -> str:
-        self.top = self.wrapped(LEFT - 32, 18, self.title, self.width - 40, 'title', 15) + 45
+        self.top = self.wrapped(LEFT - 32, 18, self.title, min(self.width - 40, TITLE), 'title', 15) + 45
         self.loops()
         self.rows()
         for number in range(len(self.paper.dependences)):

@@ -8,7 +8,7 @@ RULES = {
        'or the end comes while points are missing or a loop is open',
     5: 'a 257th point, a loop 9 deep or a 513th dependence; or the text has more than 8,192 bytes',
     6: 's, t or d names no point, or a point of the wrong sort',
-    7: 'an independent dependence has its s at or after its t, or a carried one has a point that is not inside the loop',
+    7: 'an independent dependence has its s at or after its t, or a carried one has a point outside its loop',
     8: 'a gap is 0 or not below the number of points, or not above the gap before it',
     9: 'the buffer is shorter than the text of the key',
     10: 'there is no nest: Load comes first',

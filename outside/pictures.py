@@ -1,0 +1,132 @@
+#!/usr/bin/env python3
+"""./draw: which papers are drawn, what a picture has, and faults. The last line is 'N passed, M failed'."""
+import pathlib
+import random
+import re
+import subprocess
+import sys
+import tempfile
+import xml.etree.ElementTree as tree
+
+from trying import DRAW, EXAMPLES, KEY, ROOT, VERSION, Seen, Tally, run
+
+sys.path.insert(0, str(ROOT))
+from office.lanes import packed
+
+MEGABYTE = 1_000_000
+PICTURES = {'p': ['p'], 'q-best': ['q'], 'q-dearer': ['q', '4,7'], 'r': ['r']}
+
+
+def texts_of(seen: Seen) -> list[tree.Element]:
+    """The texts of a picture; none where it is no picture."""
+    try:
+        return list(tree.fromstring(seen.out).iter('{http://www.w3.org/2000/svg}text'))
+    except tree.ParseError:
+        return []
+
+
+def words_of(texts: list[tree.Element], kind: str = '') -> list[str]:
+    """The words of all texts, or of those of a kind."""
+    return [text.text for text in texts if not kind or kind in text.get('class', '').split()]
+
+
+def drawn(tally: Tally, folder: pathlib.Path) -> None:
+    """The barriers of the key, those of a list, those of a placement text."""
+    for name, (paper, *gaps) in PICTURES.items():
+        seen = run(DRAW, ROOT / 'examples' / f'{paper}.hex', *gaps)
+        picture = (ROOT / 'docs' / f'{name}.svg').read_bytes()
+        tally.check(f'docs/{name}.svg is drawn so', (seen.out, seen.err, seen.status) == (picture, '', 0), seen.err)
+    answer, paper = folder / 'answer.hex', ROOT / 'examples' / 'q.hex'
+    answer.write_bytes(b'2104\n2107\n')
+    by_list = run(DRAW, paper, '4,7')
+    tally.check('a placement text', run(DRAW, paper, answer) == by_list and by_list.status == 0, by_list)
+    tally.check('a list in any order', run(DRAW, paper, '7, 4,4') == by_list, by_list)
+    none = run(DRAW, paper, '')
+    answer.write_bytes(b'')
+    tally.check('no barriers', words_of(texts_of(none), 'title') == ['q, barriers none'], none)
+    tally.check('an empty placement text', run(DRAW, paper, answer) == none, none)
+    tally.check('uncut', sum('UNCUT' in word for word in words_of(texts_of(none))) == 3, none)
+    blank = run(DRAW, '/dev/null')
+    tally.check('the empty paper', 'ENDDO loop 0' in words_of(texts_of(blank)) and blank.status == 0, blank)
+    link = folder / 'drawer'
+    link.symlink_to(DRAW)
+    tally.check('by a link, elsewhere', run(link, paper, '4,7', shell='cd / && "$@"') == by_list, by_list)
+    for option, word in [('--help', b'usage: ./draw PAPER'), ('--version', b'draw %d\n' % VERSION)]:
+        seen = run(DRAW, option)
+        tally.check(option, seen.status == 0 and word in seen.out, seen)
+
+
+def full_size(tally: Tally, folder: pathlib.Path) -> None:
+    """A paper of 256 points and 512 dependences: under a megabyte, every number at both ends and in words."""
+    for kind in ['mixed', 'one', 'deep']:
+        paper = folder / f'{kind}.hex'
+        maker = [sys.executable, ROOT / 'outside' / 'papers.py', kind, '256']
+        paper.write_bytes(subprocess.run(maker, capture_output=True, check=True).stdout)
+        for gaps in [[], [','.join(map(str, range(1, 256)))], [','.join(map(str, range(1, 256, 2)))]]:
+            name, seen = f'full size, {kind}, {gaps[0][:8] if gaps else "its key"}', run(DRAW, paper, *gaps)
+            tally.check(f'{name}: size', 0 < len(seen.out) < MEGABYTE and seen.status == 0, len(seen.out))
+            texts = texts_of(seen)
+            numbers = words_of(texts, 'n')
+            tally.check(f'{name}: numbers', sorted(map(int, numbers)) == sorted(list(range(512)) * 3), len(numbers))
+            wide = float(re.search(rb'width="([0-9.]+)"', seen.out + b'width="0"').group(1))
+            over = [text.text for text in texts if text.get('class', '') in ('title', 'word', 'pale')
+                    and float(text.get('x')) + 5 * len(text.text) > wide]
+            tally.check(f'{name}: captions', wide > 0 and not over, over)
+    seen = run(DRAW, folder / 'one.hex', ','.join(map(str, range(1, 256, 2))))
+    title = words_of(texts_of(seen), 'title')
+    tally.check('a long title wraps', ' '.join(title).endswith('253, 255') and len(title) > 1, title)
+    seen = run(DRAW, folder / 'mixed.hex', shell='"$@" | head -c 100; exit ${PIPESTATUS[1]}')
+    tally.check('a reader who leaves', (len(seen.out), seen.err, seen.status) == (100, '', 0), seen)
+
+
+def lanes(tally: Tally) -> None:
+    """No two stretches of a lane touch, and there are as many lanes as stretches over some row."""
+    rng = random.Random(1)
+    for turn in range(50):
+        rows = [tuple(sorted(rng.choices(range(40), k=2))) for _ in range(rng.randrange(60))]
+        lane = packed(rows)
+        apart = all(lane[i] != lane[j] or rows[i][1] < rows[j][0] or rows[j][1] < rows[i][0]
+                    for i in range(len(rows)) for j in range(i))
+        most = max((sum(low <= row <= high for low, high in rows) for row in range(40)), default=0)
+        tally.check(f'lanes, turn {turn}', apart and len(set(lane)) == most == max(lane, default=-1) + 1, rows)
+
+
+def faults(tally: Tally, folder: pathlib.Path) -> None:
+    """What is not drawn gives no picture, a reason and a status."""
+    paper, bad, text = ROOT / 'examples' / 'q.hex', folder / 'bad.hex', folder / 'text.hex'
+    for typed in [b'01\n', b'01\r\n02\r\n', b'01\n02\n110001\n03\n']:
+        bad.write_bytes(typed)
+        seen, asked = run(DRAW, bad), run(KEY, given=typed)
+        tally.check(f'{typed!r} refused', (seen.out, seen.err, seen.status) == (b'', asked.err, 1), seen)
+        tally.check(f'{typed!r} refused with gaps', run(DRAW, bad, '1') == seen, seen)
+    for typed, word in [(b'2104\n2102\n', 'number 8'), (b'2100\n', 'number 8'), (b'210a\n', 'number 8'),
+                        (b'2204\n', 'number 2'), (b'21\n', 'number 2'), (b'210A\n', 'capital digits'),
+                        (b'2104', 'no line feed')]:
+        text.write_bytes(typed)
+        seen = run(DRAW, paper, text)
+        tally.check(f'{typed!r} as a placement', seen.out == b'' and word in seen.err and seen.status == 1, seen)
+    for name, word, seen in [
+            ('a gap too high', 'no gaps of this paper', run(DRAW, paper, '4,10')),
+            ('gap 0', 'no gaps of this paper', run(DRAW, paper, '0')),
+            ('no paper', 'cannot read', run(DRAW, folder / 'none.hex')),
+            ('a folder', 'cannot read', run(DRAW, folder)),
+            ('no placement', 'cannot read', run(DRAW, paper, folder / 'none.hex')),
+            ('output full', 'not written', run(DRAW, paper, shell='"$@" > /dev/full')),
+            ('output closed', 'not written', run(DRAW, paper, shell='"$@" >&-'))]:
+        tally.check(name, seen.failed(word), seen)
+    seen = run(DRAW)
+    tally.check('nothing asked', (seen.out, seen.status) == (b'', 2) and 'usage' in seen.err, seen)
+
+
+def main() -> None:
+    tally = Tally()
+    with tempfile.TemporaryDirectory() as name:
+        folder = pathlib.Path(name)
+        drawn(tally, folder)
+        full_size(tally, folder)
+        lanes(tally)
+        faults(tally, folder)
+    tally.close()
+
+
+main()

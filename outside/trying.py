@@ -1,0 +1,48 @@
+"""What the tests of the scripts share: a command run on some bytes, and a tally of what was seen."""
+import os
+import pathlib
+import subprocess
+import sys
+from dataclasses import dataclass
+
+ROOT = pathlib.Path(__file__).resolve().parent.parent
+PROGRAM, KEY, DRAW = ROOT / 'target' / 'bin' / 'key', ROOT / 'key', ROOT / 'draw'
+VERSION = len(list((ROOT / 'docs' / 'changes').glob('*.md')))
+EXAMPLES = {name: (ROOT / 'examples' / f'{name}.hex').read_bytes() for name in 'pqr'}
+
+
+@dataclass(frozen=True)
+class Seen:
+    """What a command wrote, and its status."""
+    out: bytes
+    err: str
+    status: int
+
+    def failed(self, word: str, status: int = 2) -> bool:
+        """Nothing on standard output, one line on standard error that has the word, and the status."""
+        return self.out == b'' and self.err.count('\n') == 1 and word in self.err and self.status == status
+
+
+def run(*command: object, given: bytes | None = b'', shell: str = '"$@"', **environment: str) -> Seen:
+    """Runs a command by a line of shell, with bytes or, for None, nothing at all to read."""
+    done = subprocess.run(['bash', '-c', shell if given is not None else shell + ' <&-', 'bash', *map(str, command)],
+                          input=given, capture_output=True, timeout=60, check=False, env={**os.environ, **environment})
+    return Seen(done.stdout, done.stderr.decode('utf-8', 'replace'), done.returncode)
+
+
+class Tally:
+    """Counts what holds and shows what does not."""
+
+    def __init__(self) -> None:
+        self.passed = self.failed = 0
+
+    def check(self, name: str, holds: bool, seen: object = '') -> None:
+        if holds:
+            self.passed += 1
+        else:
+            self.failed += 1
+            print(f'{name}: {str(seen)[:600]}')
+
+    def close(self) -> None:
+        print(f'{self.passed} passed, {self.failed} failed')
+        sys.exit(self.failed > 0)
