@@ -1,8 +1,7 @@
 """A refusal in words: the line in decimal, the line as typed, the rule, and slips of the keyboard by name.
 
-  python3 -m office.refusal NAME ANSWER FILE    NAME: who says it; ANSWER: the program's line 2f; FILE: what it read
+  python3 -m office.refusal NAME ANSWER < TEXT    NAME: who says it; ANSWER: the program's line 2f for the text
 """
-import pathlib
 import sys
 from dataclasses import dataclass
 
@@ -37,8 +36,8 @@ def refusal_in(answer: str) -> Refusal:
     return Refusal(number, 256 * high + low)
 
 
-def main(name: str, answer: str, file: str) -> None:
-    for sentence in refusal_in(answer).words(pathlib.Path(file).read_bytes()):
+def main(name: str, answer: str) -> None:
+    for sentence in refusal_in(answer).words(sys.stdin.buffer.read()):
         print(f'{name}: {sentence}', file=sys.stderr)
 
 

@@ -90,6 +90,10 @@ def statuses(tally: Tally, folder: pathlib.Path) -> None:
         tally.check(option, word in seen.out and (seen.err, seen.status) == ('', 0), seen)
         seen = run(KEY, option, shell=FULL)
         tally.check(f'{option}, output full', seen.out == b'' and seen.err != '' and seen.status == 2, seen)
+    (folder / 'office').mkdir()
+    (folder / 'office' / '__init__.py').touch()
+    seen = run(KEY, given=b'04\n', shell=f'cd {folder} && "$@"')
+    tally.check('beside another office', 'number 2: the kind' in seen.err and seen.status == 1, seen)
     hidden = folder / 'hidden.hex'
     for name, word, seen in [
             ('an option', 'no option --keys', run(KEY, '--keys')), ('two papers', 'one paper', run(KEY, paper, paper)),

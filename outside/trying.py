@@ -1,6 +1,7 @@
 """What the tests of the scripts share: a command run on some bytes, and a tally of what was seen."""
 import os
 import pathlib
+import shutil
 import subprocess
 import sys
 from dataclasses import dataclass
@@ -8,6 +9,7 @@ from dataclasses import dataclass
 ROOT = pathlib.Path(__file__).resolve().parent.parent
 PROGRAM, KEY, DRAW = ROOT / 'target' / 'bin' / 'key', ROOT / 'key', ROOT / 'draw'
 VERSION = len(list((ROOT / 'docs' / 'changes').glob('*.md')))
+TIMEOUT, BASH = shutil.which('timeout'), shutil.which('bash')
 EXAMPLES = {name: (ROOT / 'examples' / f'{name}.hex').read_bytes() for name in 'pqr'}
 
 
@@ -24,9 +26,10 @@ class Seen:
 
 
 def run(*command: object, given: bytes | None = b'', shell: str = '"$@"', **environment: str) -> Seen:
-    """Runs a command by a line of shell, with bytes or, for None, nothing at all to read."""
-    done = subprocess.run(['bash', '-c', shell if given is not None else shell + ' <&-', 'bash', *map(str, command)],
-                          input=given, capture_output=True, timeout=60, check=False, env={**os.environ, **environment})
+    """Runs a command by a line of shell, a minute at most, with bytes or, for None, nothing at all to read."""
+    line = shell if given is not None else shell + ' <&-'
+    done = subprocess.run([TIMEOUT, '60', BASH, '-c', line, 'bash', *map(str, command)], input=given,
+                          capture_output=True, check=False, env={**os.environ, **environment})
     return Seen(done.stdout, done.stderr.decode('utf-8', 'replace'), done.returncode)
 
 
