@@ -7,6 +7,8 @@ from collections.abc import Callable
 
 ROOT = pathlib.Path(__file__).resolve().parent.parent
 REFUSED, FAILED = 1, 2
+# More bytes than any text that is accepted has.
+ENOUGH = 65536
 
 
 class Fault(Exception):
@@ -23,7 +25,8 @@ def version() -> int:
 
 
 def write_out(data: bytes) -> None:
-    """Writes all of the data to standard output."""
+    """Writes all of the data to standard output. A reader who leaves ends the command, as with other programs."""
+    signal.signal(signal.SIGPIPE, signal.SIG_DFL)
     try:
         while data:
             data = data[os.write(1, data):]
@@ -32,16 +35,16 @@ def write_out(data: bytes) -> None:
 
 
 def read_in(file: str) -> bytes:
-    """The bytes of a file."""
+    """The bytes of a file, or the first of them where it is longer than any text."""
     try:
-        return pathlib.Path(file).read_bytes()
+        with open(file, 'rb') as opened:
+            return opened.read(ENOUGH)
     except OSError as fault:
         raise Fault(f'cannot read {file}: {fault.strerror}') from fault
 
 
 def run(name: str, command: Callable[[list[str]], None]) -> None:
-    """Runs a command on the arguments; a reader of its output who leaves ends it, as other programs."""
-    signal.signal(signal.SIGPIPE, signal.SIG_DFL)
+    """Runs a command on the arguments."""
     try:
         command(sys.argv[1:])
     except Fault as fault:

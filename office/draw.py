@@ -8,7 +8,7 @@ from office.command import REFUSED, ROOT, Fault, read_in, version, write_out
 from office.paper import BARRIER, Paper, frames_of, paper_in
 from office.picture import Picture
 from office.refusal import Refusal
-from office.typed import line_at
+from office.typed import Line, line_at
 
 HELP = """Draws a paper as SVG on standard output: with the barriers of its key, or with those named.
 
@@ -30,22 +30,33 @@ def gaps_in(argument: str, paper: Paper) -> list[int]:
     """The gaps that an argument names: a list in decimal, or a file with a placement text."""
     if not re.fullmatch('[0-9, ]*', argument):
         return placement_in(read_in(argument), argument, paper)
-    gaps = {int(g) for g in re.split('[, ]+', argument) if g}
-    if not gaps <= set(paper.owner):
+    gaps = {str(gap): gap for gap in paper.owner}
+    named = [g for g in re.split('[, ]+', argument) if g]
+    if not gaps.keys() >= set(named):
         raise Fault(f'no gaps of this paper, which has 1 to {len(paper.points) - 1}: {argument}')
-    return sorted(gaps)
+    return sorted({gaps[g] for g in named})
 
 
 def placement_in(text: bytes, file: str, paper: Paper) -> list[int]:
-    """The gaps of a placement text, rising lines of 21 and a gap; another text is refused."""
-    gaps = [0]
-    while line := line_at(text, len(gaps)):
-        frame = frames_of(line.typed)[0] if not line.slips() else []
-        if len(frame) != 2 or frame[0] != BARRIER or frame[1] <= gaps[-1] or frame[1] not in paper.owner:
-            number = 1 if not frame else 2 if len(frame) != 2 or frame[0] != BARRIER else 8
-            raise Fault('\ndraw: '.join([f'{file} is no placement', *Refusal(number, len(gaps)).words(text)]), REFUSED)
-        gaps.append(frame[1])
-    return gaps[1:]
+    """The gaps of a placement text; a text that is none is refused."""
+    gaps: list[int] = []
+    while line := line_at(text, len(gaps) + 1):
+        number = fault_of(line, gaps, paper)
+        if number != 0:
+            words = Refusal(number, len(gaps) + 1).words(text)
+            raise Fault('\ndraw: '.join([f'{file} is no placement text', *words]), REFUSED)
+        gaps += frames_of(line.typed)[0][1:]
+    return gaps
+
+
+def fault_of(line: Line, gaps: list[int], paper: Paper) -> int:
+    """The number of the rule that a line of a placement text breaks after some gaps, 0 if none."""
+    if line.slips():
+        return 1
+    kind, *gap = frames_of(line.typed)[0]
+    if kind != BARRIER or len(gap) != 1:
+        return 2
+    return 0 if gap[0] in paper.owner and gap > gaps[-1:] else 8
 
 
 def main(arguments: list[str]) -> None:
@@ -62,4 +73,5 @@ def main(arguments: list[str]) -> None:
         barriers = [frame[1] for frame in frames_of(answer) if frame[0] == BARRIER]
     else:
         barriers = gaps_in(asked.gaps, paper)
-    write_out(Picture(paper, barriers, pathlib.Path(asked.paper).stem).svg().encode())
+    name = ''.join(c if c.isprintable() else '?' for c in pathlib.Path(asked.paper).stem)
+    write_out(Picture(paper, barriers, name).svg().encode())

@@ -1,5 +1,6 @@
 #!/usr/bin/env python3
 """./draw: which papers are drawn, what a picture has, and faults. The last line is 'N passed, M failed'."""
+import os
 import pathlib
 import random
 import re
@@ -51,6 +52,11 @@ def drawn(tally: Tally, folder: pathlib.Path) -> None:
     link = folder / 'drawer'
     link.symlink_to(DRAW)
     tally.check('by a link, elsewhere', run(link, paper, '4,7', shell='cd / && "$@"') == by_list, by_list)
+    strange = os.fsencode(folder) + b'/\xff<&.hex'
+    with open(strange, 'wb') as opened:
+        opened.write(EXAMPLES['q'])
+    seen = run(DRAW, os.fsdecode(strange), '4')
+    tally.check('a strange name', words_of(texts_of(seen), 'title') == ['?<&, barriers 4'] and seen.status == 0, seen)
     for option, word in [('--help', b'usage: ./draw PAPER'), ('--version', b'draw %d\n' % VERSION)]:
         seen = run(DRAW, option)
         tally.check(option, seen.status == 0 and word in seen.out, seen)
@@ -108,12 +114,15 @@ def faults(tally: Tally, folder: pathlib.Path) -> None:
     for name, word, seen in [
             ('a gap too high', 'no gaps of this paper', run(DRAW, paper, '4,10')),
             ('gap 0', 'no gaps of this paper', run(DRAW, paper, '0')),
+            ('a long number', 'no gaps of this paper', run(DRAW, paper, '1' * 5000)),
             ('no paper', 'cannot read', run(DRAW, folder / 'none.hex')),
             ('a folder', 'cannot read', run(DRAW, folder)),
             ('no placement', 'cannot read', run(DRAW, paper, folder / 'none.hex')),
             ('output full', 'not written', run(DRAW, paper, shell='"$@" > /dev/full')),
             ('output closed', 'not written', run(DRAW, paper, shell='"$@" >&-'))]:
         tally.check(name, seen.failed(word), seen)
+    seen = run(DRAW, '/dev/zero')
+    tally.check('a paper without end', (seen.out, seen.status) == (b'', 1) and 'as a whole' in seen.err, seen)
     seen = run(DRAW)
     tally.check('nothing asked', (seen.out, seen.status) == (b'', 2) and 'usage' in seen.err, seen)
 
