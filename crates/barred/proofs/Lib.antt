@@ -1,0 +1,6 @@
+-- Laws of barred gaps.
+pub mod Ranks
+pub mod Renumbered
+pub mod RingPoints
+pub mod Reduced
+pub mod ReducedNest

@@ -1,0 +1,31 @@
+-- The gaps that are not barred, renumbered from 1.
+-- Main definitions: `isFree`, `avoids`, `rank`, `ranks`, `unranked`.
+use mathlib.Core.Bool.{Bool, true, _&&_, not}
+use mathlib.Core.List.{List, [], _∷_}
+use Prim.Native.Nat.{ℕ, zero, suc, _+_}
+use Rattle.laws.specs.Choice.{isIn}
+use Rattle.laws.specs.Bits.{one}
+use Rattle.placements.specs.Words.{gapsOf}
+
+-- a gap that is not barred
+abbrev pub isFree : List ℕ → ℕ → Bool
+isFree bs g = not (isIn g bs)
+
+-- 02, job 7: a placement without barred gaps
+abbrev pub avoids : List ℕ → List ℕ → Bool
+avoids bs [] = true
+avoids bs (g ∷ gs) = isFree bs g && avoids bs gs
+
+-- how many gaps of 1 to g are not barred
+unfoldable pub rank : List ℕ → ℕ → ℕ
+rank bs zero = 0
+rank bs (suc g) = one (isFree bs (suc g)) + rank bs g
+
+-- a placement with each gap renumbered
+abbrev pub ranks : List ℕ → List ℕ → List ℕ
+ranks bs [] = []
+ranks bs (g ∷ gs) = rank bs g ∷ ranks bs gs
+
+-- the gaps of 1 to k that are not barred and whose rank is in the list
+abbrev pub unranked : List ℕ → ℕ → List ℕ → List ℕ
+unranked bs k rs = gapsOf (λ g. isFree bs g && isIn (rank bs g) rs) k 1

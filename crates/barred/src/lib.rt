@@ -1,0 +1,1 @@
+// Barred gaps: definitions in specs/, laws in proofs/; no code.
