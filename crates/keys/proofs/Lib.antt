@@ -11,6 +11,7 @@ pub mod Sizes
 pub mod Marking
 pub mod RingKey
 pub mod OneKey
+pub mod BarredKey
 pub mod KeyCases
 pub mod FirstCases
 pub mod Excluded
