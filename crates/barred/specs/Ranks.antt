@@ -11,7 +11,7 @@ use Rattle.placements.specs.Words.{gapsOf}
 abbrev pub isFree : List ℕ → ℕ → Bool
 isFree bs g = not (isIn g bs)
 
--- 02, job 7: a placement without barred gaps
+-- a placement without barred gaps
 abbrev pub avoids : List ℕ → List ℕ → Bool
 avoids bs [] = true
 avoids bs (g ∷ gs) = isFree bs g && avoids bs gs

@@ -16,11 +16,11 @@ use Rattle.barred.specs.Ranks.{isFree, rank}
 abbrev pub openGaps : List ℕ → List ℕ → Dep → List ℕ
 openGaps ps bs e = gapsOf (λ g. hasGap ps e g && isFree bs g) (length ps - 1) 1
 
--- 02, job 7: a dependence that has all its gaps barred
+-- a dependence that has all its gaps barred
 abbrev pub isShut : List ℕ → List ℕ → Dep → Bool
 isShut ps bs e = eqb (length (openGaps ps bs e)) 0
 
--- 02, job 7: some dependence has all its gaps barred
+-- some dependence has all its gaps barred
 abbrev pub someShut : List ℕ → List ℕ → List Dep → Bool
 someShut ps bs [] = false
 someShut ps bs (e ∷ es) = isShut ps bs e || someShut ps bs es
