@@ -20,6 +20,7 @@ use sitting::Sitting;
 
 // A desk: whether there is a nest, the nest, whether there is a key, the key, the candidate's sitting, the moves that
 // can be taken back.
+#[repr(C)]
 pub struct Desk {
     pub loaded: bool,
     pub nest: Nest,
@@ -30,6 +31,7 @@ pub struct Desk {
 }
 
 // A desk of the kind before sittings.
+#[repr(C)]
 pub struct PlainDesk {
     pub loaded: bool,
     pub nest: Nest,
@@ -38,6 +40,7 @@ pub struct PlainDesk {
 }
 
 // The number and the line of a refusal, 0 and 0 for none, and the desk after the call.
+#[repr(C)]
 pub struct Reply {
     pub number: u8,
     pub line: usize,
@@ -45,6 +48,7 @@ pub struct Reply {
 }
 
 // The number and the line of a refusal, 0 and 0 for none, and the answer.
+#[repr(C)]
 pub struct Answer {
     pub number: u8,
     pub line: usize,

@@ -28,7 +28,7 @@ pub fn check_list(desk: Desk, list: &[Dependence]) -> Answer
 }
 
 // The answer before the first record: 10, 11, or nothing yet.
-fn begin(desk: Desk) -> Answer
+pub fn begin(desk: Desk) -> Answer
     ensures { λ r. ⌜ r ≡ begun (deskIn desk) ⌝ }
 {
     let number = desk::key_fault(desk.loaded, desk.planned);
@@ -37,7 +37,7 @@ fn begin(desk: Desk) -> Answer
 
 // The answer after the record at index i of the list. A refusal stays; a faulty record refuses with its place, i + 1,
 // which is at most the list's length and so does not wrap.
-fn step(desk: Desk, found: Answer, e: Dependence, i: usize) -> Answer
+pub fn step(desk: Desk, found: Answer, e: Dependence, i: usize) -> Answer
     requires { ⌜ IsCounted (desk .nest) × (i + 1 < 2 ^ 64) ⌝ }
     ensures { λ r. ⌜ r ≡ stepOf (deskIn desk) found (depIn e) i ⌝ }
 {

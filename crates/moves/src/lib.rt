@@ -4,6 +4,7 @@ ghost use Prim.Native.Nat.{_<_};
 ghost use Rattle.moves.specs.Ring.{KEPT, before, IsRing, EmptySays, PushSays, LatestSays, PopSays};
 
 // A gap put or lifted.
+#[repr(C)]
 pub struct Move {
     pub gap: u8,
     pub put: bool,
@@ -11,6 +12,7 @@ pub struct Move {
 
 // A ring: the latest move stands at `head`, the one before it at the place before, and the last place comes before
 // place 0. There are `many`.
+#[repr(C)]
 pub struct Moves {
     pub ring: [Move; Moves::KEPT],
     pub head: usize,

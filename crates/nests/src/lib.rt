@@ -21,6 +21,7 @@ pub const INDEPENDENT: u8 = 17;
 pub const CARRIED: u8 = 18;
 
 // A dependence from point s to point t, independent or carried by the loop of DO d.
+#[repr(C)]
 pub struct Dependence {
     pub kind: u8,
     pub d: u8,
@@ -29,6 +30,7 @@ pub struct Dependence {
 }
 
 // A nest: the first `count` points and the first `many` dependences.
+#[repr(C)]
 pub struct Nest {
     pub count: usize,
     pub points: [u8; Nest::POINTS],

@@ -18,6 +18,7 @@ ghost use Rattle.placements.specs.Words.{GAPS, holds, gapsIn, LowestFrom
 ghost use Rattle.placements.specs.Answers.{cutOf, isCut, CutSays, CutInSays, foundOf, IsMask, CompareSays};
 
 // A set of gaps: gap g is bit g mod 64 of word g / 64.
+#[repr(C)]
 pub struct Placement {
     pub words: [u64; 4],
 }

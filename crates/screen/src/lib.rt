@@ -17,6 +17,7 @@ use nests::Nest;
 use sitting::Sitting;
 
 // The number of a refusal, 0 for none, with line 0; how many dependences remain uncut; the desk after the call.
+#[repr(C)]
 pub struct Moved {
     pub number: u8,
     pub line: usize,

@@ -16,6 +16,7 @@ ghost use Rattle.sitting.specs.Kept.{Ready, EmptySays, PutSays, LiftSays
 
 // The placement; for each dependence how many of its barriers cut it; how many dependences none cuts. A dependence has
 // at most the gaps 1 to 255, so that its count fits a byte.
+#[repr(C)]
 pub struct Sitting {
     pub placement: Placement,
     pub counts: [u8; Nest::DEPENDENCES],

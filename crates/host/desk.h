@@ -1,0 +1,176 @@
+/* The marking desk for barrier papers, for programs in C.
+
+   A desk is a value: it goes into a call and comes back in the reply, and no call keeps anything. Begin with desk_new
+   and go on with the desk of each reply; a desk made in any other way is not one. Calls on different desks may run at
+   the same time.
+
+   `number` is 0, or the number of a refusal; `line` is the line of the text, from 1, or 0 where no text is at fault.
+   A refused call leaves the desk as it was, every byte of a lent buffer too, and answers 0.
+
+     1   a line that is not an even, nonzero number of digits 0-9 a-f, then 0a
+     2   a kind that is not of this text, or the wrong length for it
+     3   a point after a dependence
+     4   a point before any DO or after the outermost loop; a dependence, or the end, while a loop is open
+     5   a 257th point, a loop 9 deep, a 513th dependence
+     6   s, t or d names no point, or one of the wrong sort; Count of a point that is no DO
+     7   an independent dependence with s at or after t; a carried one with a point not inside its loop
+     8   a gap that is 0 or not below the number of points; in a text, one not above the gap before
+     9   a buffer shorter than what would be written
+    10   no nest
+    11   no key
+    12   Put of a gap that is there, Lift of one that is not
+    13   no move to take back
+
+   A text or a buffer is lent as a pointer and a length in bytes. The library is for x86-64 and links against memcpy and
+   memset alone:  gcc -I crates/host host.c target/staticlib/libhost.a  */
+#ifndef DESK_H
+#define DESK_H
+
+#include <stdbool.h>
+#include <stddef.h>
+#include <stdint.h>
+
+#ifdef __cplusplus
+extern "C" {
+#endif
+
+/* Limits: points, dependences, the gaps of a placement, the moves that can be taken back. */
+enum { DESK_POINTS = 256, DESK_DEPENDENCES = 512, DESK_GAPS = 256, DESK_MOVES = 64 };
+
+/* The kinds of points and of dependences. */
+enum { DESK_DO = 0x01, DESK_ENDDO = 0x02, DESK_STATEMENT = 0x03, DESK_INDEPENDENT = 0x11, DESK_CARRIED = 0x12 };
+
+/* The verdicts of a mark. */
+enum { DESK_UNCUT = 0, DESK_DEARER = 1, DESK_BEST = 2 };
+
+/* No placement's text is longer: 255 lines of 5 bytes. */
+enum { DESK_TEXT = 1275 };
+
+/* A Desk has so many words of 8 bytes, and a DeskPlain: for hosts that only hand them on. */
+enum { DESK_WORDS = 383, DESK_PLAIN_WORDS = 296 };
+
+/* From point s to point t, independent or carried by the loop of DO d. */
+typedef struct DeskDependence {
+    uint8_t kind, d, s, t;
+} DeskDependence;
+
+/* The first `count` points, by their kinds, and the first `many` dependences. */
+typedef struct DeskNest {
+    size_t count;
+    uint8_t points[DESK_POINTS];
+    size_t many;
+    DeskDependence deps[DESK_DEPENDENCES];
+} DeskNest;
+
+/* A set of gaps: gap g is bit g % 64 of word g / 64. */
+typedef struct DeskPlacement {
+    uint64_t words[DESK_GAPS / 64];
+} DeskPlacement;
+
+/* The candidate's barriers, how many of them cut each dependence, and how many dependences none cuts. */
+typedef struct DeskSitting {
+    DeskPlacement placement;
+    uint8_t counts[DESK_DEPENDENCES];
+    size_t uncut;
+} DeskSitting;
+
+/* A gap put, or lifted. */
+typedef struct DeskMove {
+    uint8_t gap;
+    bool put;
+} DeskMove;
+
+/* The latest `many` moves: the latest at `head`, each before it one place lower, and place 0 follows on 63. */
+typedef struct DeskMoves {
+    DeskMove ring[DESK_MOVES];
+    size_t head;
+    size_t many;
+} DeskMoves;
+
+typedef struct Desk {
+    bool loaded;
+    DeskNest nest;
+    bool planned;
+    DeskPlacement key;
+    DeskSitting sitting;
+    DeskMoves moves;
+} Desk;
+
+/* A desk of the kind before sittings. */
+typedef struct DeskPlain {
+    bool loaded;
+    DeskNest nest;
+    bool planned;
+    DeskPlacement key;
+} DeskPlain;
+
+typedef struct DeskReply {
+    uint8_t number;
+    size_t line;
+    Desk desk;
+} DeskReply;
+
+typedef struct DeskAnswer {
+    uint8_t number;
+    size_t line;
+    size_t value;
+} DeskAnswer;
+
+typedef struct DeskMoved {
+    uint8_t number;
+    size_t line;
+    size_t uncut;
+    Desk desk;
+} DeskMoved;
+
+/* DESK_UNCUT: dependence a, from 0, is the first that is uncut. DESK_DEARER: loop a has b barriers, and c in the key.
+   All that is not named is 0. */
+typedef struct DeskMark {
+    uint8_t number;
+    size_t line;
+    uint8_t verdict;
+    size_t a, b, c;
+} DeskMark;
+
+/* A desk with no nest and no key. */
+Desk desk_new(void);
+Desk desk_reset(Desk desk);
+
+/* Reads a nest text. Accepted, it replaces the nest, and drops the key, the sitting and the moves. Numbers 1 to 7. */
+DeskReply desk_load(Desk desk, const uint8_t *text, size_t length);
+
+/* Works out the key: of the correct placements as good as or better than every other, the first. Number 10. */
+DeskReply desk_plan(Desk desk);
+
+/* The barriers of the key at the own gaps of the loop of DO `point`. Numbers 10, 11, 6. */
+DeskAnswer desk_count(Desk desk, size_t point);
+
+/* How a placement text stands beside the key. Numbers 10, 11, then 1, 2, 8 with their line. */
+DeskMark desk_mark(Desk desk, const uint8_t *text, size_t length);
+
+/* Writes the key as text from the start of the buffer; the value is the length. Later bytes stay. Numbers 10, 11, 9. */
+DeskAnswer desk_write(Desk desk, uint8_t *out, size_t length);
+
+/* Takes extra dependences, four bytes each: kind, d, s, t; in kind 11 the d is not read. The value is the place, from
+   1, of the first that the key does not cut, or 0. Numbers 10, 11, then 2, 6, 7 with the place of the first faulty
+   record as their line. Bytes left over at the end are number 2, and their place is that after the last record. */
+DeskAnswer desk_list(Desk desk, const uint8_t *list, size_t length);
+
+/* Puts a barrier of the candidate at a gap; lifts it; takes the latest of these back, up to 64 in a row. `uncut` is how
+   many dependences remain uncut. Numbers 10, 8, 12; 10, 8, 12; 10, 13. */
+DeskMoved desk_put(Desk desk, size_t gap);
+DeskMoved desk_lift(Desk desk, size_t gap);
+DeskMoved desk_take_back(Desk desk);
+
+/* Writes the candidate's barriers as a placement text, as desk_write writes the key. Numbers 10, 9. */
+DeskAnswer desk_sitting(Desk desk, uint8_t *out, size_t length);
+
+/* A desk in use goes over from the kind before sittings: the nest is kept, the sitting is empty, and where there was a
+   key it is worked out anew. `old` has a nest that desk_load accepted, or none (count and many 0) and then no key. */
+Desk desk_go_over(DeskPlain old);
+
+#ifdef __cplusplus
+}
+#endif
+
+#endif

@@ -1,0 +1,2 @@
+-- Laws of the list over bytes.
+pub mod Bytes

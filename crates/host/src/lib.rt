@@ -1,0 +1,209 @@
+// The desk for programs in other languages: each call under its C name, over structs laid out as C lays them out. Most
+// only forward. desk.h beside this folder declares them all.
+ghost use Rattle.desk.specs.Desks.{IsMade, IsMadePlain};
+ghost use Rattle.desk.specs.Says.{EmptySays, LoadSays, PlanSays, CountSays, WriteSays, ListSays, OverSays};
+ghost use Rattle.desk.specs.Says.{markIn, verdictIn};
+ghost use Rattle.screen.specs.Says.{PutSays, LiftSays, BackSays};
+ghost use Rattle.host.specs.Says.{MarkSays, SittingSays};
+ghost use Rattle.host.specs.Marks.{coded, markOut, verdictOut};
+ghost use Rattle.host.specs.Records.{recordsOf};
+ghost use mathlib.Core.Path.{_≡_};
+use desk::Answer;
+use desk::Desk;
+use desk::Marked;
+use desk::PlainDesk;
+use desk::Reply;
+use desk::Verdict;
+use nests::Dependence;
+use screen::Moved;
+
+// Mark's answer in numbers alone: the number and the line of a refusal, or 0 and 0 with the verdict's code. Uncut (0)
+// has a dependence in a; Dearer (1) has a loop in a, their count in b and our count in c; Best is 2. All else is 0.
+#[repr(C)]
+pub struct Mark {
+    pub number: u8,
+    pub line: usize,
+    pub verdict: u8,
+    pub a: usize,
+    pub b: usize,
+    pub c: usize,
+}
+
+// The bytes of a record in a lent list: kind, d, s, t.
+const RECORD: usize = 4;
+
+const UNCUT: u8 = 0;
+
+const DEARER: u8 = 1;
+
+const BEST: u8 = 2;
+
+#[no_mangle]
+pub extern "C" fn desk_new() -> Desk
+    ensures { λ r. ⌜ EmptySays r ⌝ }
+{
+    Desk::empty()
+}
+
+#[no_mangle]
+pub extern "C" fn desk_reset(desk: Desk) -> Desk
+    ensures { λ r. ⌜ EmptySays r ⌝ }
+{
+    desk::reset(desk)
+}
+
+#[no_mangle]
+pub extern "C" fn desk_load(desk: Desk, text: &[u8]) -> Reply
+    ensures { λ r. ⌜ LoadSays desk (now (text .entry)) r ⌝ }
+{
+    desk::load_nest(desk, text)
+}
+
+#[no_mangle]
+pub extern "C" fn desk_plan(desk: Desk) -> Reply
+    requires { ⌜ IsMade desk ⌝ }
+    ensures { λ r. ⌜ PlanSays desk r ⌝ }
+{
+    desk::plan_key(desk)
+}
+
+#[no_mangle]
+pub extern "C" fn desk_count(desk: Desk, point: usize) -> Answer
+    requires { ⌜ IsMade desk ⌝ }
+    ensures { λ r. ⌜ CountSays desk point r ⌝ }
+{
+    desk::loop_count(desk, point)
+}
+
+#[no_mangle]
+pub extern "C" fn desk_mark(desk: Desk, text: &[u8]) -> Mark
+    requires { ⌜ IsMade desk ⌝ }
+    ensures { λ r. ⌜ MarkSays desk (now (text .entry)) r ⌝ }
+{
+    in_numbers(desk::mark_placement(desk, text))
+}
+
+#[no_mangle]
+pub extern "C" fn desk_write(desk: Desk, out: &mut [u8]) -> Answer
+    ensures { λ r. ⌜ WriteSays desk (now (out .entry)) (now (out .exit)) r ⌝ }
+{
+    desk::write_key(desk, out)
+}
+
+// The list over bytes, four a record; what is left over at the end is a record of no kind.
+#[no_mangle]
+pub extern "C" fn desk_list(desk: Desk, list: &[u8]) -> Answer
+    requires { ⌜ IsMade desk ⌝ }
+    ensures { λ r. ⌜ ListSays desk (recordsOf (now (list .entry))) r ⌝ }
+{
+    let mut found = listing::begin(desk);
+    let mut i: usize = 0;
+    let mut at: usize = 0;
+    while RECORD <= list.len() - at {
+        let e = Dependence {
+            kind: list[at],
+            d: list[at + 1],
+            s: list[at + 2],
+            t: list[at + 3],
+        };
+        found = listing::step(desk, found, e, i);
+        i += 1;
+        at += RECORD;
+    }
+    if at < list.len() {
+        let none = Dependence {
+            kind: 0,
+            d: 0,
+            s: 0,
+            t: 0,
+        };
+        return listing::step(desk, found, none, i);
+    }
+    found
+}
+
+#[no_mangle]
+pub extern "C" fn desk_put(desk: Desk, gap: usize) -> Moved
+    requires { ⌜ IsMade desk ⌝ }
+    ensures { λ r. ⌜ PutSays desk gap r ⌝ }
+{
+    screen::put_gap(desk, gap)
+}
+
+#[no_mangle]
+pub extern "C" fn desk_lift(desk: Desk, gap: usize) -> Moved
+    requires { ⌜ IsMade desk ⌝ }
+    ensures { λ r. ⌜ LiftSays desk gap r ⌝ }
+{
+    screen::lift_gap(desk, gap)
+}
+
+#[no_mangle]
+pub extern "C" fn desk_take_back(desk: Desk) -> Moved
+    requires { ⌜ IsMade desk ⌝ }
+    ensures { λ r. ⌜ BackSays desk r ⌝ }
+{
+    screen::take_back(desk)
+}
+
+// Writes the sitting as text, as Write writes the key. Numbers 10, 9.
+#[no_mangle]
+pub extern "C" fn desk_sitting(desk: Desk, out: &mut [u8]) -> Answer
+    ensures { λ r. ⌜ SittingSays desk (now (out .entry)) (now (out .exit)) r ⌝ }
+{
+    let sitting = desk.sitting;
+    let placement = sitting.placement;
+    let mut d = desk;
+    d.planned = true;
+    d.key = placement;
+    desk::write_key(d, out)
+}
+
+#[no_mangle]
+pub extern "C" fn desk_go_over(old: PlainDesk) -> Desk
+    requires { ⌜ IsMadePlain old ⌝ }
+    ensures { λ r. ⌜ OverSays old r ⌝ }
+{
+    desk::go_over(old)
+}
+
+// Mark's answer in numbers.
+fn in_numbers(marked: Marked) -> Mark
+    ensures { λ r. ⌜ r ≡ markOut (markIn marked) ⌝ }
+{
+    match marked {
+        Marked::Refused(fault) => Mark {
+            number: fault.number,
+            line: fault.line,
+            verdict: 0,
+            a: 0,
+            b: 0,
+            c: 0,
+        },
+        Marked::Given(verdict) => given(verdict),
+    }
+}
+
+// A verdict in numbers.
+fn given(verdict: Verdict) -> Mark
+    ensures { λ r. ⌜ r ≡ verdictOut (verdictIn verdict) ⌝ }
+{
+    match verdict {
+        Verdict::Uncut(first) => coded(UNCUT, first, 0, 0),
+        Verdict::Dearer(counts) => coded(DEARER, counts.d, counts.theirs, counts.ours),
+        Verdict::Best => coded(BEST, 0, 0, 0),
+    }
+}
+
+fn coded(verdict: u8, a: usize, b: usize, c: usize) -> Mark
+    ensures { λ r. ⌜ r ≡ coded verdict a b c ⌝ }
+{
+    Mark {
+        number: 0,
+        line: 0,
+        verdict: verdict,
+        a: a,
+        b: b,
+        c: c,
+    }
+}
