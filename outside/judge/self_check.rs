@@ -1,12 +1,18 @@
 //! The judge's self-check: its reading has the cases of document 01, its several ways to one result agree, and every
 //! wrong answer put before it is noticed.
 
-use super::*;
+use crate::desk_check::check_desk;
+use crate::edges::edges;
+use crate::nests::*;
+use crate::order::*;
+use crate::papers::*;
+use crate::program::*;
+use crate::texts::*;
 
-struct Checks { passed: usize, failed: usize }
+pub struct Checks { passed: usize, failed: usize }
 
 impl Checks {
-    fn that(&mut self, what: &str, holds: bool) {
+    pub fn that(&mut self, what: &str, holds: bool) {
         if holds { self.passed += 1 } else { self.failed += 1; println!("does not hold: {what}") }
     }
 }
@@ -14,13 +20,13 @@ impl Checks {
 pub fn self_check() -> bool {
     let mut checks = Checks { passed: 0, failed: 0 };
     for (text, wanted) in edges() {
-        checks.that(&format!("{wanted:?} for {}", shown(&text)), read_nest(&text).err() == wanted);
+        checks.that(&format!("{wanted:?} for {}", shown(&text)), read_input(&text).err() == wanted);
     }
     check_cases(&mut checks);
     check_explained(&mut checks);
     check_wrong_answers(&mut checks);
     check_first(&mut checks);
-    check_sitting(&mut checks);
+    check_desk(&mut checks);
     (0..400).for_each(|case| check_random(&mut checks, &mut Random::new(7, case)));
     finish(checks.passed, checks.failed)
 }
@@ -127,7 +133,8 @@ fn check_first(checks: &mut Checks) {
     }
     let ring = read_nest(&words(either)).unwrap();
     let unknown = |key: &[usize]| judge(&Standard::Accepted(ring.clone(), None), &answer_text(&ring, key)).is_ok();
-    checks.that("noticed without the first key: a barrier that could be earlier", unknown(&[1, 2]) && !unknown(&[1, 3]));
+    let noticed = unknown(&[1, 2]) && !unknown(&[1, 3]);
+    checks.that("noticed without the first key: a barrier that could be earlier", noticed);
 }
 
 /// On random nests: later keys and damaged keys are noticed, and the judge's several ways agree.
@@ -159,33 +166,14 @@ fn check_random(checks: &mut Checks, random: &mut Random) {
     checks.that(&format!("one loop: {}", shown(&ring.text())), search(&ring)[0] == one_loop_first(&ring));
     let (pair, first) = side_by_side(random, SEARCHED);
     checks.that(&format!("side by side: {}", shown(&pair.text())), search(&pair)[0] == first);
+    let (row, first) = side_by_side(random, 60);
+    checks.that(&format!("in parts: {}", shown(&row.text())), first_key(&row) == Some(first));
+    let has = |x: &Dependence| (0..=n).all(|g| nest.has_gap(x, g) == nest.gaps(x).contains(&g));
+    checks.that(&format!("gaps as a list and as a test: {shows}"), nest.dependences.iter().all(has));
 }
 
 /// The same order in 01's other words: "at each loop where T and U have the same counts in all the loops inside it,
 /// at any depth, T's count is at most U's".
 fn as_good_loop_by_loop(nest: &Nest, t: &[usize], u: &[usize]) -> bool {
     nest.loops().iter().all(|&d| t[d + 1..nest.end[d]] != u[d + 1..nest.end[d]] || t[d] <= u[d])
-}
-
-/// P at the screen, by hand: 5 cuts three of the six, 11 the others; then 12, 8, 8, 12, 8; Plan; a Lift, a Put, over.
-fn check_sitting(checks: &mut Checks) {
-    let moves = [
-        (0x30, 5), (0x30, 11), (0x30, 5), (0x30, 0), (0x30, 14),
-        (0x31, 3), (0x31, 255), (0x32, 0), (0x31, 5), (0x30, 3),
-    ];
-    let wanted = "0 0\n0 3\n0 0\n12 0\n8 0\n8 0\n12 0\n8 0\n0 0\n0 3\n0 1\n0 1\n1 1\n2 1\n3 1\n4 1\n5 0\n";
-    checks.that("P at the screen", sittings::replies(&words(P), &moves) == wanted.as_bytes());
-    let over = sittings::replies(&words(P), &[(0x30, 5), (0x33, 0), (0x31, 5)]);
-    checks.that("gone over", over.starts_with(b"0 0\n0 3\n0 6\n12 0\n0 0\n"));
-    let none = sittings::replies(b"02\n", &[(0x30, 0), (0x31, 1), (0x32, 0)]);
-    checks.that("no nest", none == b"4 1\n10 0\n10 0\n10 0\n");
-    let moves = [(0x30, 5), (0x31, 5), (0x30, 0), (0x34, 0), (0x32, 0), (0x34, 0), (0x34, 0)];
-    let back = sittings::replies(&words(P), &moves);
-    checks.that("taken back", back.starts_with(b"0 0\n0 3\n0 6\n8 0\n0 3\n0 3\n0 6\n13 0\n0 0\n"));
-    let turns = (0..65).map(|i| (0x30 + i % 2, 5)).chain([(0x34, 0); 65]).collect::<Vec<_>>();
-    let replies = sittings::replies(&words(P), &turns);
-    let left = replies.ends_with(b"0 6\n0 3\n13 0\n0 1\n1 1\n2 0\n3 0\n4 0\n5 1\n");
-    checks.that("the first of 65 moves forgotten", left);
-    let none = sittings::replies(b"02\n", &[(0x34, 0)]);
-    checks.that("no nest to take back", none == b"4 1\n10 0\n");
 }

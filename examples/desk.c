@@ -1,0 +1,25 @@
+/* Reads a paper, works out its key and marks the placement 3, 9 beside it.
+     gcc -I crates/host examples/desk.c target/staticlib/libhost.a -o target/desk && target/desk examples/p.hex */
+#include "desk.h"
+#include <stdio.h>
+
+int main(int argc, char **argv) {
+    static uint8_t text[8192], key[DESK_TEXT];
+    const uint8_t answer[] = "2103\n2109\n";
+    const char *verdicts[] = {"Uncut", "Dearer", "Best"};
+    FILE *paper = fopen(argc == 2 ? argv[1] : "examples/p.hex", "rb");
+    size_t length = paper ? fread(text, 1, sizeof text, paper) : 0;
+    if (!paper || ferror(paper)) {
+        perror("the paper cannot be read");
+        return 2;
+    }
+    DeskReply loaded = desk_load(desk_new(), text, length);
+    if (loaded.number != 0) {
+        printf("refused: number %d, line %zu\n", loaded.number, loaded.line);
+        return 1;
+    }
+    Desk desk = desk_plan(loaded.desk).desk;
+    printf("%.*s", (int)desk_write(desk, key, sizeof key).value, (char *)key);
+    DeskMark mark = desk_mark(desk, answer, sizeof answer - 1);
+    printf("%s %zu %zu %zu\n", verdicts[mark.verdict], mark.a, mark.b, mark.c);
+}

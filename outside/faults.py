@@ -1,0 +1,139 @@
+#!/usr/bin/env python3
+"""Puts faults into copies of the library, one at a time, and plays the judge's scripts against each copy.
+
+  outside/faults.py [SECONDS [LABEL...]]    SECONDS: how long the scripts run on each copy (default 20)
+
+A copy's sources are the crates' own, with one edit of faults.txt. Nothing is proved of it: contracts are taken off,
+and what is left, which Rust reads as well, is compiled by rustc into a shared library that the judge loads. The copy
+with no edit must pass; every other must be caught by a difference, by a stop or by no answer in time. Needs rustc
+alone. The last line is 'N passed, M failed'.
+"""
+import os
+import pathlib
+import re
+import subprocess
+import sys
+import tempfile
+from dataclasses import dataclass
+
+ROOT = pathlib.Path(__file__).resolve().parent.parent
+RUSTC = ['rustc', '--edition', '2021', '-O', '-A', 'warnings', '-C', 'panic=abort']
+
+
+@dataclass
+class Fault:
+    """An edit: in a file, a text that stands there once, and what takes its place."""
+    label: str
+    file: str
+    old: str
+    new: str
+
+
+def read_faults() -> list[Fault]:
+    """The faults of faults.txt: a line each for label, file, old and new."""
+    lines = (ROOT / 'outside/faults.txt').read_text().splitlines()
+    fields = [line for line in lines if line and not line.startswith('#')]
+    keys = ['fault: ', 'file: ', 'old: ', 'new: ']
+    faults = []
+    for i in range(0, len(fields), 4):
+        if any(not line.startswith(key) for line, key in zip(fields[i:i + 4], keys)):
+            sys.exit(f'faults.txt: four lines {keys} expected from: {fields[i]}')
+        faults.append(Fault(*(line[len(key):] for line, key in zip(fields[i:i + 4], keys))))
+    return faults
+
+
+def crates() -> dict[str, list[str]]:
+    """Each crate that the library is made of, with those it uses, from crates.txt."""
+    rows = re.findall(r'^(\w+):(.*)$', (ROOT / 'crates.txt').read_text(), re.M)
+    uses = {name: words.split() for name, words in rows}
+    wanted, todo = set(), ['host']
+    while todo:
+        name = todo.pop()
+        if name not in wanted:
+            wanted.add(name)
+            todo += uses[name]
+    return {name: uses[name] for name in uses if name in wanted}
+
+
+def without_contracts(source: str) -> str:
+    """What is left for Rust: no ghosts, no contracts; every value may be copied."""
+    source = re.sub(r'(?m)^ghost use .*;\n', '', source)
+    source = re.sub(r'(?m)^( *)(requires|ensures) \{(?:.|\n)*?(?=^\1?(?:requires|ensures) \{|^ *\{\n)', '', source)
+    return re.sub(r'(?m)^(pub )?(struct|enum) ', r'#[derive(Clone, Copy)]\n\1\2 ', source)
+
+
+def library(fault: Fault | None) -> str:
+    """The library as one Rust file, a module for each crate."""
+    text = ['#![allow(improper_ctypes_definitions)]']
+    found = fault is None
+    for name, uses in crates().items():
+        path = f'crates/{name}/src/lib.rt'
+        if not (ROOT / path).exists():
+            continue
+        source = (ROOT / path).read_text()
+        if fault and fault.file == path:
+            if source.count(fault.old) != 1:
+                sys.exit(f'{fault.label}: {fault.old!r} stands {source.count(fault.old)} times in {path}')
+            source, found = source.replace(fault.old, fault.new), True
+        used = ''.join(f'    use crate::{u};\n' for u in uses if (ROOT / f'crates/{u}/src/lib.rt').exists())
+        text.append(f'pub mod {name} {{\n{used}{without_contracts(source)}}}\n')
+    if not found:
+        sys.exit(f'{fault.label}: no crate of the library has {fault.file}')
+    return '\n'.join(text)
+
+
+def build(folder: pathlib.Path, fault: Fault | None) -> str | None:
+    """Compiles a copy into libhost.so; gives what rustc says where it does not compile."""
+    (folder / 'host.rs').write_text(library(fault))
+    command = [*RUSTC, '--crate-type', 'cdylib', '--crate-name', 'host', '-o', folder / 'libhost.so']
+    made = subprocess.run([*command, folder / 'host.rs'], capture_output=True, text=True)
+    return made.stderr if made.returncode else None
+
+
+def verdict(judge: pathlib.Path, folder: pathlib.Path, seconds: int) -> str | None:
+    """How the judge catches the copy, None where it does not."""
+    environment = {**os.environ, 'LD_LIBRARY_PATH': str(folder)}
+    command = [judge, '--scripts', '1', str(seconds)]
+    try:
+        run = subprocess.run(command, env=environment, capture_output=True, text=True, timeout=seconds + 20)
+    except subprocess.TimeoutExpired:
+        return 'no answer in time'
+    if run.returncode == 0:
+        return None
+    difference = [line for line in run.stdout.splitlines() if line.startswith('difference')]
+    if not difference:
+        return f'stopped, status {run.returncode}'
+    after = run.stdout.split('\n\n')[0].splitlines()
+    return f'by {len(after) - 2} calls: {after[-1][:100]}'
+
+
+def main() -> int:
+    seconds = int(sys.argv[1]) if len(sys.argv) > 1 else 20
+    chosen = sys.argv[2:]
+    faults = [None, *read_faults()]
+    passed = failed = 0
+    with tempfile.TemporaryDirectory() as name:
+        work = pathlib.Path(name)
+        judge = work / 'judge'
+        for fault in faults:
+            label = fault.label if fault else 'no fault'
+            if fault and chosen and label not in chosen:
+                continue
+            refused = build(work, fault)
+            if refused:
+                failed += 1
+                print(f'{label}: does not compile\n{refused}')
+                continue
+            if fault is None:
+                sources = ROOT / 'outside/judge/main.rs'
+                subprocess.run([*RUSTC, '-L', work, '-l', 'dylib=host', '-o', judge, sources], check=True)
+            caught = verdict(judge, work, seconds)
+            well = caught is None if fault is None else caught is not None
+            passed, failed = passed + well, failed + (not well)
+            print(f'{label}: {caught or ("nothing differs" if fault is None else "NOT CAUGHT")}', flush=True)
+    print(f'{passed} passed, {failed} failed')
+    return 0 if failed == 0 else 1
+
+
+if __name__ == '__main__':
+    sys.exit(main())

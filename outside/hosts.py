@@ -1,0 +1,106 @@
+#!/usr/bin/env python3
+"""The C boundary from outside: the header beside the archive, and the examples in C, Rust and Python.
+
+  outside/hosts.py    needs target/staticlib/libhost.a (rt staticlib host), gcc, rustc and nm
+
+The last line is 'N passed, M failed', and the status is 0 only if nothing failed.
+"""
+import pathlib
+import re
+import subprocess
+import sys
+import tempfile
+
+ROOT = pathlib.Path(__file__).resolve().parent.parent
+ARCHIVE = ROOT / 'target/staticlib/libhost.a'
+HEADER = ROOT / 'crates/host/desk.h'
+C = ['gcc', '-std=c11', '-Wall', '-Wextra', '-Werror', '-Wno-cast-function-type', '-I', HEADER.parent]
+PAPERS = {
+    'p.hex': (0, '2105\n210b\nUncut 4 0 0\n'),
+    'q.hex': (0, '2102\n2106\nUncut 1 0 0\n'),
+    'faulty.hex': (1, 'refused: number 4, line 2\n'),
+}
+
+
+class Checks:
+    """Counts what holds and says what does not."""
+
+    def __init__(self) -> None:
+        self.passed = self.failed = 0
+
+    def that(self, what: str, holds: bool, shown: str = '') -> None:
+        if holds:
+            self.passed += 1
+        else:
+            self.failed += 1
+            print(f'does not hold: {what}', shown, sep='\n' if shown else '')
+
+
+def run(*command: object) -> tuple[int, str]:
+    """The status of a command and what it wrote, standard error too where it failed."""
+    done = subprocess.run([str(word) for word in command], cwd=ROOT, capture_output=True, text=True)
+    return done.returncode, done.stdout + (done.stderr if done.returncode else '')
+
+
+def check_names(checks: Checks) -> None:
+    """Every function of the archive is in the header, and the other way round."""
+    declared = set(re.findall(r'^\w+ (\w+)\([^;]*\);$', HEADER.read_text(), re.M))
+    status, symbols = run('nm', '--defined-only', '--extern-only', ARCHIVE)
+    exported = set(re.findall(r'^[0-9a-f]+ [A-Z] (\w+)$', symbols, re.M))
+    checks.that('the archive has names', status == 0 and bool(exported), symbols)
+    for name in sorted(declared | exported):
+        checks.that(f'{name} is in the header', name in declared)
+        checks.that(f'{name} is in the archive', name in exported)
+
+
+def check_words(checks: Checks) -> None:
+    """The examples that hand a desk on give it the header's number of words."""
+    words = re.search(r'DESK_WORDS = (\d+)', HEADER.read_text()).group(1)
+    for name, form in {'desk.rs': f'[u64; {words}]', 'desk.py': f'c_uint64 * {words})'}.items():
+        checks.that(f'{name}: a desk of {words} words', form in (ROOT / 'examples' / name).read_text())
+
+
+def check_layout(checks: Checks, work: pathlib.Path) -> None:
+    """Sizes and offsets of every struct, in C."""
+    status, said = run(*C, 'outside/layout.c', ARCHIVE, '-o', work / 'layout')
+    checks.that('layout.c compiles', status == 0, said)
+    if status == 0:
+        status, said = run(work / 'layout')
+        checks.that('layout.c', status == 0 and re.fullmatch(r'\d+ passed, 0 failed\n', said) is not None, said)
+
+
+def check_examples(checks: Checks, work: pathlib.Path) -> None:
+    """The same papers through the three examples."""
+    (work / 'faulty.hex').write_text('01\n')
+    rust = ['rustc', '-D', 'warnings', '-L', ARCHIVE.parent, '-l', 'static=host']
+    whole = ['-Wl,--whole-archive', ARCHIVE, '-Wl,--no-whole-archive']
+    built = {
+        'C': run(*C, 'examples/desk.c', ARCHIVE, '-o', work / 'desk_c'),
+        'Rust': run(*rust, 'examples/desk.rs', '-o', work / 'desk_rust'),
+        'Python': run('gcc', '-shared', '-o', ROOT / 'target/libdesk.so', *whole),
+    }
+    commands = {'C': [work / 'desk_c'], 'Rust': [work / 'desk_rust'], 'Python': [sys.executable, 'examples/desk.py']}
+    for language, (status, said) in built.items():
+        checks.that(f'the example in {language} is built', status == 0, said)
+        for paper, wanted in PAPERS.items() if status == 0 else []:
+            path = work / paper if paper == 'faulty.hex' else ROOT / 'examples' / paper
+            answer = run(*commands[language], path)
+            checks.that(f'{language}, {paper}: {wanted}', answer == wanted, str(answer))
+
+
+def main() -> int:
+    checks = Checks()
+    if ARCHIVE.exists():
+        with tempfile.TemporaryDirectory() as name:
+            check_names(checks)
+            check_words(checks)
+            check_layout(checks, pathlib.Path(name))
+            check_examples(checks, pathlib.Path(name))
+    else:
+        checks.that(f'{ARCHIVE} is there: rt staticlib host builds it', False)
+    print(f'{checks.passed} passed, {checks.failed} failed')
+    return 0 if checks.failed == 0 else 1
+
+
+if __name__ == '__main__':
+    sys.exit(main())

@@ -1,0 +1,77 @@
+//! The library's structs and calls, as crates/host/desk.h declares them. A C bool is a byte here, so that none is
+//! trusted to be 0 or 1.
+
+pub const WORDS: usize = 4;
+pub const KEPT: usize = 64;
+
+#[repr(C)]
+#[derive(Clone, Copy, PartialEq)]
+pub struct Dependence { pub kind: u8, pub d: u8, pub s: u8, pub t: u8 }
+
+#[repr(C)]
+#[derive(Clone, Copy, PartialEq)]
+pub struct Nest { pub count: usize, pub points: [u8; 256], pub many: usize, pub deps: [Dependence; 512] }
+
+#[repr(C)]
+#[derive(Clone, Copy, PartialEq)]
+pub struct Placement { pub words: [u64; WORDS] }
+
+#[repr(C)]
+#[derive(Clone, Copy, PartialEq)]
+pub struct Sitting { pub placement: Placement, pub counts: [u8; 512], pub uncut: usize }
+
+#[repr(C)]
+#[derive(Clone, Copy, PartialEq)]
+pub struct Move { pub gap: u8, pub put: u8 }
+
+#[repr(C)]
+#[derive(Clone, Copy, PartialEq)]
+pub struct Moves { pub ring: [Move; KEPT], pub head: usize, pub many: usize }
+
+#[repr(C)]
+#[derive(Clone, Copy, PartialEq)]
+pub struct Desk {
+    pub loaded: u8,
+    pub nest: Nest,
+    pub planned: u8,
+    pub key: Placement,
+    pub sitting: Sitting,
+    pub moves: Moves,
+}
+
+#[repr(C)]
+#[derive(Clone, Copy)]
+pub struct PlainDesk { pub loaded: u8, pub nest: Nest, pub planned: u8, pub key: Placement }
+
+#[repr(C)]
+pub struct Reply { pub number: u8, pub line: usize, pub desk: Desk }
+
+#[repr(C)]
+pub struct Answer { pub number: u8, pub line: usize, pub value: usize }
+
+#[repr(C)]
+pub struct Moved { pub number: u8, pub line: usize, pub uncut: usize, pub desk: Desk }
+
+#[repr(C)]
+pub struct Mark { pub number: u8, pub line: usize, pub verdict: u8, pub a: usize, pub b: usize, pub c: usize }
+
+extern "C" {
+    pub fn desk_new() -> Desk;
+    pub fn desk_reset(desk: Desk) -> Desk;
+    pub fn desk_load(desk: Desk, text: *const u8, length: usize) -> Reply;
+    pub fn desk_plan(desk: Desk) -> Reply;
+    pub fn desk_count(desk: Desk, point: usize) -> Answer;
+    pub fn desk_mark(desk: Desk, text: *const u8, length: usize) -> Mark;
+    pub fn desk_write(desk: Desk, out: *mut u8, length: usize) -> Answer;
+    pub fn desk_list(desk: Desk, list: *const u8, length: usize) -> Answer;
+    pub fn desk_put(desk: Desk, gap: usize) -> Moved;
+    pub fn desk_lift(desk: Desk, gap: usize) -> Moved;
+    pub fn desk_take_back(desk: Desk) -> Moved;
+    pub fn desk_sitting(desk: Desk, out: *mut u8, length: usize) -> Answer;
+    pub fn desk_go_over(old: PlainDesk) -> Desk;
+}
+
+/// The gaps of four words, rising.
+pub fn gaps_of(placement: &Placement) -> Vec<usize> {
+    (0..64 * WORDS).filter(|g| placement.words[g / 64] >> (g % 64) & 1 == 1).collect()
+}

@@ -1,0 +1,149 @@
+/* The header beside the archive: sizes and offsets of every struct, and that the archive writes each struct that it
+   gives to its last byte and no further. Every field is then read once after a call that sets it.
+     gcc -std=c11 -I crates/host outside/layout.c target/staticlib/libhost.a -o target/layout && target/layout */
+#include "desk.h"
+#include <stdio.h>
+#include <string.h>
+
+#define AT(type, field, offset, size)                                                                                 \
+    _Static_assert(offsetof(type, field) == offset && sizeof(((type *)0)->field) == size, #type "." #field)
+#define SIZE(type, size) _Static_assert(sizeof(type) == size && _Alignof(type) <= 8, #type)
+
+SIZE(DeskDependence, 4);
+AT(DeskDependence, kind, 0, 1);
+AT(DeskDependence, d, 1, 1);
+AT(DeskDependence, s, 2, 1);
+AT(DeskDependence, t, 3, 1);
+SIZE(DeskNest, 2320);
+AT(DeskNest, count, 0, 8);
+AT(DeskNest, points, 8, 256);
+AT(DeskNest, many, 264, 8);
+AT(DeskNest, deps, 272, 2048);
+SIZE(DeskPlacement, 32);
+AT(DeskPlacement, words, 0, 32);
+SIZE(DeskSitting, 552);
+AT(DeskSitting, placement, 0, 32);
+AT(DeskSitting, counts, 32, 512);
+AT(DeskSitting, uncut, 544, 8);
+SIZE(DeskMove, 2);
+AT(DeskMove, gap, 0, 1);
+AT(DeskMove, put, 1, 1);
+SIZE(DeskMoves, 144);
+AT(DeskMoves, ring, 0, 128);
+AT(DeskMoves, head, 128, 8);
+AT(DeskMoves, many, 136, 8);
+SIZE(Desk, 8 * DESK_WORDS);
+AT(Desk, loaded, 0, 1);
+AT(Desk, nest, 8, 2320);
+AT(Desk, planned, 2328, 1);
+AT(Desk, key, 2336, 32);
+AT(Desk, sitting, 2368, 552);
+AT(Desk, moves, 2920, 144);
+SIZE(DeskPlain, 8 * DESK_PLAIN_WORDS);
+AT(DeskPlain, loaded, 0, 1);
+AT(DeskPlain, nest, 8, 2320);
+AT(DeskPlain, planned, 2328, 1);
+AT(DeskPlain, key, 2336, 32);
+SIZE(DeskReply, 3080);
+AT(DeskReply, number, 0, 1);
+AT(DeskReply, line, 8, 8);
+AT(DeskReply, desk, 16, 3064);
+SIZE(DeskAnswer, 24);
+AT(DeskAnswer, number, 0, 1);
+AT(DeskAnswer, line, 8, 8);
+AT(DeskAnswer, value, 16, 8);
+SIZE(DeskMoved, 3088);
+AT(DeskMoved, number, 0, 1);
+AT(DeskMoved, line, 8, 8);
+AT(DeskMoved, uncut, 16, 8);
+AT(DeskMoved, desk, 24, 3064);
+SIZE(DeskMark, 48);
+AT(DeskMark, number, 0, 1);
+AT(DeskMark, line, 8, 8);
+AT(DeskMark, verdict, 16, 1);
+AT(DeskMark, a, 24, 8);
+AT(DeskMark, b, 32, 8);
+AT(DeskMark, c, 40, 8);
+
+static int passed, failed;
+
+static void that(const char *what, bool holds) {
+    if (holds) {
+        passed++;
+    } else {
+        failed++;
+        printf("does not hold: %s\n", what);
+    }
+}
+
+/* A struct of more than 16 bytes is given through a pointer, the first argument. Called so, with other bytes in the
+   room each time, the archive must set the struct's last byte and leave the byte behind it. */
+static uint8_t room[4096];
+
+static void given(const char *what, size_t size, uint8_t filled) {
+    that(what, room[size - 1] != filled && room[size] == filled && room[sizeof room - 1] == filled);
+}
+
+#define GIVES(type, call, size, ...)                                                                                  \
+    for (int fill = 0xa5; fill <= 0xa6; fill++) {                                                                     \
+        type *into = (type *)call;                                                                                    \
+        memset(room, fill, sizeof room);                                                                              \
+        into(__VA_ARGS__);                                                                                            \
+        given(#call, size, (uint8_t)fill);                                                                            \
+    }
+
+static const uint8_t P[] = "01\n01\n03\n03\n03\n03\n02\n01\n03\n03\n03\n03\n02\n02\n"
+                           "110205\n12010403\n11080b\n12070a09\n12000a02\n110409\n";
+
+typedef void *Fresh(void *);
+typedef void *OnDesk(void *, Desk);
+typedef void *OnText(void *, Desk, const uint8_t *, size_t);
+typedef void *OnNumber(void *, Desk, size_t);
+typedef void *OnPlain(void *, DeskPlain);
+
+static void sizes(Desk desk, DeskPlain plain) {
+    GIVES(Fresh, desk_new, sizeof(Desk), room);
+    GIVES(OnDesk, desk_reset, sizeof(Desk), room, desk);
+    GIVES(OnText, desk_load, sizeof(DeskReply), room, desk, P, sizeof P - 1);
+    GIVES(OnDesk, desk_plan, sizeof(DeskReply), room, desk);
+    GIVES(OnNumber, desk_count, sizeof(DeskAnswer), room, desk, 0);
+    GIVES(OnText, desk_mark, sizeof(DeskMark), room, desk, P, 0);
+    GIVES(OnText, desk_list, sizeof(DeskAnswer), room, desk, P, 0);
+    GIVES(OnNumber, desk_put, sizeof(DeskMoved), room, desk, 5);
+    GIVES(OnNumber, desk_lift, sizeof(DeskMoved), room, desk, 5);
+    GIVES(OnDesk, desk_take_back, sizeof(DeskMoved), room, desk);
+    GIVES(OnPlain, desk_go_over, sizeof(Desk), room, plain);
+}
+
+static void fields(Desk desk) {
+    DeskDependence last = desk.nest.deps[5];
+    that("loaded, not planned", desk.loaded && !desk.planned);
+    that("points", desk.nest.count == 14 && desk.nest.points[0] == DESK_DO && desk.nest.points[13] == DESK_ENDDO);
+    that("dependences", desk.nest.many == 6 && last.kind == DESK_INDEPENDENT && last.d == 0);
+    that("source and target", last.s == 4 && last.t == 9);
+    desk = desk_plan(desk).desk;
+    that("planned, key", desk.planned && desk.key.words[0] == (1u << 5 | 1u << 11) && desk.key.words[3] == 0);
+    DeskMoved moved = desk_put(desk, 5);
+    desk = moved.desk;
+    that("uncut", moved.number == 0 && moved.uncut == 3 && desk.sitting.uncut == 3);
+    that("sitting", desk.sitting.placement.words[0] == 1u << 5);
+    that("counts", desk.sitting.counts[0] == 1 && desk.sitting.counts[2] == 0);
+    DeskMove latest = desk.moves.ring[desk.moves.head];
+    that("moves", desk.moves.many == 1 && latest.gap == 5 && latest.put);
+    DeskMark mark = desk_mark(desk, (const uint8_t *)"2105\n210a\n210b\n", 15);
+    that("Dearer", mark.number == 0 && mark.verdict == DESK_DEARER && mark.a == 7 && mark.b == 2 && mark.c == 1);
+    DeskReply refused = desk_load(desk, (const uint8_t *)"01\n", 3);
+    that("refused", refused.number == 4 && refused.line == 2);
+    that("nest kept", memcmp(&refused.desk.nest, &desk.nest, sizeof desk.nest) == 0);
+    DeskAnswer listed = desk_list(desk, (const uint8_t[]){DESK_INDEPENDENT, 0, 2, 5, DESK_CARRIED}, 5);
+    that("list", listed.number == 2 && listed.line == 2 && listed.value == 0);
+}
+
+int main(void) {
+    Desk desk = desk_load(desk_new(), P, sizeof P - 1).desk;
+    DeskPlain plain = {.loaded = true, .nest = desk.nest, .planned = true};
+    sizes(desk, plain);
+    fields(desk);
+    printf("%d passed, %d failed\n", passed, failed);
+    return failed != 0;
+}
