@@ -1,4 +1,4 @@
-/* Reads a paper, works out its key and marks the placement 3, 9 beside it.
+/* Reads a paper, works out its key, marks the placement 3, 9 beside it, and puts a barrier at gap 5 of a sitting.
      gcc -I crates/host examples/desk.c target/staticlib/libhost.a -o target/desk && target/desk examples/p.hex */
 #include "desk.h"
 #include <stdio.h>
@@ -9,8 +9,8 @@ int main(int argc, char **argv) {
     const char *verdicts[] = {"Uncut", "Dearer", "Best"};
     FILE *paper = fopen(argc == 2 ? argv[1] : "examples/p.hex", "rb");
     size_t length = paper ? fread(text, 1, sizeof text, paper) : 0;
-    if (!paper || ferror(paper)) {
-        perror("the paper cannot be read");
+    if (!paper || !feof(paper)) {
+        fprintf(stderr, "the paper cannot be read, or is too long\n");
         return 2;
     }
     DeskReply loaded = desk_load(desk_new(), text, length);
@@ -22,4 +22,5 @@ int main(int argc, char **argv) {
     printf("%.*s", (int)desk_write(desk, key, sizeof key).value, (char *)key);
     DeskMark mark = desk_mark(desk, answer, sizeof answer - 1);
     printf("%s %zu %zu %zu\n", verdicts[mark.verdict], mark.a, mark.b, mark.c);
+    printf("gap 5 put: %zu uncut\n", desk_put(desk, 5).uncut);
 }

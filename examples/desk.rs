@@ -1,9 +1,10 @@
-//! Reads a paper, works out its key and marks the placement 3, 9 beside it.
+//! Reads a paper, works out its key, marks the placement 3, 9 beside it, and puts a barrier at gap 5 of a sitting.
 //!   rustc -L target/staticlib -l static=host examples/desk.rs -o target/desk && target/desk examples/p.hex
 
 #[repr(C)] #[derive(Clone, Copy)] struct Desk { words: [u64; 383] } // DESK_WORDS of desk.h: handed on, never opened
 #[repr(C)] struct Reply { number: u8, line: usize, desk: Desk }
 #[repr(C)] struct Answer { number: u8, line: usize, value: usize }
+#[repr(C)] struct Moved { number: u8, line: usize, uncut: usize, desk: Desk }
 #[repr(C)] struct Mark { number: u8, line: usize, verdict: u8, a: usize, b: usize, c: usize }
 
 extern "C" {
@@ -12,6 +13,7 @@ extern "C" {
     fn desk_plan(desk: Desk) -> Reply;
     fn desk_write(desk: Desk, out: *mut u8, length: usize) -> Answer;
     fn desk_mark(desk: Desk, text: *const u8, length: usize) -> Mark;
+    fn desk_put(desk: Desk, gap: usize) -> Moved;
 }
 
 fn main() {
@@ -28,4 +30,5 @@ fn main() {
     print!("{}", String::from_utf8_lossy(&key[..written.value]));
     let mark = unsafe { desk_mark(desk, answer.as_ptr(), answer.len()) };
     println!("{} {} {} {}", ["Uncut", "Dearer", "Best"][mark.verdict as usize], mark.a, mark.b, mark.c);
+    println!("gap 5 put: {} uncut", unsafe { desk_put(desk, 5) }.uncut);
 }

@@ -16,8 +16,8 @@ ARCHIVE = ROOT / 'target/staticlib/libhost.a'
 HEADER = ROOT / 'crates/host/desk.h'
 C = ['gcc', '-std=c11', '-Wall', '-Wextra', '-Werror', '-Wno-cast-function-type', '-I', HEADER.parent]
 PAPERS = {
-    'p.hex': (0, '2105\n210b\nUncut 4 0 0\n'),
-    'q.hex': (0, '2102\n2106\nUncut 1 0 0\n'),
+    'p.hex': (0, '2105\n210b\nUncut 4 0 0\ngap 5 put: 3 uncut\n'),
+    'q.hex': (0, '2102\n2106\nUncut 1 0 0\ngap 5 put: 1 uncut\n'),
     'faulty.hex': (1, 'refused: number 4, line 2\n'),
 }
 
@@ -86,6 +86,8 @@ def check_examples(checks: Checks, work: pathlib.Path) -> None:
             path = work / paper if paper == 'faulty.hex' else ROOT / 'examples' / paper
             answer = run(*commands[language], path)
             checks.that(f'{language}, {paper}: {wanted}', answer == wanted, str(answer))
+        if status == 0:
+            checks.that(f'{language}: no paper', run(*commands[language], work / 'none.hex')[0] != 0)
 
 
 def main() -> int:
