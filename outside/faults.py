@@ -20,6 +20,10 @@ ROOT = pathlib.Path(__file__).resolve().parent.parent
 RUSTC = ['rustc', '--edition', '2021', '-O', '-A', 'warnings', '-C', 'panic=abort']
 
 
+class Unusable(Exception):
+    """An edit that does not fit the sources, or sources that do not compile."""
+
+
 @dataclass
 class Fault:
     """An edit: in a file, a text that stands there once, and what takes its place."""
@@ -37,7 +41,7 @@ def read_faults() -> list[Fault]:
     faults = []
     for i in range(0, len(fields), 4):
         if any(not line.startswith(key) for line, key in zip(fields[i:i + 4], keys)):
-            sys.exit(f'faults.txt: four lines {keys} expected from: {fields[i]}')
+            raise Unusable(f'faults.txt: four lines {keys} expected from: {fields[i]}')
         faults.append(Fault(*(line[len(key):] for line, key in zip(fields[i:i + 4], keys))))
     return faults
 
@@ -73,21 +77,25 @@ def library(fault: Fault | None) -> str:
         source = (ROOT / path).read_text()
         if fault and fault.file == path:
             if source.count(fault.old) != 1:
-                sys.exit(f'{fault.label}: {fault.old!r} stands {source.count(fault.old)} times in {path}')
+                raise Unusable(f'{fault.old!r} stands {source.count(fault.old)} times in {path}')
             source, found = source.replace(fault.old, fault.new), True
         used = ''.join(f'    use crate::{u};\n' for u in uses if (ROOT / f'crates/{u}/src/lib.rt').exists())
         text.append(f'pub mod {name} {{\n{used}{without_contracts(source)}}}\n')
     if not found:
-        sys.exit(f'{fault.label}: no crate of the library has {fault.file}')
+        raise Unusable(f'no crate of the library has {fault.file}')
     return '\n'.join(text)
 
 
-def build(folder: pathlib.Path, fault: Fault | None) -> str | None:
-    """Compiles a copy into libhost.so; gives what rustc says where it does not compile."""
+def compile_rust(*words: object) -> None:
+    made = subprocess.run([*RUSTC, *words], capture_output=True, text=True)
+    if made.returncode:
+        raise Unusable(f'it does not compile\n{made.stderr}')
+
+
+def build(folder: pathlib.Path, fault: Fault | None) -> None:
+    """Compiles a copy into libhost.so."""
     (folder / 'host.rs').write_text(library(fault))
-    command = [*RUSTC, '--crate-type', 'cdylib', '--crate-name', 'host', '-o', folder / 'libhost.so']
-    made = subprocess.run([*command, folder / 'host.rs'], capture_output=True, text=True)
-    return made.stderr if made.returncode else None
+    compile_rust('--crate-type', 'cdylib', '--crate-name', 'host', '-o', folder / 'libhost.so', folder / 'host.rs')
 
 
 def verdict(judge: pathlib.Path, folder: pathlib.Path, seconds: int) -> str | None:
@@ -107,30 +115,29 @@ def verdict(judge: pathlib.Path, folder: pathlib.Path, seconds: int) -> str | No
     return f'by {len(after) - 2} calls: {after[-1][:100]}'
 
 
+def outcome(work: pathlib.Path, fault: Fault | None, seconds: int) -> tuple[bool, str]:
+    """Whether a copy is judged as it must be, and how."""
+    try:
+        build(work, fault)
+        if fault is None:
+            compile_rust('-L', work, '-l', 'dylib=host', '-o', work / 'judge', ROOT / 'outside/judge/main.rs')
+    except Unusable as reason:
+        return False, str(reason)
+    caught = verdict(work / 'judge', work, seconds)
+    if fault is None:
+        return caught is None, caught or 'nothing differs'
+    return caught is not None, caught or 'NOT CAUGHT'
+
+
 def main() -> int:
     seconds = int(sys.argv[1]) if len(sys.argv) > 1 else 20
     chosen = sys.argv[2:]
-    faults = [None, *read_faults()]
     passed = failed = 0
     with tempfile.TemporaryDirectory() as name:
-        work = pathlib.Path(name)
-        judge = work / 'judge'
-        for fault in faults:
-            label = fault.label if fault else 'no fault'
-            if fault and chosen and label not in chosen:
-                continue
-            refused = build(work, fault)
-            if refused:
-                failed += 1
-                print(f'{label}: does not compile\n{refused}')
-                continue
-            if fault is None:
-                sources = ROOT / 'outside/judge/main.rs'
-                subprocess.run([*RUSTC, '-L', work, '-l', 'dylib=host', '-o', judge, sources], check=True)
-            caught = verdict(judge, work, seconds)
-            well = caught is None if fault is None else caught is not None
+        for fault in [None, *(f for f in read_faults() if not chosen or f.label in chosen)]:
+            well, how = outcome(pathlib.Path(name), fault, seconds)
             passed, failed = passed + well, failed + (not well)
-            print(f'{label}: {caught or ("nothing differs" if fault is None else "NOT CAUGHT")}', flush=True)
+            print(f'{fault.label if fault else "no fault"}: {how}', flush=True)
     print(f'{passed} passed, {failed} failed')
     return 0 if failed == 0 else 1
 

@@ -7,6 +7,7 @@ The last line is 'N passed, M failed', and the status is 0 only if nothing faile
 """
 import pathlib
 import re
+import resource
 import subprocess
 import sys
 import tempfile
@@ -15,6 +16,7 @@ ROOT = pathlib.Path(__file__).resolve().parent.parent
 ARCHIVE = ROOT / 'target/staticlib/libhost.a'
 HEADER = ROOT / 'crates/host/desk.h'
 C = ['gcc', '-std=c11', '-Wall', '-Wextra', '-Werror', '-Wno-cast-function-type', '-I', HEADER.parent]
+STACK = 160 * 1024  # what desk.h says
 PAPERS = {
     'p.hex': (0, '2105\n210b\nUncut 4 0 0\ngap 5 put: 3 uncut\n'),
     'q.hex': (0, '2102\n2106\nUncut 1 0 0\ngap 5 put: 1 uncut\n'),
@@ -90,6 +92,17 @@ def check_examples(checks: Checks, work: pathlib.Path) -> None:
             checks.that(f'{language}: no paper', run(*commands[language], work / 'none.hex')[0] != 0)
 
 
+def check_stack(checks: Checks, work: pathlib.Path) -> None:
+    """Full-size papers with no more stack than the header asks for."""
+    def narrow() -> None:
+        resource.setrlimit(resource.RLIMIT_STACK, (STACK, STACK))
+
+    for kind in ('deep', 'one', 'pairs'):
+        (work / 'paper.hex').write_text(run(sys.executable, 'outside/papers.py', kind, 256)[1])
+        done = subprocess.run([work / 'desk_c', work / 'paper.hex'], env={}, preexec_fn=narrow, capture_output=True)
+        checks.that(f'{kind} with {STACK} bytes of stack', done.returncode == 0 and done.stdout.startswith(b'21'))
+
+
 def main() -> int:
     checks = Checks()
     if ARCHIVE.exists():
@@ -98,6 +111,8 @@ def main() -> int:
             check_words(checks)
             check_layout(checks, pathlib.Path(name))
             check_examples(checks, pathlib.Path(name))
+            if (pathlib.Path(name) / 'desk_c').exists():
+                check_stack(checks, pathlib.Path(name))
     else:
         checks.that(f'{ARCHIVE} is there: rt staticlib host builds it', False)
     print(f'{checks.passed} passed, {checks.failed} failed')

@@ -21,8 +21,10 @@
     12   Put of a gap that is there, Lift of one that is not
     13   no move to take back
 
-   A text or a buffer is lent as a pointer and a length in bytes. The library is for x86-64 and links against memcpy and
-   memset alone:  gcc -I crates/host host.c target/staticlib/libhost.a  */
+   A text or a buffer is lent as a pointer and a length in bytes. A thread with a stack of 160 KiB has room for every
+   call. The library is for x86-64, and links against memcpy and memset alone:
+
+     gcc -I crates/host host.c target/staticlib/libhost.a  */
 #ifndef DESK_H
 #define DESK_H
 

@@ -215,7 +215,7 @@ fn record(random: &mut Random, desk: &Desk, any: bool) -> [u8; 4] {
 
 // ---- Comparing
 
-/// Plays the script of a number until a difference; gives the calls made and what differed.
+/// Plays the script of a number; where there is a difference, gives the calls up to it.
 fn play_script(seed: u64, script: usize, edges: &[Vec<u8>], tally: &mut BTreeMap<String, usize>) -> Option<Vec<Call>> {
     let random = &mut Random::new(seed, script);
     let (mut pair, mut made) = (Pair::new(), Vec::new());
