@@ -13,7 +13,7 @@ What is checked:
   - papers are shown one frame a line and the program reads them; examples print what is shown;
   - a fault put into a copy of the documents is noticed.
 
-Needs target/bin/key and target/bin/seat, which `rt ci` builds.
+Needs target/bin/key, which `rt ci` builds.
 """
 import pathlib, re, subprocess, sys
 from typing import Iterator, NamedTuple
@@ -259,7 +259,7 @@ FAULTS = [
     ('README.md', '(docs/WHY.md)', '(docs/WHAT.md)'),
     ('README.md', '`./draw ', '`./drawn '),
     ('README.md', '`put_gap(', '`put_gaps('),
-    ('README.md', '`take_back(desk)`', 'Take back'),
+    ('README.md', '`lift_gap(desk, gap)`', 'Take back'),
     ('docs/CONTRIBUTING.md', '`rt must-fail lines`', '`rt must-fail line`'),
     ('docs/CONTRIBUTING.md', 'outside/repository.py', 'outside/repositories.py'),
     ('README.md', '$ ./key examples/p.hex', '$ ./key example/p.hex'),

@@ -5,7 +5,7 @@ ROOT = pathlib.Path(__file__).resolve().parent.parent
 CRATES = ROOT / 'crates'
 
 # The crates whose public functions are calls, and the statement that joins them.
-CALLS = ['desk', 'screen', 'listing', 'answers']
+CALLS = ['desk', 'screen', 'listing', 'host', 'answers']
 STATEMENTS = ['desk/specs/Since']
 # Specs that no reader needs: `key-first` and `first-only` say which placement the key is, whatever the planner does.
 UNREAD = 'planner/specs/'
@@ -19,7 +19,7 @@ def crates() -> list[str]:
 
 MODIFIERS = r'^[ \t]*(?:(?:abbrev|unfoldable)[ \t]+)*(pub[ \t]+)?'
 ANTT = [MODIFIERS + r'([^\s:(){};,]+)[ \t]*(?:\n[ \t]+)?:\s', MODIFIERS + r'(?:record|data)[ \t]+([^\s:(){};,]+)']
-CODE = [r'^[ \t]*(pub[ \t]+)?(?:fn|struct|enum|const)[ \t]+(\w+)', r'^[ \t]*(pub[ \t]+)?(\w+):',
+CODE = [r'^[ \t]*(pub[ \t]+)?(?:extern "C" )?(?:fn|struct|enum|const)[ \t]+(\w+)', r'^[ \t]*(pub[ \t]+)?(\w+):',
         r'^[ \t]*()([A-Z]\w*)(?:\(\w+\))?,$', r'^[ \t]*()let (?:mut )?(\w+)']
 
 
@@ -72,7 +72,7 @@ def specs_used(path: pathlib.Path) -> list[str]:
 def contracts(crate: str) -> list[tuple[str, str]]:
     """The public functions of a crate that have a contract, each with it."""
     text = (CRATES / crate / 'src/lib.rt').read_text()
-    return re.findall(r'^ *pub fn (\w+)[^{]*?\)[^{]*?\n((?: *(?:requires|ensures) .*\n)+)', text, re.M)
+    return re.findall(r'^ *pub (?:extern "C" )?fn (\w+)[^{]*?\)[^{]*?\n((?: *(?:requires|ensures) .*\n)+)', text, re.M)
 
 
 def calls() -> list[str]:
