@@ -1,30 +1,53 @@
--- 01, "What the contracts must say", c, and "Plausible planners that fail": planners that demand 3 excludes, each by a
--- paper of which its answer is no key. What fails by one comparison is computed in crate placements (Planners); the
--- rest follows from the counts that all keys of a paper have.
--- Main definitions: `FillsOuter`, `Excluded`. Main statement: `excluded`.
-use mathlib.Core.Path.{_≡_, refl, sym, ap}
-use mathlib.Core.Bool.{true}
+-- 01, "What the contracts must say", c, and "Plausible planners that fail": no planner of these rules (Planners) keeps
+-- demand 3. Each is refuted by a paper of which its answer is no key: all keys of a paper have the same counts and as
+-- many gaps (KeyCases), and the answer has others, or leaves a dependence uncut.
+-- Main definitions: `Refuted`, `Excluded`. Main statement: `excluded`.
+use mathlib.Core.Path.{_≡_, refl, sym, _∙_, ap}
+use mathlib.Core.Bool.{Bool, true, false, _&&_, not}
 use mathlib.Core.List.{List, [], _∷_}
 use mathlib.Core.Logic.{_⊎_, inl, inr, ⊎-elim}
 use Prim.Native.Nat.{ℕ, _<_}
 use native.Mathlib.Omega.{arith}
 use lib.Dec.{eqb}
 use lib.ListN.{length}
-use borrow.Author.Tests.{eq-eqb}
+use borrow.Author.Tests.{eq-eqb, not-true}
 use Rattle.laws.specs.Choice.{when, isIn}
-use Rattle.laws.proofs.Tests.{never}
-use Rattle.laws.proofs.Members.{in-cons}
+use Rattle.laws.proofs.Tests.{never, never-both, and-intro}
+use Rattle.laws.proofs.Members.{in-cons, everyBelow, every-below}
 use Rattle.nests.specs.Nests.{Nest}
 use Rattle.nests.specs.Loops.{ownerOf}
-use Rattle.nests.specs.Valid.{isValid}
-use Rattle.nests.proofs.Cases.{paper-P, paper-Q, paper-R, paper-ring, paper-inner}
+use Rattle.nests.proofs.Cases.{paper-P, paper-R, paper-turn, paper-bare, paper-ring, paper-inner, paper-door}
 use Rattle.placements.specs.Placements.{isCorrect, loopCount}
-use Rattle.placements.specs.Keys.{IsKey}
-use Rattle.placements.proofs.Planners.{Plans, everyGap, every-gap-fails, empty-key-fails, fixed-key-fails}
-use Rattle.placements.proofs.Planners.{greedy-ring-fails, totals-fail}
+use Rattle.placements.specs.Words.{gapsOf}
+use Rattle.placements.proofs.Cuts.{correct-gaps}
+use Rattle.placements.proofs.Rising.{rises}
 use Rattle.keys.specs.KeyOf.{keyOf}
+use Rattle.keys.specs.ListOrder.{firstInOrder}
 use Rattle.keys.proofs.KeyIsKey.{key-is-key}
-use Rattle.keys.proofs.KeyCases.{P-key, R-key, inner-key}
+use Rattle.keys.proofs.KeyCases.{computed-keys, paper-P-inner, P-key, R-key, bare-key, ring-key, inner-key}
+use Rattle.keys.proofs.KeyCases.{door-key}
+use Rattle.keys.proofs.ListOrder.{order-numbers}
+use Rattle.keys.proofs.Cheapest.{cheapest}
+use Rattle.keys.proofs.Planners.{Planner, Plans, everyGap, FillsOuter, fillOuter, fills-outer}
+use Rattle.keys.proofs.Planners.{SolvesAlone, solveAlone, solves-alone, greedyRing, CutsGreedily}
+use Rattle.keys.proofs.Planners.{Compares, compares, inAll, countsInside, JoinsPairs, joinPairs, joins-pairs}
+
+-- a barrier in every gap: 13 on P, where a key has two
+every-gap-size : length (everyGap paper-P) ≡ 13
+unfolding gapsOf
+every-gap-size = refl
+
+every-gap-fails : Plans everyGap → ⊥
+every-gap-fails keeps = omega (arith, every-gap-size, P-key .all-sizes (everyGap paper-P) (keeps paper-P refl))
+
+-- no barrier at all: not correct where a loop carries a dependence
+empty-key-fails : Plans (λ n. []) → ⊥
+empty-key-fails keeps = never (keeps paper-turn refl .correct)
+
+-- any fixed key: the bare paper leaves only the empty one
+fixed-key-fails : (gs : List ℕ) → Plans (λ n. gs) → ⊥
+fixed-key-fails [] keeps = empty-key-fails keeps
+fixed-key-fails (g ∷ gs) keeps = omega (arith, bare-key .all-sizes (g ∷ gs) (keeps paper-bare refl))
 
 -- a gap counts at its loop
 held-counts : (n : Nest) (gs : List ℕ) (g : ℕ) → isIn g gs ≡ true → 0 < loopCount n gs (ownerOf (n .points) g)
@@ -41,18 +64,8 @@ held-counts n (x ∷ xs) g h =
     first : g ≡ x → when (eqb (own x) (own g)) 1 ≡ 1
     first z = rw (eq-eqb (own x) (own g) (ap own (sym z)))
 
--- a planner that puts a barrier in every gap of the outermost loop, whatever it does inside
-abbrev pub FillsOuter : (Nest → List ℕ) → Type 0
-FillsOuter plan =
-    (n : Nest) (g : ℕ) →
-    isValid n ≡ true →
-    0 < g →
-    g < length (n .points) →
-    ownerOf (n .points) g ≡ 0 →
-    isIn g (plan n) ≡ true
-
--- on `01 01 03 02 02` with `12010202`: no key has a gap in loop 0
-outer-filled-fails : (plan : Nest → List ℕ) → FillsOuter plan → Plans plan → ⊥
+-- the whole outer loop filled, on 01 01 03 02 02 with 12010202: no key has a gap in loop 0
+outer-filled-fails : (plan : Planner) → FillsOuter plan → Plans plan → ⊥
 outer-filled-fails plan fills keeps =
     let gs = plan paper-inner in
     let c : loopCount paper-inner gs 0 ∷ loopCount paper-inner gs 1 ∷ [] ≡ 0 ∷ 1 ∷ [] =
@@ -81,29 +94,92 @@ three-and-nine (a ∷ (b ∷ [])) l p q c = go (member 3 p) (member 9 q)
     go (inr x) (inl y) = never (rw (← x, ← y) at c)
     go (inr x) (inr y) = omega arith
 
-inner-first-fails : (gs : List ℕ) → isIn 3 gs ≡ true → isIn 9 gs ≡ true → IsKey paper-P gs → ⊥
-inner-first-fails gs p q k = three-and-nine gs (P-key .all-sizes gs k) p q (k .correct)
+-- each inner loop by itself: P gets 3 and 9, since gap 2 is the first key of loops 1 and 7 by themselves
+alone-fails : (plan : Planner) → SolvesAlone plan → Plans plan → ⊥
+alone-fails plan alone keeps =
+    let k = keeps paper-P refl in
+    let two : isIn 2 (keyOf paper-P-inner) ≡ true = rw (computed-keys .of-P-inner) in
+    let a : isIn 3 (plan paper-P) ≡ isIn 2 (keyOf paper-P-inner) =
+    alone paper-P 3 refl (omega arith) (omega arith) refl in
+    let b : isIn 9 (plan paper-P) ≡ isIn 2 (keyOf paper-P-inner) =
+    alone paper-P 9 refl (omega arith) (omega arith) refl in
+    three-and-nine (plan paper-P) (P-key .all-sizes (plan paper-P) k) (a ∙ two) (b ∙ two) (k .correct)
 
--- a key of R has two gaps
-one-barrier-fails : (g : ℕ) → IsKey paper-R (g ∷ []) → ⊥
-one-barrier-fails g k = omega (arith, R-key .all-sizes (g ∷ []) k)
+-- the ring greedily: on 01 03 02 with 110102, 12000101 it takes 1 and 2, where a key has one gap
+greedy-takes : greedyRing paper-ring ≡ 1 ∷ 2 ∷ []
+unfolding gapsOf
+greedy-takes = refl
+
+greedy-fails : (plan : Planner) → CutsGreedily plan → Plans plan → ⊥
+greedy-fails plan greedy keeps =
+    let e : length (plan paper-ring) ≡ 2 = ap length (greedy paper-ring refl refl ∙ greedy-takes) in
+    omega (arith, e, ring-key .all-sizes (plan paper-ring) (keeps paper-ring refl))
+
+-- total counts: gap 3 alone cuts all of 01 03 01 03 02 02 with 110103, 110205, where a key has two gaps
+totals-fail : (plan : Planner) → Compares inAll plan → Plans plan → ⊥
+totals-fail plan fewest keeps =
+    let gs = plan paper-door in
+    omega (
+      arith,
+      order-numbers (length gs) 1 (fewest paper-door refl .least (3 ∷ []) refl),
+      door-key .all-sizes gs (keeps paper-door refl),
+    )
+
+-- the gap before a DO inside that loop: on the same paper gap 3 then costs 1 and 0 in loops 2 and 0, and every correct
+-- pair of gaps costs more
+abbrev costsLess : ℕ → ℕ → Bool
+costsLess a b =
+    isCorrect paper-door (a ∷ b ∷ []) && firstInOrder (countsInside paper-door (a ∷ b ∷ [])) (1 ∷ 0 ∷ [])
+
+no-pair : (a b : ℕ) → a < 6 → b < 6 → costsLess a b ≡ false
+no-pair a b p q =
+    not-true (costsLess a b)
+    (every-below (λ (j : ℕ). not (costsLess a j)) 6
+    (every-below (λ (i : ℕ). everyBelow (λ (j : ℕ). not (costsLess i j)) 6) 6 refl a p) b q)
+
+no-cheap-pair
+    : (gs : List ℕ)
+    → length gs ≡ 2
+    → isCorrect paper-door gs ≡ true
+    → firstInOrder (countsInside paper-door gs) (1 ∷ 0 ∷ []) ≡ true
+    → ⊥
+no-cheap-pair [] l c h = omega arith
+no-cheap-pair (a ∷ []) l c h = omega arith
+no-cheap-pair (a ∷ (b ∷ (x ∷ xs))) l c h = omega arith
+no-cheap-pair (a ∷ (b ∷ [])) l c h =
+    let r = rises 0 6 a (b ∷ []) (correct-gaps paper-door (a ∷ b ∷ []) c) in
+    never-both (and-intro c h) (no-pair a b (r .below) (rises a 6 b [] (r .rest) .below))
+
+inside-fails : (plan : Planner) → Compares countsInside plan → Plans plan → ⊥
+inside-fails plan least keeps =
+    let gs = plan paper-door in
+    let k = keeps paper-door refl in
+    no-cheap-pair gs (door-key .all-sizes gs k) (k .correct) (least paper-door refl .least (3 ∷ []) refl)
+
+-- one barrier for intervals that overlap two by two: those of R do, and a key of R has two gaps
+pairs-fail : (plan : Planner) → JoinsPairs plan → Plans plan → ⊥
+pairs-fail plan joins keeps =
+    omega (arith, joins paper-R refl refl refl, R-key .all-sizes (plan paper-R) (keeps paper-R refl))
+
+-- some planner follows the rule, and none that does keeps demand 3
+pub record Refuted (Rule : Planner → Type 0) : Type 0 where
+  pub planner : Planner
+  pub follows : Rule planner
+  pub fails : (plan : Planner) → Rule plan → Plans plan → ⊥
 
 pub record Excluded : Type 0 where
-  -- a barrier in every gap
+  -- "What the contracts must say", c: a barrier in every gap; optimal inside, and the whole outer loop filled; a fixed
+  -- or always empty key
   pub every-gap : Plans everyGap → ⊥
-  -- optimal inside, and the whole outer loop filled
-  pub outer-filled : (plan : Nest → List ℕ) → FillsOuter plan → Plans plan → ⊥
-  -- a fixed or always empty key
+  pub outer-filled : Refuted FillsOuter
   pub fixed-key : (gs : List ℕ) → Plans (λ n. gs) → ⊥
   pub empty-key : Plans (λ n. []) → ⊥
-  -- each inner loop by itself, the first solution kept: P with 3, 9 and more
-  pub inner-first : (gs : List ℕ) → isIn 3 gs ≡ true → isIn 9 gs ≡ true → IsKey paper-P gs → ⊥
-  -- the ring cut at its first interval end, then greedily
-  pub greedy-ring : IsKey paper-ring (1 ∷ 2 ∷ []) → ⊥
-  -- total counts: Q's 4 and 7 are as many as 2 and 6
-  pub totals : IsKey paper-Q (4 ∷ 7 ∷ []) → ⊥
-  -- intervals that overlap two by two as one barrier's work: R
-  pub one-barrier : (g : ℕ) → IsKey paper-R (g ∷ []) → ⊥
+  -- "Plausible planners that fail", in their order there
+  pub inner-first : Refuted SolvesAlone
+  pub greedy-ring : Refuted CutsGreedily
+  pub totals : Refuted (Compares inAll)
+  pub one-barrier : Refuted JoinsPairs
+  pub before-do-inside : Refuted (Compares countsInside)
   -- and one planner keeps demand 3
   pub possible : Plans keyOf
 
@@ -111,12 +187,14 @@ pub excluded : Excluded
 excluded =
     record {
       every-gap = every-gap-fails;
-      outer-filled = outer-filled-fails;
+      outer-filled = record { planner = fillOuter; follows = fills-outer; fails = outer-filled-fails };
       fixed-key = fixed-key-fails;
       empty-key = empty-key-fails;
-      inner-first = inner-first-fails;
-      greedy-ring = greedy-ring-fails;
-      totals = totals-fail .2;
-      one-barrier = one-barrier-fails;
+      inner-first = record { planner = solveAlone; follows = solves-alone; fails = alone-fails };
+      greedy-ring = record { planner = greedyRing; follows = λ n v o. refl; fails = greedy-fails };
+      totals = record { planner = cheapest inAll; follows = compares inAll; fails = totals-fail };
+      one-barrier = record { planner = joinPairs; follows = joins-pairs; fails = pairs-fail };
+      before-do-inside =
+          record { planner = cheapest countsInside; follows = compares countsInside; fails = inside-fails };
       possible = key-is-key;
     }

@@ -1,20 +1,20 @@
--- 01, "Papers with known results": the keys of the starred cases. Each is computed from `keyOf`, is the first of its
--- paper's keys by the planner's theorem, and every other has the same counts.
--- Main statements: `computed-keys`, `starred-keys` (over the table of cases), `case-1-program`, `case-11-program`.
+-- The keys of the papers. Each is computed from `keyOf`, is the first of its paper's keys by the planner's theorem, and
+-- every other has the same counts. The starred cases' table is made of them (Starred).
+-- Main definition: `HasKey`. Main statements: `computed-keys`; `P-key`, `Q-key`, `R-key` and so on; `case-1-program`,
+-- `case-11-program`.
 use mathlib.Core.Path.{_≡_, refl, _∙_}
 use mathlib.Core.Bool.{true}
 use mathlib.Core.List.{List, [], _∷_}
-use Prim.{Unit, tt}
 use Prim.Native.Nat.{ℕ}
 use lib.ListN.{length}
-use Rattle.nests.specs.Nests.{Nest}
+use Rattle.nests.specs.Nests.{Nest, nest}
 use Rattle.nests.specs.Valid.{isValid}
 use Rattle.nests.proofs.Cases.{paper-P, paper-Q, paper-R, paper-turn, paper-bare, paper-ring, paper-inner}
-use Rattle.nests.proofs.Cases.{paper-forward, paper-P-forward}
+use Rattle.nests.proofs.Cases.{forward, carried, paper-forward, paper-P-forward, paper-door}
 use Rattle.nests.proofs.Deps.{valid-is}
 use Rattle.placements.specs.Keys.{IsKey}
 use Rattle.placements.specs.Words.{gapsOf}
-use Rattle.placements.proofs.Cases.{countsOf, Case, table}
+use Rattle.placements.proofs.Cases.{countsOf}
 use Rattle.lines.proofs.Spelling.{framesText}
 use Rattle.texts.specs.NestTexts.{blank, readNest}
 use Rattle.texts.specs.Program.{programText}
@@ -30,6 +30,10 @@ use Rattle.keys.specs.OneKey.{IsFirstKey}
 use Rattle.keys.proofs.KeyFirst.{key-is-first}
 use Rattle.keys.proofs.Sizes.{keys-same-counts, keys-same-size}
 
+-- P's loop 1 by itself, and loop 7 as well: 01 03 03 03 03 02 with 110104, 12000302
+abbrev pub paper-P-inner : Nest
+paper-P-inner = nest (1 ∷ 3 ∷ 3 ∷ 3 ∷ 3 ∷ 2 ∷ []) (forward 1 4 ∷ carried 0 3 2 ∷ [])
+
 -- the keys as they are computed
 pub record Computed : Type 0 where
   pub of-P : keyOf paper-P ≡ 5 ∷ 11 ∷ []
@@ -41,6 +45,8 @@ pub record Computed : Type 0 where
   pub of-inner : keyOf paper-inner ≡ 2 ∷ []
   pub of-forward : keyOf paper-forward ≡ 1 ∷ []
   pub of-P-forward : keyOf paper-P-forward ≡ 5 ∷ 11 ∷ []
+  pub of-P-inner : keyOf paper-P-inner ≡ 2 ∷ []
+  pub of-door : keyOf paper-door ≡ 2 ∷ 5 ∷ []
 
 pub computed-keys : Computed
 unfolding keyOf gapsOf keyIn leastEnd reachOf limitOf hasAt Plan.keyOf tableOf tableFrom withRow noTables needOf put
@@ -57,11 +63,16 @@ computed-keys =
       of-inner = refl;
       of-forward = refl;
       of-P-forward = refl;
+      of-P-inner = refl;
+      of-door = refl;
     }
 
--- a placement is the first key of the paper, and all keys have its counts, in order of the loops' DO, and its number of
--- gaps
+-- the paper breaks no rule; its key is this one, the first of all its keys, with these counts in order of the loops'
+-- DO; all keys have its counts and its number of gaps
 pub record HasKey (n : Nest) (key counts : List ℕ) : Type 0 where
+  pub valid : isValid n ≡ true
+  pub key-is : keyOf n ≡ key
+  pub counts-are : countsOf n key ≡ counts
   pub is-first : IsFirstKey n key
   pub all-counts : (gs : List ℕ) → IsKey n gs → countsOf n gs ≡ counts
   pub all-sizes : (gs : List ℕ) → IsKey n gs → length gs ≡ length key
@@ -76,6 +87,9 @@ by-theorem n key counts valid e c =
     let k : IsFirstKey n key = rw e at (key-is-first n valid) in
     let shape = valid-is n valid .shape in
     record {
+      valid = valid;
+      key-is = e;
+      counts-are = c;
       is-first = k;
       all-counts = λ gs h. keys-same-counts n shape gs key h (k .is-key) ∙ c;
       all-sizes = λ gs h. keys-same-size n shape gs key h (k .is-key);
@@ -109,6 +123,10 @@ ring-key = by-theorem paper-ring (2 ∷ []) (1 ∷ []) refl (computed-keys .of-r
 pub inner-key : HasKey paper-inner (2 ∷ []) (0 ∷ 1 ∷ [])
 inner-key = by-theorem paper-inner (2 ∷ []) (0 ∷ 1 ∷ []) refl (computed-keys .of-inner) refl
 
+-- gap 3 alone would do, but the key has no barrier in loop 2
+pub door-key : HasKey paper-door (2 ∷ 5 ∷ []) (2 ∷ 0 ∷ [])
+door-key = by-theorem paper-door (2 ∷ 5 ∷ []) (2 ∷ 0 ∷ []) refl (computed-keys .of-door) refl
+
 -- forward over the ring: any gap of the loop serves, and the key is the first of them
 pub forward-key : HasKey paper-forward (1 ∷ []) (1 ∷ [])
 forward-key = by-theorem paper-forward (1 ∷ []) (1 ∷ []) refl (computed-keys .of-forward) refl
@@ -116,47 +134,6 @@ forward-key = by-theorem paper-forward (1 ∷ []) (1 ∷ []) refl (computed-keys
 -- beside P's own: the key of P serves
 pub P-forward-key : HasKey paper-P-forward (5 ∷ 11 ∷ []) (0 ∷ 1 ∷ 1 ∷ [])
 P-forward-key = by-theorem paper-P-forward (5 ∷ 11 ∷ []) (0 ∷ 1 ∷ 1 ∷ []) refl (computed-keys .of-P-forward) refl
-
--- what the table of cases names as keys and counts
-abbrev pub HaveKeys : List Case → Type 0
-HaveKeys [] = Unit {0}
-HaveKeys (c ∷ cs) = HasKey (c .paper) (c .key) (c .counts) × HaveKeys cs
-
-pub starred-keys : HaveKeys table
-starred-keys = (
-  P-key,
-  (
-    P-key,
-    (
-      P-key,
-      (
-        P-key,
-        (
-          P-key,
-          (
-            Q-key,
-            (
-              Q-key,
-              (
-                R-key,
-                (
-                  turn-key,
-                  (
-                    bare-key,
-                    (
-                      ring-key,
-                      (forward-key, (P-forward-key, tt)),
-                    ),
-                  ),
-                ),
-              ),
-            ),
-          ),
-        ),
-      ),
-    ),
-  ),
-)
 
 -- case 1: the program writes 2105, 210b, 220000, 220101, 220701 for P
 pub case-1-program

@@ -13,5 +13,9 @@ pub mod RingKey
 pub mod OneKey
 pub mod BarredKey
 pub mod KeyCases
+pub mod Starred
 pub mod FirstCases
+-- planners that fail
+pub mod Cheapest
+pub mod Planners
 pub mod Excluded

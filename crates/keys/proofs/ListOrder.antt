@@ -1,6 +1,6 @@
 -- List order and membership: of two rising lists, the one that has the first gap where they differ comes first, unless
--- it is the longer one. Two lists that each come first are one.
--- Main statements: `order-by`, `order-both`.
+-- it is the longer one. Two lists that each come first are one. The order is total.
+-- Main statements: `order-by`, `order-both`; `order-trans`, `order-total`, `order-numbers`.
 use mathlib.Core.Path.{_≡_, refl, sym, _∙_}
 use mathlib.Core.Bool.{Bool, true, false}
 use mathlib.Core.List.{List, [], _∷_}
@@ -9,7 +9,7 @@ use Prim.Native.Nat.{ℕ, _≤_, _<_}
 use native.Mathlib.Omega.{arith}
 use lib.Dec.{eqb, ltb}
 use lib.ListN.{length}
-use borrow.Author.Tests.{eqb-true, eqb-false, eq-eqb, ne-eqb, lt-ltb, ltb-true}
+use borrow.Author.Tests.{eqb-true, eqb-false, eq-eqb, ne-eqb, lt-ltb, ltb-true, ltb-false}
 use Rattle.laws.specs.Choice.{pick, isIn}
 use Rattle.laws.proofs.Tests.{never, le-or, eq-or, false-by, or-true}
 use Rattle.placements.specs.Placements.{areGapsFrom}
@@ -109,3 +109,55 @@ order-both (x ∷ xs) (y ∷ ys) p q = go (eq-or x y) (order-both xs ys)
         let u : ltb x y ≡ true = rw (ne-eqb x y z) at p in
         let v : ltb y x ≡ true = rw (ne-eqb y x (λ w. z (sym w))) at q in
         absurd (omega (arith, ltb-true x y u, ltb-true y x v))
+
+-- a list comes first beside itself
+pub order-refl : (a : List ℕ) → firstInOrder a a ≡ true
+order-refl [] = refl
+order-refl (x ∷ xs) = rw (eq-eqb x x refl) (order-refl xs)
+
+-- of two lists one comes first
+pub order-total : (a b : List ℕ) → firstInOrder a b ≡ false → firstInOrder b a ≡ true
+order-total [] b h = never (sym h)
+order-total (x ∷ xs) [] h = refl
+order-total (x ∷ xs) (y ∷ ys) h = go (eq-or x y) (order-total xs ys)
+  where
+    go : (x ≡ y) ⊎ ((x ≡ y) → ⊥) → (firstInOrder xs ys ≡ false → firstInOrder ys xs ≡ true) →
+        firstInOrder (y ∷ ys) (x ∷ xs) ≡ true
+    go (inl z) rest = rw (eq-eqb y x (sym z)) (rest (rw (eq-eqb x y z) at h))
+    go (inr z) rest =
+        let u : ltb x y ≡ false = rw (ne-eqb x y z) at h in
+        rw (ne-eqb y x (λ w. z (sym w))) (lt-ltb y x (omega (arith, z, ltb-false x y u)))
+
+-- one number before another, or the same number and the rest in order
+order-cons : (x y : ℕ) (xs ys : List ℕ) → firstInOrder (x ∷ xs) (y ∷ ys) ≡ true →
+    (x < y) ⊎ ((x ≡ y) × (firstInOrder xs ys ≡ true))
+order-cons x y xs ys h =
+    ⊎-elim
+    (λ (z : x ≡ y). inr (z, rw (eq-eqb x y z) at h))
+    (λ (z : x ≡ y → ⊥). inl (ltb-true x y (rw (ne-eqb x y z) at h)))
+    (eq-or x y)
+
+pub order-trans : (a b c : List ℕ) → firstInOrder a b ≡ true → firstInOrder b c ≡ true → firstInOrder a c ≡ true
+order-trans [] b c p q = refl
+order-trans (x ∷ xs) [] c p q = never p
+order-trans (x ∷ xs) (y ∷ ys) [] p q = never q
+order-trans (x ∷ xs) (y ∷ ys) (w ∷ ws) p q = go (order-cons x y xs ys p) (order-cons y w ys ws q) (order-trans xs ys ws)
+  where
+    before : x < w → firstInOrder (x ∷ xs) (w ∷ ws) ≡ true
+    before l = rw (ne-eqb x w (λ z. omega arith)) (lt-ltb x w l)
+
+    go : (x < y) ⊎ ((x ≡ y) × (firstInOrder xs ys ≡ true)) → (y < w) ⊎ ((y ≡ w) × (firstInOrder ys ws ≡ true)) →
+        (firstInOrder xs ys ≡ true → firstInOrder ys ws ≡ true → firstInOrder xs ws ≡ true) →
+        firstInOrder (x ∷ xs) (w ∷ ws) ≡ true
+    go (inl l) (inl k) rest = before (omega arith)
+    go (inl l) (inr k) rest = before (omega (arith, k .0))
+    go (inr l) (inl k) rest = before (omega (arith, l .0))
+    go (inr l) (inr k) rest = rw (eq-eqb x w (l .0 ∙ k .0)) (rest (l .1) (k .1))
+
+-- of lists of one number, the lesser
+pub order-numbers : (a b : ℕ) → firstInOrder (a ∷ []) (b ∷ []) ≡ true → a ≤ b
+order-numbers a b h = go (order-cons a b [] [] h)
+  where
+    go : (a < b) ⊎ ((a ≡ b) × (firstInOrder [] [] ≡ true)) → a ≤ b
+    go (inl l) = omega arith
+    go (inr e) = omega (arith, e .0)

@@ -1,5 +1,6 @@
--- Papers of document 01 with known results, and cases of loops, gaps and valid nests, computed from the definitions.
--- Main statement: `worked-cases`.
+-- The papers of document 01, and cases of loops, gaps, valid nests and numbers 6 and 7 on them, computed from the
+-- definitions. The starred cases, with keys and verdicts, are another table (crate keys, `starred-keys`).
+-- Main definitions: the papers. Main statement: `worked-cases`.
 use mathlib.Core.Path.{_≡_, refl}
 use mathlib.Core.Bool.{Bool, true, false, _&&_, not}
 use mathlib.Core.List.{List, [], _∷_, _++_}
@@ -51,6 +52,10 @@ paper-ring = nest (1 ∷ 3 ∷ 2 ∷ []) (forward 1 2 ∷ carried 0 1 1 ∷ [])
 -- 01 01 03 02 02 with 12010202: one barrier inside is enough
 abbrev pub paper-inner : Nest
 paper-inner = nest (1 ∷ 1 ∷ 3 ∷ 2 ∷ 2 ∷ []) (carried 1 2 2 ∷ [])
+
+-- 01 03 01 03 02 02 with 110103, 110205: gap 3 alone cuts both, and lies in loop 2, where no barrier is needed
+abbrev pub paper-door : Nest
+paper-door = nest (1 ∷ 3 ∷ 1 ∷ 3 ∷ 2 ∷ 2 ∷ []) (forward 1 3 ∷ forward 2 5 ∷ [])
 
 -- 01 03 03 03 02 with 12000103: carried, and s before t, so any gap of the loop serves
 abbrev pub paper-forward : Nest
@@ -111,18 +116,13 @@ loops =
     (eqb (endOf (paper-Q .points) 3) 6 &&
     sameList (eachFrom (ownerOf (paper-Q .points)) 9 1) (0 ∷ 0 ∷ 2 ∷ 3 ∷ 3 ∷ 3 ∷ 2 ∷ 2 ∷ 0 ∷ [])))
 
--- s + 1 to t; d + 1 to t and s + 1 to e, which is d + 1 to e where s is before t; case 9: gaps 1 and 2; case 8: each
--- two share a gap, all three none
+-- s + 1 to t; d + 1 to t and s + 1 to e, which is d + 1 to e where s is before t
 abbrev gaps : Bool
 gaps =
     share paper-P (forward 4 9 ∷ []) (5 ∷ 6 ∷ 7 ∷ 8 ∷ 9 ∷ []) &&
     (share paper-P (carried 7 10 9 ∷ []) (8 ∷ 9 ∷ 11 ∷ 12 ∷ []) &&
     (share paper-forward (carried 0 1 3 ∷ []) (1 ∷ 2 ∷ 3 ∷ 4 ∷ []) &&
-    (share paper-P-forward (carried 1 3 4 ∷ []) (2 ∷ 3 ∷ 4 ∷ 5 ∷ 6 ∷ []) &&
-    (share paper-turn (carried 0 1 1 ∷ []) (1 ∷ 2 ∷ []) &&
-    (share paper-R (forward 1 4 ∷ forward 3 6 ∷ []) (4 ∷ []) &&
-    (share paper-R (forward 3 6 ∷ carried 0 5 2 ∷ []) (6 ∷ []) &&
-    (share paper-R (forward 1 4 ∷ carried 0 5 2 ∷ []) (2 ∷ []) && share paper-R (paper-R .deps) [])))))))
+    share paper-P-forward (carried 1 3 4 ∷ []) (2 ∷ 3 ∷ 4 ∷ 5 ∷ 6 ∷ [])))
 
 abbrev eachFault : List Dep → List ℕ
 eachFault [] = []

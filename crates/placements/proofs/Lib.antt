@@ -15,4 +15,3 @@ pub mod TreeOrder
 pub mod Keys
 pub mod Verdicts
 pub mod Cases
-pub mod Planners
