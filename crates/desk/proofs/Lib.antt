@@ -10,3 +10,6 @@ pub mod ReadAgain
 pub mod Over
 pub mod Plans
 pub mod ListCases
+pub mod Unread
+-- calls that the promises exclude
+pub mod Excluded

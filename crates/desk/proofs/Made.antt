@@ -58,7 +58,7 @@ made-empty d h = made-holds d emptyDesk
     h
 
 -- a valid nest and no key
-loaded-paper : (n : Nest) → isValid n ≡ true → IsPaper (loadedDesk n)
+pub loaded-paper : (n : Nest) → isValid n ≡ true → IsPaper (loadedDesk n)
 loaded-paper n v =
     record {
       valid = λ _. v;

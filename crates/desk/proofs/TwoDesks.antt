@@ -44,7 +44,7 @@ same-answer : (n l v n′ l′ v′ : ℕ) → n ≡ n′ → l ≡ l′ → v �
 same-answer n l v n′ l′ v′ a b c = cc
 
 -- answers are their numbers
-answer-by : (a b : DA.Answer) → a .number ≡ b .number → a .line ≡ b .line → a .value ≡ b .value → a ≡ b
+pub answer-by : (a b : DA.Answer) → a .number ≡ b .number → a .line ≡ b .line → a .value ≡ b .value → a ≡ b
 answer-by a b = same-answer (a .number) (a .line) (a .value) (b .number) (b .line) (b .value)
 
 -- what the calls answer where they refuse nothing, 0 or the buffer as it was where they do
@@ -54,10 +54,10 @@ countValue p x = pick (eqb (countFault x p) 0) (loopCount (x .nest-is) (x .key) 
 abbrev textLength : List ℕ → Desk → ℕ
 textLength out x = pick (eqb (writeFault x out) 0) (length (keyText (x .key))) 0
 
-abbrev textOver : List ℕ → Desk → List ℕ
+abbrev pub textOver : List ℕ → Desk → List ℕ
 textOver out x = pick (eqb (writeFault x out) 0) (over (keyText (x .key)) out) out
 
-abbrev listValue : List Dep → Desk → ℕ
+abbrev pub listValue : List Dep → Desk → ℕ
 listValue es x = pick (eqb (checkFault x es .number) 0) (listUncut 1 (x .nest-is .points) es (x .key)) 0
 
 -- what the calls read of a desk: nest and key, and whether they are there

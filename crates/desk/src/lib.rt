@@ -220,7 +220,8 @@ pub fn write_key(desk: Desk, out: &mut [u8]) -> Answer
 pub fn reset(desk: Desk) -> Desk
     ensures { λ r. ⌜ EmptySays r ⌝ }
 {
-    Desk::empty()
+    let blank = Desk::empty();
+    blank
 }
 
 // A desk of the kind before sittings goes over: the nest is kept, the sitting is empty, no move was made, and where

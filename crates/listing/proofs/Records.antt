@@ -1,16 +1,15 @@
 -- One record of a list: its refusal by its kind, and the answer after it.
--- Main statements: `known-kind`, `unknown-kind`; `d-unread-fault`, `d-unread-cut`; `begun-by`, `refusal-kept`,
--- `record-refused`, `place-kept`, `record-cut`, `record-uncut`.
-use mathlib.Core.Path.{_≡_, refl, _∙_, ap}
-use mathlib.Core.Bool.{Bool, true, false, _||_, or-true}
+-- Main statements: `known-kind`, `unknown-kind`; `begun-by`, `refusal-kept`, `record-refused`, `place-kept`,
+-- `record-cut`, `record-uncut`.
+use mathlib.Core.Path.{_≡_, _∙_}
+use mathlib.Core.Bool.{true, false, or-true}
 use mathlib.Core.Logic.{_⊎_, ⊎-elim}
-use mathlib.Core.List.{List, [], _∷_}
+use mathlib.Core.List.{List}
 use Prim.Native.Nat.{ℕ, _+_}
 use lib.Dec.{eqb}
 use borrow.Author.Tests.{eq-eqb, ne-eqb}
 use Rattle.nests.specs.Kinds.{INDEPENDENT, CARRIED}
-use Rattle.nests.specs.Nests.{Dep, dep}
-use Rattle.nests.specs.Gaps.{hasGap}
+use Rattle.nests.specs.Nests.{Dep}
 use Rattle.nests.specs.Valid.{depFault}
 use Rattle.placements.specs.Placements.{cuts}
 use Rattle.desk.specs.declared.Answer as DA
@@ -36,19 +35,6 @@ pub unknown-kind
     → (e .kind ≡ CARRIED → ⊥)
     → 2 ≡ recordFault ps e
 unknown-kind ps e h k = rw (ne-eqb (e .kind) INDEPENDENT h, ne-eqb (e .kind) CARRIED k)
-
--- 01, "The desk": in kind 11 the d is not read
-pub d-unread-fault
-    : (ps : List ℕ) (d d′ s t : ℕ)
-    → recordFault ps (dep INDEPENDENT d s t) ≡ recordFault ps (dep INDEPENDENT d′ s t)
-d-unread-fault ps d d′ s t = refl
-
-pub d-unread-cut
-    : (ps gs : List ℕ) (d d′ s t : ℕ)
-    → cuts ps (dep INDEPENDENT d s t) gs ≡ cuts ps (dep INDEPENDENT d′ s t) gs
-d-unread-cut ps [] d d′ s t = refl
-d-unread-cut ps (g ∷ gs) d d′ s t =
-    ap (λ (c : Bool). hasGap ps (dep INDEPENDENT d s t) g || c) (d-unread-cut ps gs d d′ s t)
 
 -- nothing is found before the first record
 pub begun-by : (x : Desk) (n : ℕ) (r : DA.Answer) → n ≡ stateFault true x → RefusedAs n r → r ≡ begun x
