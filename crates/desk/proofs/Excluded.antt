@@ -1,7 +1,8 @@
 -- 01, "What the contracts must say", c: calls that the promises exclude. A marker that says Best, or Uncut, unlooked,
 -- one whose Dearer has invented counts, a desk that refuses each text and a writer that writes nothing each break the
 -- promise of their call at a desk that holds P and its key. Planners are excluded in crate keys (Excluded).
--- Main definitions: `P-desk`, `Marks`, `Loads`, `Writes`, `CallsExcluded`. Main statements: `P-made`, `calls-excluded`.
+-- Main definitions: `P-desk`, `Marks`, `Loads`, `Writes`, `CallsExcluded`. Main statements: `P-made`, `calls-excluded`,
+-- `all-excluded`.
 use mathlib.Core.Path.{_≡_, refl, sym, _∙_, ap, subst}
 use mathlib.Core.Bool.{Bool, true, false}
 use mathlib.Core.List.{List, [], _∷_, _++_}
@@ -28,6 +29,7 @@ use Rattle.moves.specs.Ring as Ring
 use Rattle.texts.specs.NestTexts.{Got}
 use Rattle.texts.specs.PlacementTexts.{placeLines, readPlacement, keyText}
 use Rattle.texts.proofs.TextCases.{P-lines, P-read}
+use Rattle.keys.proofs.Excluded.{Excluded, excluded}
 use Rattle.keys.proofs.KeyCases.{computed-keys}
 use Rattle.desk.specs.declared.Desk as DD
 use Rattle.desk.specs.declared.Reply as DR
@@ -290,3 +292,7 @@ calls-excluded =
       each-refused = loader-fails;
       nothing-written = writer-fails;
     }
+
+-- the whole of c, with the plausible planners
+pub all-excluded : Excluded × CallsExcluded
+all-excluded = (excluded, calls-excluded)
