@@ -1,8 +1,7 @@
 -- 01, "What the contracts must say", c: calls that the promises exclude. A marker that says Best, or Uncut, unlooked,
 -- one whose Dearer has invented counts, a desk that refuses each text and a writer that writes nothing each break the
 -- promise of their call at a desk that holds P and its key. Planners are excluded in crate keys (Excluded).
--- Main definitions: `P-desk`, `Marks`, `Loads`, `Writes`, `CallsExcluded`. Main statements: `P-made`, `calls-excluded`,
--- `all-excluded`.
+-- Main definitions: `P-desk`, `CallsExcluded`. Main statements: `P-made`, `calls-excluded`, `all-excluded`.
 use mathlib.Core.Path.{_≡_, refl, sym, _∙_, ap, subst}
 use mathlib.Core.Bool.{Bool, true, false}
 use mathlib.Core.List.{List, [], _∷_, _++_}
@@ -24,7 +23,6 @@ use Rattle.lines.specs.Lines.{linesOf, frameOf}
 use Rattle.placements.specs.Placements.{uncut, differ, loopCount}
 use Rattle.placements.specs.Verdicts.{Verdict, Uncut, Dearer, Best, verdictBy, markOf}
 use Rattle.placements.specs.Words.{holds, gapsOf, gapsIn}
-use Rattle.sitting.specs.Kept as Kept
 use Rattle.moves.specs.Ring as Ring
 use Rattle.texts.specs.NestTexts.{Got}
 use Rattle.texts.specs.PlacementTexts.{placeLines, readPlacement, keyText}
@@ -32,15 +30,12 @@ use Rattle.texts.proofs.TextCases.{P-lines, P-read}
 use Rattle.keys.proofs.Excluded.{Excluded, excluded}
 use Rattle.keys.proofs.KeyCases.{computed-keys}
 use Rattle.desk.specs.declared.Desk as DD
-use Rattle.desk.specs.declared.Reply as DR
-use Rattle.desk.specs.declared.Answer as DA
-use Rattle.desk.specs.declared.Marked as DM
 use Rattle.desk.specs.Desks.{Desk, desk, loadedDesk, withKey, deskIn, IsMade}
-use Rattle.desk.specs.Says.{Holds, LoadSays, Mark, refused, given, readIn, placeFault, markIn, marked, MarkSays}
-use Rattle.desk.specs.Says.{WriteSays}
+use Rattle.desk.specs.Says.{Holds, Mark, refused, given, readIn, placeFault, markIn, marked}
 use Rattle.desk.proofs.Held.{held}
 use Rattle.desk.proofs.Made.{made-holds, loaded-paper, planned-paper}
 use Rattle.desk.proofs.TwoDesks.{textOver}
+use Rattle.desk.proofs.Promises.{Marker, Loader, Writer, Marks, Loads, Writes}
 
 -- ---- a desk that has read P and made its key
 
@@ -101,21 +96,17 @@ P-is = P-holds .holds ∙ ap (λ (k : List ℕ). desk true paper-P true k [] [])
 
 -- ---- markers
 
--- a marker keeps the promise of Mark
-abbrev pub Marks : (DD.Desk → List ℕ → DM.Marked) → Type 0
-Marks mark = (d : DD.Desk) (s : List ℕ) → IsMade d → MarkSays d s (mark d s)
-
 -- it says Best of whatever it marks
-abbrev pub SaysBest : (DD.Desk → List ℕ → DM.Marked) → Type 0
+abbrev pub SaysBest : Marker → Type 0
 SaysBest mark = (d : DD.Desk) (s : List ℕ) (v : Verdict) → IsMade d → markIn (mark d s) ≡ given v → v ≡ Best
 
 -- it says Uncut of whatever it marks, with some number
-abbrev pub SaysUncut : (DD.Desk → List ℕ → DM.Marked) → Type 0
+abbrev pub SaysUncut : Marker → Type 0
 SaysUncut mark =
     (d : DD.Desk) (s : List ℕ) (v : Verdict) → IsMade d → markIn (mark d s) ≡ given v → (i : ℕ) × (v ≡ Uncut i)
 
 -- one Dearer of it has counts that are not those of the loop, in the placement read and in the key
-pub record InventsCounts (mark : DD.Desk → List ℕ → DM.Marked) : Type 0 where
+pub record InventsCounts (mark : Marker) : Type 0 where
   pub d : DD.Desk
   pub s : List ℕ
   pub loop : ℕ
@@ -129,7 +120,7 @@ pub record InventsCounts (mark : DD.Desk → List ℕ → DM.Marked) : Type 0 wh
       → ⊥
 
 -- its Dearer has these counts whatever is marked
-abbrev pub SameCounts : ℕ → ℕ → (DD.Desk → List ℕ → DM.Marked) → Type 0
+abbrev pub SameCounts : ℕ → ℕ → Marker → Type 0
 SameCounts a b mark =
     (d : DD.Desk) (s : List ℕ) (loop theirs ours : ℕ) →
     IsMade d →
@@ -138,21 +129,10 @@ SameCounts a b mark =
 
 -- ---- loaders and writers
 
-abbrev pub Loads : (DD.Desk → List ℕ → DR.Reply) → Type 0
-Loads load = (d : DD.Desk) (s : List ℕ) → LoadSays d s (load d s)
-
-abbrev pub RefusesEach : (DD.Desk → List ℕ → DR.Reply) → Type 0
+abbrev pub RefusesEach : Loader → Type 0
 RefusesEach load = (d : DD.Desk) (s : List ℕ) → load d s .number ≡ 0 → ⊥
 
--- the buffer after the call, and the answer
-pub record Written : Type 0 where
-  pub out : List ℕ
-  pub answer : DA.Answer
-
-abbrev pub Writes : (DD.Desk → List ℕ → Written) → Type 0
-Writes write = (d : DD.Desk) (out : List ℕ) → WriteSays d out (write d out .out) (write d out .answer)
-
-abbrev pub WritesNothing : (DD.Desk → List ℕ → Written) → Type 0
+abbrev pub WritesNothing : Writer → Type 0
 WritesNothing write = (d : DD.Desk) (out : List ℕ) → write d out .out ≡ out
 
 -- ---- what P's desk must answer
@@ -214,7 +194,7 @@ dearer-counts
     → CountsAre x s (given (Dearer loop theirs ours))
 dearer-counts x s loop theirs ours e = subst (λ (m : Mark). CountsAre x s m) e (counts-are x s)
 
-module _ (mark : DD.Desk → List ℕ → DM.Marked) (keeps : Marks mark) where
+module _ (mark : Marker) (keeps : Marks mark) where
   answers : (s : List ℕ) (v : Verdict) → marked P-keyed s ≡ given v → markIn (mark P-desk s) ≡ given v
   answers s v h = keeps P-desk s P-made ∙ ap (λ (x : Desk). marked x s) P-is ∙ h
 
@@ -255,7 +235,7 @@ module _ (mark : DD.Desk → List ℕ → DM.Marked) (keeps : Marks mark) where
       let k = dearer-counts x (c .s) (c .loop) (c .theirs) (c .ours) (sym h) in
       c .invented (k .0) (k .1)
 
-loader-fails : (load : DD.Desk → List ℕ → DR.Reply) → Loads load → RefusesEach load → ⊥
+loader-fails : (load : Loader) → Loads load → RefusesEach load → ⊥
 loader-fails load keeps refuses =
     refuses P-desk P-lines (keeps P-desk P-lines .number-is ∙ ap (λ (g : Got). g .number) P-read)
 
@@ -264,7 +244,7 @@ P-text : (x : Desk) → x ≡ P-keyed → getD (textOver (copies 10 0) x) 0 0 �
 unfolding keyText copies
 P-text x e = rw e
 
-writer-fails : (write : DD.Desk → List ℕ → Written) → Writes write → WritesNothing write → ⊥
+writer-fails : (write : Writer) → Writes write → WritesNothing write → ⊥
 unfolding copies
 writer-fails write keeps nothing =
     let out : List ℕ = copies 10 0 in
@@ -275,12 +255,12 @@ writer-fails write keeps nothing =
 
 -- none of these keeps the promise of its call
 pub record CallsExcluded : Type 0 where
-  pub best-unlooked : (mark : DD.Desk → List ℕ → DM.Marked) → Marks mark → SaysBest mark → ⊥
-  pub uncut-unlooked : (mark : DD.Desk → List ℕ → DM.Marked) → Marks mark → SaysUncut mark → ⊥
-  pub invented-counts : (mark : DD.Desk → List ℕ → DM.Marked) → Marks mark → InventsCounts mark → ⊥
-  pub same-counts : (mark : DD.Desk → List ℕ → DM.Marked) (a b : ℕ) → Marks mark → SameCounts a b mark → ⊥
-  pub each-refused : (load : DD.Desk → List ℕ → DR.Reply) → Loads load → RefusesEach load → ⊥
-  pub nothing-written : (write : DD.Desk → List ℕ → Written) → Writes write → WritesNothing write → ⊥
+  pub best-unlooked : (mark : Marker) → Marks mark → SaysBest mark → ⊥
+  pub uncut-unlooked : (mark : Marker) → Marks mark → SaysUncut mark → ⊥
+  pub invented-counts : (mark : Marker) → Marks mark → InventsCounts mark → ⊥
+  pub same-counts : (mark : Marker) (a b : ℕ) → Marks mark → SameCounts a b mark → ⊥
+  pub each-refused : (load : Loader) → Loads load → RefusesEach load → ⊥
+  pub nothing-written : (write : Writer) → Writes write → WritesNothing write → ⊥
 
 pub calls-excluded : CallsExcluded
 calls-excluded =

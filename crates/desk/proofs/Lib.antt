@@ -11,5 +11,6 @@ pub mod Over
 pub mod Plans
 pub mod ListCases
 pub mod Unread
--- calls that the promises exclude
+-- the promises can be kept, and which calls they exclude
+pub mod Promises
 pub mod Excluded

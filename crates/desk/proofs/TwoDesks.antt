@@ -51,7 +51,7 @@ answer-by a b = same-answer (a .number) (a .line) (a .value) (b .number) (b .lin
 abbrev countValue : ℕ → Desk → ℕ
 countValue p x = pick (eqb (countFault x p) 0) (loopCount (x .nest-is) (x .key) p) 0
 
-abbrev textLength : List ℕ → Desk → ℕ
+abbrev pub textLength : List ℕ → Desk → ℕ
 textLength out x = pick (eqb (writeFault x out) 0) (length (keyText (x .key))) 0
 
 abbrev pub textOver : List ℕ → Desk → List ℕ
