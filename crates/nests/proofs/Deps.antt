@@ -1,7 +1,7 @@
 -- Dependences that are placed well: an independent one runs forward, a carried one has both points inside its loop. The
 -- order of a carried one's two points plays no part.
--- Main definition: `Fits`. Main statements: `dep-fits`, `deps-fit`, `valid-is`, and the gaps as facts:
--- `line-gap`, `gap-of-line`, `back-gap`, `gap-before-target`, `gap-after-source`, `target-gap`, `forward-ring`.
+-- Main definition: `Fits`. Main statements: `dep-fits`, `deps-fit`, `valid-is`, `is-valid`, and the gaps as
+-- facts: `line-gap`, `gap-of-line`, `back-gap`, `gap-before-target`, `gap-after-source`, `target-gap`, `forward-ring`.
 use mathlib.Core.Path.{_≡_, sym, _∙_}
 use mathlib.Core.Bool.{true, _&&_, _||_, not}
 use mathlib.Core.List.{List, [], _∷_}
@@ -10,11 +10,11 @@ use Prim.Native.Nat.{ℕ, suc, _≤_, _<_}
 use native.Mathlib.Omega.{arith}
 use lib.Dec.{eqb, ltb, leb}
 use lib.ListN.{length, getD}
-use borrow.Author.Tests.{ltb-true, eqb-true, leb-true}
+use borrow.Author.Tests.{ltb-true, eqb-true, leb-true, le-leb}
 use Rattle.laws.specs.Choice.{between}
 use Rattle.laws.specs.Members.{Among}
 use Rattle.laws.proofs.Ranges.{in-between, between-in}
-use Rattle.laws.proofs.Tests.{le-or, bool-by, and-true, or-true, or-left, or-right}
+use Rattle.laws.proofs.Tests.{le-or, bool-by, and-intro, and-true, or-true, or-left, or-right}
 use Rattle.nests.specs.Kinds.{STATEMENT, ENDDO, INDEPENDENT, CARRIED, POINTS, DEPENDENCES}
 use Rattle.nests.specs.Nests.{Dep, Nest}
 use Rattle.nests.specs.Loops.{isDo, endOf, inLoop}
@@ -91,7 +91,7 @@ deps-fit ps (x ∷ xs) h e a =
     let z = and-true (isDep ps x) (areDeps ps xs) h in
     ⊎-elim (λ (q : e ≡ x). rw q (dep-fits ps x (z .0))) (λ (q : Among e xs). deps-fit ps xs (z .1) e q) a
 
--- what a valid nest is
+-- a valid nest taken apart, and put together again
 pub record Valid (n : Nest) : Type 0 where
   pub shape : isShape (n .points) ≡ true
   pub few-points : length (n .points) ≤ POINTS
@@ -112,6 +112,14 @@ valid-is n h =
       few-deps = leb-true (length (n .deps)) DEPENDENCES (c .0);
       all-deps = c .1;
     }
+
+pub is-valid : (n : Nest) → Valid n → isValid n ≡ true
+is-valid n v =
+    and-intro
+    (v .shape)
+    (and-intro
+    (le-leb (length (n .points)) POINTS (v .few-points))
+    (and-intro (le-leb (length (n .deps)) DEPENDENCES (v .few-deps)) (v .all-deps)))
 
 -- the gaps of a well placed dependence, as facts
 pub line-gap : (ps : List ℕ) (e : Dep) (g : ℕ) → e .kind ≡ INDEPENDENT → hasGap ps e g ≡ true → (e .s < g) × (g ≤ e .t)

@@ -2,18 +2,17 @@
 -- Main statements: `Tried`, what a turn keeps; `tried-start`, `tried-cut`, `tried-uncut`, `tried-done`;
 -- `carried-by-loop`.
 use mathlib.Core.Path.{_≡_, refl, sym, _∙_}
-use mathlib.Core.Bool.{true, false, _&&_}
+use mathlib.Core.Bool.{true, false}
 use mathlib.Core.List.{List, [], _∷_}
 use mathlib.Core.Logic.{⊎-elim}
 use Prim.Native.Nat.{ℕ, zero, suc, _+_, _≤_}
 use native.Mathlib.Omega.{arith}
-use lib.Dec.{leb}
 use lib.ListN.{length, drop, drop-of-length-le}
 use Rattle.laws.proofs.Tests.{and-true}
-use Rattle.nests.specs.Kinds.{INDEPENDENT, POINTS, DEPENDENCES}
-use Rattle.nests.specs.Nests.{Dep, Nest}
+use Rattle.nests.specs.Kinds.{INDEPENDENT}
+use Rattle.nests.specs.Nests.{Dep}
 use Rattle.nests.specs.Loops.{isDo}
-use Rattle.nests.specs.Valid.{isShape, isDep, areDeps, isValid}
+use Rattle.nests.specs.Valid.{isDep, areDeps}
 use Rattle.nests.proofs.Deps.{dep-fits, Line, Back}
 use Rattle.placements.specs.Placements.{cuts, uncutFrom}
 
@@ -41,28 +40,6 @@ module _ (ps : List ℕ) (ds : List Dep) (gs : List ℕ) (i : ℕ) (p : Tried ps
   tried-done h =
       let z : uncutFrom i ps (drop i ds) gs ≡ 0 = rw (drop-of-length-le ds h) in
       sym z ∙ p .rest
-
--- of a valid nest
-pub valid-shape : (n : Nest) → isValid n ≡ true → isShape (n .points) ≡ true
-valid-shape n h =
-    and-true
-    (isShape (n .points))
-    (leb (length (n .points)) POINTS && (leb (length (n .deps)) DEPENDENCES && areDeps (n .points) (n .deps)))
-    h .0
-
-pub valid-deps : (n : Nest) → isValid n ≡ true → areDeps (n .points) (n .deps) ≡ true
-valid-deps n h =
-    let a =
-    and-true
-    (isShape (n .points))
-    (leb (length (n .points)) POINTS && (leb (length (n .deps)) DEPENDENCES && areDeps (n .points) (n .deps)))
-    h in
-    let b =
-    and-true
-    (leb (length (n .points)) POINTS)
-    (leb (length (n .deps)) DEPENDENCES && areDeps (n .points) (n .deps))
-    (a .1) in
-    and-true (leb (length (n .deps)) DEPENDENCES) (areDeps (n .points) (n .deps)) (b .1) .1
 
 -- each dependence is one
 dep-at : (ps : List ℕ) (ds : List Dep) (i : ℕ) (e : Dep) (es : List Dep) →

@@ -19,6 +19,7 @@ use Rattle.nests.specs.Kinds.{DO, INDEPENDENT, CARRIED, POINTS, DEPTH, DEPENDEN
 use Rattle.nests.specs.Nests.{Dep, dep, Nest, nest, empty}
 use Rattle.nests.specs.Loops.{depth, isClosed}
 use Rattle.nests.specs.Valid.{namesPoints, runsRight, isDep, areDeps, isValid, depFault}
+use Rattle.nests.proofs.Deps.{Valid, is-valid}
 use Rattle.lines.specs.Lines.{Line, linesOf, isGood, frameOf, lineText}
 use Rattle.lines.proofs.Spelling.{lineBytes, linesText, lines-text, good-bytes}
 use Rattle.texts.specs.NestTexts.{kindOf, isPoint, kindGood, depOf, pointFault, dependenceFault, frameFault}
@@ -29,7 +30,7 @@ use Rattle.texts.proofs.Shapes.{Begins, begins-none, begins-first, begi
 use Rattle.texts.proofs.NestFrames.{Sort, opens, ends, states, runs, carries, sort-of}
 use Rattle.texts.proofs.NestFrames.{points-text-more, deps-text-more}
 use Rattle.texts.proofs.Refusals.{accepted-got}
-use Rattle.texts.proofs.Spelled.{Keeps, keeps-valid, valid-accepted}
+use Rattle.texts.proofs.Spelled.{valid-accepted}
 
 -- a nest partly read
 pub record Begun (n : Nest) : Type 0 where
@@ -178,8 +179,9 @@ lines-accepted k n [] m b h = go (isClosed (n .points)) refl h
     go true e q =
         let same : n ≡ m = ap (λ (g : Got). g .nest-is) q in
         let shape = begins-closed (n .points) (b .shape) e in
-        let keeps : Keeps n = record { shape = shape; few = b .few; many = b .many; deps = b .deps } in
-        rw (← same) (record { valid = keeps-valid n keeps; text = append-nil (nestText n) })
+        let valid : Valid n =
+        record { shape = shape; few-points = b .few; few-deps = b .many; all-deps = b .deps } in
+        rw (← same) (record { valid = is-valid n valid; text = append-nil (nestText n) })
     go false e q = absurd (omega (arith, ap (λ (g : Got). g .number) q))
 lines-accepted k n (l ∷ ls) m b h =
     go (eqb (lineFault n l) 0) refl h (lines-accepted (suc k) (withFrame n (frameOf (l .bytes))) ls m)

@@ -15,13 +15,14 @@ use Rattle.laws.proofs.Tests.{and-intro}
 use Rattle.nests.specs.Kinds.{INDEPENDENT, CARRIED}
 use Rattle.nests.specs.Nests.{Dep, Nest}
 use Rattle.nests.specs.Valid.{isValid}
+use Rattle.nests.proofs.Deps.{valid-is}
 use Rattle.lines.specs.Lines.{lineText}
 use Rattle.lines.proofs.Spelling.{areBytes}
 use Rattle.texts.specs.NestTexts.{blank, readNest, depFrame, pointsText, depsText, nestText}
 use Rattle.texts.specs.PlacementTexts.{keyText}
 use Rattle.texts.specs.Program.{REFUSAL, LONGEST, refusalText, countsText, programText}
 use Rattle.texts.proofs.Refusals.{numbers-to-7, place-within}
-use Rattle.texts.proofs.Spelled.{valid-keeps, valid-accepted}
+use Rattle.texts.proofs.Spelled.{valid-accepted}
 
 points-length : (ps : List ℕ) → length (pointsText ps) ≡ 3 * length ps
 unfolding pointsText
@@ -48,10 +49,10 @@ deps-length (e ∷ ds) =
 pub spelling-short : (n : Nest) → isValid n ≡ true → length (nestText n) ≤ LONGEST
 unfolding nestText
 spelling-short n h =
-    let k = valid-keeps n h in
+    let v = valid-is n h in
     let points = points-length (n .points) in
     let deps = deps-length (n .deps) in
-    omega (arith, k .few, k .many, length-append (pointsText (n .points)) (depsText (n .deps)))
+    omega (arith, v .few-points, v .few-deps, length-append (pointsText (n .points)) (depsText (n .deps)))
 
 -- a valid nest: its key, then its counts
 pub program-accepted

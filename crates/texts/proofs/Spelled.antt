@@ -15,6 +15,7 @@ use Rattle.nests.specs.Kinds.{DO, STATEMENT, INDEPENDENT, CARRIED, POINTS, DEPT
 use Rattle.nests.specs.Nests.{Dep, Nest, nest, empty}
 use Rattle.nests.specs.Loops.{depth, isClosed}
 use Rattle.nests.specs.Valid.{closes, isShape, namesPoints, runsRight, isDep, areDeps, isValid}
+use Rattle.nests.proofs.Deps.{Valid, valid-is}
 use Rattle.lines.specs.Lines.{linesOf}
 use Rattle.lines.proofs.Spelling.{areBytes}
 use Rattle.texts.specs.NestTexts.{isPoint, pointFault, frameFault, withFrame, got, readLines, readNest}
@@ -135,56 +136,26 @@ deps-read k ps ds (e ∷ es) closed small few h =
     let rest = deps-read (suc k) ps (ds ++ (e ∷ [])) es closed small (omega arith) (a .1) in
     first ∙ rw (fits .1) (rest ∙ rw append-assoc)
 
--- what a valid nest keeps to
-pub record Keeps (n : Nest) : Type 0 where
-  pub shape : isShape (n .points) ≡ true
-  pub few : length (n .points) ≤ POINTS
-  pub many : length (n .deps) ≤ DEPENDENCES
-  pub deps : areDeps (n .points) (n .deps) ≡ true
-
-pub valid-keeps : (n : Nest) → isValid n ≡ true → Keeps n
-valid-keeps n h =
-    let ps = n .points in
-    let ds = n .deps in
-    let many = leb (length ds) DEPENDENCES && areDeps ps ds in
-    let a = and-true (isShape ps) (leb (length ps) POINTS && many) h in
-    let b = and-true (leb (length ps) POINTS) many (a .1) in
-    let c = and-true (leb (length ds) DEPENDENCES) (areDeps ps ds) (b .1) in
-    record {
-      shape = a .0;
-      few = leb-true (length ps) POINTS (b .0);
-      many = leb-true (length ds) DEPENDENCES (c .0);
-      deps = c .1;
-    }
-
-pub keeps-valid : (n : Nest) → Keeps n → isValid n ≡ true
-keeps-valid n k =
-    and-intro
-    (k .shape)
-    (and-intro
-    (le-leb (length (n .points)) POINTS (k .few))
-    (and-intro (le-leb (length (n .deps)) DEPENDENCES (k .many)) (k .deps)))
-
 spelling-read
     : (ps : List ℕ) (ds : List Dep)
-    → Keeps (nest ps ds)
+    → Valid (nest ps ds)
     → readNest (nestText (nest ps ds)) ≡ got 0 0 (nest ps ds)
 unfolding nestText pointsText
-spelling-read [] ds k = never (k .shape)
-spelling-read (p ∷ r) ds k =
-    let z = and-true (eqb p DO) (closes 1 r) (k .shape) in
+spelling-read [] ds v = never (v .shape)
+spelling-read (p ∷ r) ds v =
+    let z = and-true (eqb p DO) (closes 1 r) (v .shape) in
     let is = eqb-true p DO (z .0) in
     let point : isPoint p ≡ true = rw is in
     let none : frameFault empty (p ∷ []) ≡ 0 = rw is in
     let text = pointsText r ++ depsText ds in
     let first = read-frame 1 empty (p ∷ []) text (point-bytes p point) refl none in
     let deep : closes (depth (p ∷ [])) r ≡ true = rw (z .0) (z .1) in
-    let points = points-read 2 (p ∷ []) r (depsText ds) (omega arith) (omega (arith, k .few)) deep in
-    let closed = shape-closed (p ∷ r) (k .shape) in
-    let deps = deps-read (2 + length r) (p ∷ r) [] ds closed (k .few) (omega (arith, k .many)) (k .deps) in
+    let points = points-read 2 (p ∷ []) r (depsText ds) (omega arith) (omega (arith, v .few-points)) deep in
+    let closed = shape-closed (p ∷ r) (v .shape) in
+    let deps = deps-read (2 + length r) (p ∷ r) [] ds closed (v .few-points) (omega (arith, v .few-deps)) (v .all-deps) in
     lines-read (nestText (nest (p ∷ r) ds)) (omega arith)
     ∙ rw append-assoc (first ∙ rw (with-point empty p point) (points ∙ deps))
 
 -- a valid nest's spelling is accepted with that nest
 pub valid-accepted : (n : Nest) → isValid n ≡ true → readNest (nestText n) ≡ got 0 0 n
-valid-accepted n h = spelling-read (n .points) (n .deps) (valid-keeps n h)
+valid-accepted n h = spelling-read (n .points) (n .deps) (valid-is n h)

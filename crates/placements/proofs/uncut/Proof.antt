@@ -9,11 +9,12 @@ use borrow.Author.Needs.{needs}
 use Rattle.nests.specs.declared.Dependence as DE
 use Rattle.nests.specs.Nests.{Dep}
 use Rattle.nests.specs.Stored.{depIn, nestIn}
+use Rattle.nests.proofs.Deps.{valid-is}
 use Rattle.nests.proofs.Stored.{depsIn-at, counted-many, counted-points}
 use Rattle.placements.specs.Words.{gapsIn}
 use Rattle.placements.specs.Answers.{isCut, CutSays}
 use Rattle.placements.proofs.Trying.{Tried, tried-start, tried-cut, tried-uncut, tried-done}
-use Rattle.placements.proofs.Trying.{valid-deps, carried-by-loop}
+use Rattle.placements.proofs.Trying.{carried-by-loop}
 use Rattle.placements.proofs.uncut.Statement.{statement}
 use Rattle.placements.proofs.uncut.Tie as tie
 
@@ -96,7 +97,7 @@ told c =
     (b4 .loop .i)
     (tried c)
     (drop (suc (b4 .loop .i)) (n .deps))
-    (valid-deps n (b8 .pre .1))
+    (valid-is n (b8 .pre .1) .all-deps)
     (here c)
     k))
 
