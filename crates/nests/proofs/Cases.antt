@@ -9,7 +9,7 @@ use lib.Dec.{eqb}
 use lib.ListN.{length, replicate}
 use Rattle.laws.specs.Choice.{pick}
 use Rattle.nests.specs.Kinds.{DO, ENDDO, STATEMENT, INDEPENDENT, CARRIED}
-use Rattle.nests.specs.Nests.{Dep, dep, Nest, nest}
+use Rattle.nests.specs.Nests.{Dep, dep, Nest, nest, withDep}
 use Rattle.nests.specs.Loops.{endOf, ownerOf}
 use Rattle.nests.specs.Gaps.{hasGap}
 use Rattle.nests.specs.Valid.{isShape, depFault, isValid}
@@ -63,7 +63,7 @@ paper-forward = nest (1 ∷ 3 ∷ 3 ∷ 3 ∷ 2 ∷ []) (carried 0 1 3 ∷ [])
 
 -- P with 12010304 beside its own
 abbrev pub paper-P-forward : Nest
-paper-P-forward = nest (paper-P .points) (paper-P .deps ++ (carried 1 3 4 ∷ []))
+paper-P-forward = withDep paper-P (carried 1 3 4)
 
 -- numbers listed for each number below a bound, and compared
 abbrev pub sameList : List ℕ → List ℕ → Bool

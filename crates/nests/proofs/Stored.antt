@@ -10,7 +10,7 @@ use lib.Seq.{take-suc-set, length-take-le}
 use Rattle.nests.specs.declared.Dependence as DE
 use Rattle.nests.specs.declared.Nest as DN
 use Rattle.nests.specs.Kinds.{POINTS, DEPENDENCES}
-use Rattle.nests.specs.Nests.{Dep, Nest, nest}
+use Rattle.nests.specs.Nests.{Dep}
 use Rattle.nests.specs.Stored.{depIn, depsIn, nestIn, IsCounted, PointAdded, DependenceAdded}
 
 -- the first dependences are as many as asked
@@ -61,7 +61,7 @@ module _ (n : DN.Nest) (p : IsCounted n) where
       let pts : take (n .count + 1) (set (n .points) (n .count) k) ≡ take (n .count) (n .points) ++ (k ∷ []) =
       rw add-one (take-suc-set (n .points) (n .count) k (omega arith)) in
       record {
-        nest-is = ap (λ (l : List ℕ). nest l (nestIn n .deps)) pts;
+        nest-is = rw pts;
         one-more = refl;
         same-many = refl;
         counted =
@@ -93,7 +93,7 @@ module _ (n : DN.Nest) (p : IsCounted n) where
       let ds : depsIn (n .many + 1) (set (n .deps) (n .many) e) ≡ depsIn (n .many) (n .deps) ++ (depIn e ∷ []) =
       rw add-one (depsIn-more (n .many) (n .deps) e (omega arith)) in
       record {
-        nest-is = ap (λ (es : List Dep). nest (nestIn n .points) es) ds;
+        nest-is = rw ds;
         same-count = refl;
         one-more = refl;
         counted =

@@ -1,6 +1,6 @@
 -- Nests as lists: the kinds of the points in text order, and the dependences.
--- Main definitions: `Dep`, `Nest`.
-use mathlib.Core.List.{List, []}
+-- Main definitions: `Dep`, `Nest`, `withPoint`, `withDep`.
+use mathlib.Core.List.{List, [], _∷_, _++_}
 use Prim.Native.Nat.{ℕ}
 
 -- 01, "The nest and its gaps": a dependence runs from point s to point t, independent or carried by the loop of DO d;
@@ -24,3 +24,10 @@ nest p d = record { points = p; deps = d }
 
 abbrev pub empty : Nest
 empty = nest [] []
+
+-- a nest with one point more, with one dependence more
+abbrev pub withPoint : Nest → ℕ → Nest
+withPoint n k = nest (n .points ++ (k ∷ [])) (n .deps)
+
+abbrev pub withDep : Nest → Dep → Nest
+withDep n e = nest (n .points) (n .deps ++ (e ∷ []))

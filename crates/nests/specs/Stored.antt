@@ -1,13 +1,13 @@
 -- The nest of the code as a nest of the paper: the first points and dependences of its arrays, up to their counts.
 -- Main definitions: `depIn`, `depsIn`, `nestIn`, `IsCounted`, `PointAdded`, `DependenceAdded`.
 use mathlib.Core.Path.{_≡_}
-use mathlib.Core.List.{List, [], _∷_, _++_}
+use mathlib.Core.List.{List, [], _∷_}
 use Prim.Native.Nat.{ℕ, zero, suc, _+_, _≤_}
 use lib.ListN.{length, take}
 use Rattle.nests.specs.declared.Dependence as DE
 use Rattle.nests.specs.declared.Nest as DN
 use Rattle.nests.specs.Kinds.{POINTS, DEPENDENCES}
-use Rattle.nests.specs.Nests.{Dep, dep, Nest, nest, empty}
+use Rattle.nests.specs.Nests.{Dep, dep, Nest, nest, empty, withPoint, withDep}
 
 abbrev pub depIn : DE.Dependence → Dep
 depIn e = dep (e .kind) (e .d) (e .s) (e .t)
@@ -38,14 +38,14 @@ pub record IsEmpty (r : DN.Nest) : Type 0 where
 
 -- r is n with one point more
 pub record PointAdded (n : DN.Nest) (kind : ℕ) (r : DN.Nest) : Type 0 where
-  pub nest-is : nestIn r ≡ nest (nestIn n .points ++ (kind ∷ [])) (nestIn n .deps)
+  pub nest-is : nestIn r ≡ withPoint (nestIn n) kind
   pub one-more : r .count ≡ n .count + 1
   pub same-many : r .many ≡ n .many
   pub counted : IsCounted r
 
 -- r is n with one dependence more
 pub record DependenceAdded (n : DN.Nest) (e : DE.Dependence) (r : DN.Nest) : Type 0 where
-  pub nest-is : nestIn r ≡ nest (nestIn n .points) (nestIn n .deps ++ (depIn e ∷ []))
+  pub nest-is : nestIn r ≡ withDep (nestIn n) (depIn e)
   pub same-count : r .count ≡ n .count
   pub one-more : r .many ≡ n .many + 1
   pub counted : IsCounted r

@@ -1,12 +1,12 @@
 -- The blank paper: an empty nest text is accepted with the nest 01, 02, and every other text is read line by line.
 -- Main statements: `blank-read`, `lines-read`, `blank-made`.
 use mathlib.Core.Path.{_≡_, refl, ap, _∙_}
-use mathlib.Core.List.{List, [], _∷_, _++_}
+use mathlib.Core.List.{List, [], _∷_}
 use Prim.Native.Nat.{ℕ, _<_}
 use native.Mathlib.Omega.{arith}
 use lib.ListN.{length}
 use Rattle.nests.specs.Kinds.{DO, ENDDO}
-use Rattle.nests.specs.Nests.{Nest, nest, empty}
+use Rattle.nests.specs.Nests.{Nest, empty, withPoint}
 use Rattle.nests.specs.Stored.{nestIn, IsEmpty, PointAdded}
 use Rattle.nests.specs.declared.Nest as DN
 use Rattle.lines.specs.Lines.{linesOf}
@@ -32,5 +32,5 @@ pub blank-made
     → nestIn c ≡ blank
 blank-made a b c e f g =
     g .nest-is
-    ∙ ap (λ (x : Nest). nest (x .points ++ (ENDDO ∷ [])) (x .deps)) (f .nest-is)
-    ∙ ap (λ (x : Nest). nest ((x .points ++ (DO ∷ [])) ++ (ENDDO ∷ [])) (x .deps)) (e .nest-is)
+    ∙ ap (λ (x : Nest). withPoint x ENDDO) (f .nest-is)
+    ∙ ap (λ (x : Nest). withPoint (withPoint x DO) ENDDO) (e .nest-is)

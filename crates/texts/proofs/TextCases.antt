@@ -7,7 +7,7 @@ use mathlib.Core.List.{List, [], _∷_, _++_}
 use Prim.Native.Nat.{ℕ}
 use lib.ListN.{length, replicate}
 use Rattle.nests.specs.Kinds.{INDEPENDENT, CARRIED}
-use Rattle.nests.specs.Nests.{dep, Nest, nest, empty}
+use Rattle.nests.specs.Nests.{dep, Nest, nest, empty, withDep}
 use Rattle.lines.specs.Lines.{linesOf, frameOf}
 use Rattle.lines.proofs.Spelling.{framesText}
 use Rattle.texts.specs.NestTexts.{got, readLines, blank, readNest, pointsText, depsText, nestText}
@@ -101,7 +101,7 @@ forward-read = refl
 
 pub P-forward-read
     : readNest (P-lines ++ framesText ((0x12 ∷ 0x01 ∷ 0x03 ∷ 0x04 ∷ []) ∷ []))
-    ≡ got 0 0 (nest (P .points) (P .deps ++ (dep CARRIED 1 3 4 ∷ [])))
+    ≡ got 0 0 (withDep P (dep CARRIED 1 3 4))
 unfolding readNest readLines linesOf frameOf
 P-forward-read = refl
 

@@ -7,7 +7,7 @@ use lib.Dec.{eqb, leb}
 use lib.ListN.{length, getD}
 use Rattle.laws.specs.Choice.{pick, when, firstOf, between}
 use Rattle.nests.specs.Kinds.{DO, ENDDO, STATEMENT, INDEPENDENT, CARRIED, POINTS, DEPTH, DEPENDENCES}
-use Rattle.nests.specs.Nests.{Dep, dep, Nest, nest, empty}
+use Rattle.nests.specs.Nests.{Dep, dep, Nest, nest, empty, withPoint, withDep}
 use Rattle.nests.specs.Loops.{depth, isClosed}
 use Rattle.nests.specs.Valid.{depFault}
 use Rattle.lines.specs.Lines.{Line, linesOf, isGood, frameOf, lineText}
@@ -59,8 +59,8 @@ abbrev pub withFrame : Nest → List ℕ → Nest
 withFrame n f =
     pick
     (isPoint (kindOf f))
-    (nest (n .points ++ (kindOf f ∷ [])) (n .deps))
-    (nest (n .points) (n .deps ++ (depOf f ∷ [])))
+    (withPoint n (kindOf f))
+    (withDep n (depOf f))
 
 -- 1 to 7 for a line; 0 for none
 abbrev pub lineFault : Nest → Line → ℕ
