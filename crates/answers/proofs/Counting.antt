@@ -1,7 +1,7 @@
--- The counts written loop by loop, in order of the DOs: what is written and what is left give the whole text, whatever
--- the dependences.
+-- The counts written loop by loop, in order of the DOs: what is written and what is left give the whole text, in each
+-- nest with these points.
 -- Main statements: `Counting`, what a turn keeps; `count-begin`, `count-skip`, `count-on`, `count-done`.
-use mathlib.Core.Path.{_≡_, sym, _∙_, ap}
+use mathlib.Core.Path.{_≡_, refl, _∙_, ap}
 use mathlib.Core.Bool.{true}
 use mathlib.Core.List.{List, [], _∷_, _++_}
 use Prim.Native.Nat.{ℕ, _+_, _-_, _*_, _%_, _≤_, _<_}
@@ -12,7 +12,7 @@ use lib.Seq.{drop-cons}
 use borrow.Author.Tests.{eq-eqb, ne-eqb}
 use borrow.Rule.Slice.PartMut.{midOf, putMid}
 use Rattle.nests.specs.Kinds.{DO, POINTS}
-use Rattle.nests.specs.Nests.{Dep, Nest, nest}
+use Rattle.nests.specs.Nests.{Nest, nest}
 use Rattle.lines.specs.Lines.{lineText}
 use Rattle.lines.specs.Writing.{over}
 use Rattle.lines.proofs.Parts.{Partly, part-begin, part-room, part-length, part-on, part-left, part-done}
@@ -49,11 +49,11 @@ rest-end n gs d h = rw (drop-of-length-le (n .points) {i = d} h)
 -- the lines of the loops before point d are written
 pub record Counting (ps gs o out : List ℕ) (at d : ℕ) : Type 0 where
   pub low : d ≤ length ps
-  pub part : (ds : List Dep) → Partly (countsText (nest ps ds) gs) (restOf (nest ps ds) gs d) o out at
+  pub part : (n : Nest) → n .points ≡ ps → Partly (countsText n gs) (restOf n gs d) o out at
 
 pub count-begin : (ps gs o : List ℕ) → Counting ps gs o o 0 0
 unfolding restOf
-count-begin ps gs o = record { low = omega arith; part = λ ds. part-begin (countsText (nest ps ds) gs) o }
+count-begin ps gs o = record { low = omega arith; part = λ n same. part-begin (countsText n gs) o }
 
 module _
     (ps gs o out : List ℕ)
@@ -61,46 +61,46 @@ module _
     (c : Counting ps gs o out at d)
     (room : 7 * length ps ≤ length o)
   where
-    fits : (ds : List Dep) → length (countsText (nest ps ds) gs) ≤ length o
-    fits ds = omega (arith, counts-length (nest ps ds) gs 0 ps)
+    -- one nest with these points
+    abbrev bare : Nest
+    bare = nest ps []
+
+    fits : (n : Nest) → n .points ≡ ps → length (countsText n gs) ≤ length o
+    fits n same = omega (arith, counts-length n gs 0 (n .points), ap length same)
 
     pub count-length : length out ≡ length o
-    count-length = part-length (countsText (nest ps []) gs) (restOf (nest ps []) gs d) o out at (c .part []) (fits [])
+    count-length = part-length (countsText bare gs) (restOf bare gs d) o out at (c .part bare refl) (fits bare refl)
+
+    within : length (restOf bare gs d) + at ≤ length o
+    within = omega (arith, part-room (countsText bare gs) (restOf bare gs d) o out at (c .part bare refl) (fits bare refl))
 
     pub count-within : at ≤ length o
-    count-within =
-        omega (arith, part-room (countsText (nest ps []) gs) (restOf (nest ps []) gs d) o out at (c .part []) (fits []))
+    count-within = omega (arith, within)
 
     pub count-skip : d < length ps → (getD ps d 0 ≡ DO → ⊥) → Counting ps gs o out at (d + 1)
     count-skip h e =
         record {
           low = omega arith;
           part =
-              λ ds.
-              part-left (countsText (nest ps ds) gs) (restOf (nest ps ds) gs d) o out at (c .part ds)
-              (restOf (nest ps ds) gs (d + 1))
-              (rest-skip (nest ps ds) gs d h e);
+              λ n same.
+              part-left (countsText n gs) (restOf n gs d) o out at (c .part n same) (restOf n gs (d + 1))
+              (rest-skip n gs d (rw same h) (rw same e));
         }
 
     module _ (h : d < length ps) (e : getD ps d 0 ≡ DO) where
       pub count-room : at + 7 ≤ length o
       count-room =
-          let n = nest ps [] in
-          let line = lineText (COUNT ∷ (d ∷ (loopCount n gs d ∷ []))) in
-          let long : length (restOf n gs d) ≡ length line + length (restOf n gs (d + 1)) =
-          ap length (rest-do n gs d h e) ∙ length-append line (restOf n gs (d + 1)) in
-          omega (
-            arith,
-            line-length d (loopCount n gs d),
-            part-room (countsText n gs) (restOf n gs d) o out at (c .part []) (fits []),
-          )
+          let line = lineText (COUNT ∷ (d ∷ (loopCount bare gs d ∷ []))) in
+          let long : length (restOf bare gs d) ≡ length line + length (restOf bare gs (d + 1)) =
+          ap length (rest-do bare gs d h e) ∙ length-append line (restOf bare gs (d + 1)) in
+          omega (arith, line-length d (loopCount bare gs d), within)
 
       -- the line of the loop whose DO is d, where `ones` is its count
       pub count-on
           : (ones r : ℕ) (q : List ℕ)
           → length ps ≤ POINTS
           → areGapsFrom 0 (length ps) gs ≡ true
-          → ((ds : List Dep) → ones ≡ loopCount (nest ps ds) gs d)
+          → ((n : Nest) → n .points ≡ ps → ones ≡ loopCount n gs d)
           → r ≡ length (lineText (COUNT ∷ (d % 256 ∷ (ones % 256 ∷ []))))
           → q ≡ over (lineText (COUNT ∷ (d % 256 ∷ (ones % 256 ∷ [])))) (midOf at (length out - at) out)
           → Counting ps gs o (putMid at (length out - at) out q) (at + r) (d + 1)
@@ -108,23 +108,23 @@ module _
           record {
             low = omega arith;
             part =
-                λ ds.
-                let n = nest ps ds in
+                λ n same.
                 let loop : d % 256 ≡ d = omega arith in
-                let count : ones % 256 ≡ loopCount n gs d = omega (arith, is ds, count-byte n gs d few gaps) in
+                let byte = count-byte n gs d (rw same few) (rw same gaps) in
+                let count : ones % 256 ≡ loopCount n gs d = omega (arith, is n same, byte) in
                 part-on
                 (countsText n gs)
                 (restOf n gs d)
                 o
                 out
                 at
-                (c .part ds)
+                (c .part n same)
                 (lineText (COUNT ∷ (d % 256 ∷ (ones % 256 ∷ []))))
                 (restOf n gs (d + 1))
                 q
                 r
-                (fits ds)
-                (rw (loop, count) (rest-do n gs d h e))
+                (fits n same)
+                (rw (loop, count) (rest-do n gs d (rw same h) (rw same e)))
                 l
                 w;
           }
@@ -132,12 +132,14 @@ module _
     pub count-done : length ps ≤ d → CountsSay ps gs o out at
     count-done h =
         record {
-          length-is = λ ds. all ds .0;
-          out-is = λ ds. all ds .1;
+          length-is = λ n same. all n same .0;
+          out-is = λ n same. all n same .1;
         }
       where
-        all : (ds : List Dep) → (at ≡ length (countsText (nest ps ds) gs)) × (out ≡ over (countsText (nest ps ds) gs) o)
-        all ds =
-            part-done (countsText (nest ps ds) gs) o out at
-            (part-left (countsText (nest ps ds) gs) (restOf (nest ps ds) gs d) o out at (c .part ds) []
-            (rest-end (nest ps ds) gs d h))
+        all
+            : (n : Nest)
+            → n .points ≡ ps
+            → (at ≡ length (countsText n gs)) × (out ≡ over (countsText n gs) o)
+        all n same =
+            part-done (countsText n gs) o out at
+            (part-left (countsText n gs) (restOf n gs d) o out at (c .part n same) [] (rest-end n gs d (rw same h)))

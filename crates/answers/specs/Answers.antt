@@ -4,7 +4,7 @@ use mathlib.Core.Path.{_≡_}
 use mathlib.Core.List.{List, _++_}
 use Prim.Native.Nat.{ℕ}
 use lib.ListN.{length}
-use Rattle.nests.specs.Nests.{Dep, Nest, nest}
+use Rattle.nests.specs.Nests.{Nest}
 use Rattle.lines.specs.Writing.{over}
 use Rattle.texts.specs.NestTexts.{readNest}
 use Rattle.texts.specs.PlacementTexts.{keyText}
@@ -19,10 +19,10 @@ ROOM = 4096
 abbrev pub LINES : ℕ
 LINES = 65536
 
--- the counts of the loops in points ps, for any dependences, over the start of the buffer, and their length
+-- the counts of the loops in each nest with points ps, over the start of the buffer, and their length
 pub record CountsSay (ps gs out out′ : List ℕ) (r : ℕ) : Type 0 where
-  pub length-is : (ds : List Dep) → r ≡ length (countsText (nest ps ds) gs)
-  pub out-is : (ds : List Dep) → out′ ≡ over (countsText (nest ps ds) gs) out
+  pub length-is : (n : Nest) → n .points ≡ ps → r ≡ length (countsText n gs)
+  pub out-is : (n : Nest) → n .points ≡ ps → out′ ≡ over (countsText n gs) out
 
 -- the key's frames, then the counts
 abbrev pub keyAndCounts : Nest → List ℕ → List ℕ

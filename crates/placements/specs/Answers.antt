@@ -1,6 +1,6 @@
 -- The answers of the code as numbers of the definitions, for each of their cases.
 -- Main definitions: `cutOf`, `isCut`, `CutSays`, `foundOf`, `IsMask`, `Difference`, `differenceIn`, `differenceOf`,
--- `CompareSays`.
+-- `LoopCountSays`, `CompareSays`.
 use mathlib.Core.Path.{_≡_}
 use mathlib.Core.Bool.{Bool, true, false}
 use mathlib.Core.List.{List}
@@ -10,7 +10,7 @@ use lib.ListN.{length}
 use Rattle.laws.specs.Choice.{pick}
 use Rattle.nests.specs.declared.Dependence as DE
 use Rattle.nests.specs.Kinds.{INDEPENDENT}
-use Rattle.nests.specs.Nests.{Dep, Nest, nest}
+use Rattle.nests.specs.Nests.{Dep, Nest}
 use Rattle.nests.specs.Loops.{endOf, ownerOf}
 use Rattle.nests.specs.Stored.{depIn}
 use Rattle.placements.specs.declared.Cut as DC
@@ -71,6 +71,10 @@ differenceOf n key gs =
     (difference 0 0 0)
     (difference (differ n key gs) (loopCount n gs (differ n key gs - 1)) (loopCount n key (differ n key gs - 1)))
 
--- the answer for the points of a nest and two placements, as words
+-- the count of loop d in each nest with these points, for a placement as words
+abbrev pub LoopCountSays : List ℕ → ℕ → List ℕ → ℕ → Type 0
+LoopCountSays ps d ws r = (n : Nest) → n .points ≡ ps → r ≡ loopCount n (gapsIn ws) d
+
+-- the answer for each nest with these points and two placements, as words
 abbrev pub CompareSays : List ℕ → List ℕ → List ℕ → DP.Compared → Type 0
-CompareSays ps key ws r = (ds : List Dep) → differenceIn r ≡ differenceOf (nest ps ds) (gapsIn key) (gapsIn ws)
+CompareSays ps key ws r = (n : Nest) → n .points ≡ ps → differenceIn r ≡ differenceOf n (gapsIn key) (gapsIn ws)

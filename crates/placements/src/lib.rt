@@ -3,19 +3,18 @@ use nests::Dependence;
 use nests::Nest;
 ghost use mathlib.Core.Path.{_≡_};
 ghost use mathlib.Core.Bool.{true, false, _||_, _&&_};
-ghost use mathlib.Core.List.{List};
 ghost use Prim.Native.Nat.{ℕ, _+_, _<_, _≤_};
 ghost use lib.Dec.{eqb, ltb};
 ghost use lib.ListN.{length};
 ghost use Rattle.laws.specs.Bits.{bit, tally};
 ghost use Rattle.laws.specs.Choice.{between};
-ghost use Rattle.nests.specs.Nests.{Dep, nest};
 ghost use Rattle.nests.specs.Loops.{isDo, endOf};
 ghost use Rattle.nests.specs.Valid.{isShape, isValid};
 ghost use Rattle.nests.specs.Stored.{depIn, nestIn, IsCounted};
-ghost use Rattle.placements.specs.Placements.{uncut, areGapsFrom, loopCount};
+ghost use Rattle.placements.specs.Placements.{uncut, areGapsFrom};
 ghost use Rattle.placements.specs.Words.{GAPS, holds, gapsIn, LowestFrom, LowestIn};
-ghost use Rattle.placements.specs.Answers.{cutOf, isCut, CutSays, CutInSays, foundOf, IsMask, CompareSays};
+ghost use Rattle.placements.specs.Answers.{cutOf, isCut, CutSays, CutInSays, foundOf, IsMask};
+ghost use Rattle.placements.specs.Answers.{LoopCountSays, CompareSays};
 
 // A set of gaps: gap g is bit g mod 64 of word g / 64.
 #[repr(C)]
@@ -228,7 +227,7 @@ pub fn count_of(points: &[u8], d: usize, p: Placement) -> usize
     requires { ⌜ (isShape (now points) ≡ true) × (length (now points) ≤ GAPS) ⌝ }
     requires { ⌜ isDo (now points) d ≡ true ⌝ }
     requires { ⌜ areGapsFrom 0 (length (now points)) (gapsIn (p .words)) ≡ true ⌝ }
-    ensures { λ r. ⌜ ((ds : List Dep) → r ≡ loopCount (nest (now (points .entry)) ds) (gapsIn (p .words)) d) ⌝ }
+    ensures { λ r. ⌜ LoopCountSays (now (points .entry)) d (p .words) r ⌝ }
 {
     let e = nests::end_of(points, d);
     let mask = loop_mask(points, d, e);

@@ -11,14 +11,13 @@ use Rattle.answers.proofs.write_both.Tie as tie
 
 -- what the caller owes
 ready
-    : (s : tie.Start)
-    → let n = nestIn (s .args .nest) in Ready (n .points) (n .deps) (gapsIn (s .args .key .words)) (s .args .out .now)
+    : (s : tie.Start) → Ready (nestIn (s .args .nest)) (gapsIn (s .args .key .words)) (s .args .out .now)
 ready s =
     let p = s .pre .1 in
     record { few = valid-is (nestIn (s .args .nest)) (p .0) .few-points; gaps = p .1 .0; room = p .1 .1 }
 
 write-text-requires : tie.Need-write-text-requires
-write-text-requires c κs = omega (arith, key-fits _ _ _ _ (ready (c .before .before .before)))
+write-text-requires c κs = omega (arith, key-fits _ _ _ (ready (c .before .before .before)))
 
 array-share-prefix-points : tie.Need-array-share-prefix-points
 array-share-prefix-points c =
@@ -33,14 +32,14 @@ sub-write-counts c =
     let b3 = c .before .before .before in
     let b7 = b3 .before .before .before .before in
     let w = b3 .write-text in
-    at-within _ _ _ _ (ready b7) (w .last .1 .0) (w .result) (w .ensures .0) (w .ensures .1)
+    at-within _ _ _ (ready b7) (w .last .1 .0) (w .result) (w .ensures .0) (w .ensures .1)
 
 part-write-counts-start : tie.Need-part-write-counts-start
 part-write-counts-start c =
     let b3 = c .before .before .before in
     let b7 = b3 .before .before .before .before in
     let w = b3 .write-text in
-    let z = at-within _ _ _ _ (ready b7) (w .last .1 .0) (w .result) (w .ensures .0) (w .ensures .1) in
+    let z = at-within _ _ _ (ready b7) (w .last .1 .0) (w .result) (w .ensures .0) (w .ensures .1) in
     search needs
 
 part-write-counts-end : tie.Need-part-write-counts-end
@@ -54,7 +53,7 @@ write-counts-requires c κs =
     let w = b4 .write-text in
     let v = valid-is (nestIn (b8 .args .nest)) (b8 .pre .1 .0) in (
       (v .shape, y .few),
-      (y .gaps, counts-fit _ _ _ _ y (w .last .1 .0) (w .result) (w .ensures .0) (w .ensures .1)),
+      (y .gaps, counts-fit _ _ _ y (w .last .1 .0) (w .result) (w .ensures .0) (w .ensures .1)),
     )
 
 add-result : tie.Need-add-result
@@ -65,7 +64,7 @@ add-result c =
     let w = b7 .write-text in
     let k = b2 .write-counts in
     let z =
-    both-short _ _ _ _ (ready b11) (w .last .1 .0) (w .result) (w .ensures .0) (w .ensures .1) (k .last .1 .1 .0)
+    both-short _ _ _ (ready b11) (w .last .1 .0) (w .result) (w .ensures .0) (w .ensures .1) (k .last .1 .1 .0)
     (k .result) (k .ensures) in
     omega (arith, z)
 
@@ -79,7 +78,7 @@ returns c =
     let b11 = b7 .before .before .before .before in
     let w = b7 .write-text in
     let k = b2 .write-counts in
-    both-written _ _ _ _ (ready b11) (w .last .1 .0) (w .result) (w .ensures .0) (w .ensures .1) (k .last .1 .1 .0)
+    both-written _ _ _ (ready b11) (w .last .1 .0) (w .result) (w .ensures .0) (w .ensures .1) (k .last .1 .1 .0)
     (k .result) (k .ensures)
 
 pub write-both-spec : {M : Type 1} → statement M

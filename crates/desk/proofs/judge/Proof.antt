@@ -48,7 +48,7 @@ returns-2 c =
     let t = c .before .before .before .before .before .before in
     let a = t .before .before .args in
     let n = nestIn (a .nest) in
-    let difference = c .before .before .before .compare .ensures (n .deps) in
+    let difference = c .before .before .before .compare .ensures n refl in
     dearer-is n (gapsIn (a .key .words)) (gapsIn (a .placement .words)) _ _ _
     (sym (t .before .uncut .ensures) ∙ t .if1 .left)
     (ap differenceIn (sym (c .before .compared .given .1)) ∙ difference)
@@ -58,7 +58,7 @@ returns-3 c =
     let t = c .before .before .before .before .before in
     let a = t .before .before .args in
     let n = nestIn (a .nest) in
-    let difference = c .before .before .compare .ensures (n .deps) in
+    let difference = c .before .before .compare .ensures n refl in
     best-is n (gapsIn (a .key .words)) (gapsIn (a .placement .words)) (sym (t .before .uncut .ensures) ∙ t .if1 .left)
     (ap differenceIn (sym (c .enum-told .given .1)) ∙ difference)
 

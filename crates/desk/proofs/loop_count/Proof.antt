@@ -55,7 +55,7 @@ returns-2 c =
     let d = c .before .before in
     count-is (a .desk) (a .point) _ (sym (t .before .key-fault .ensures) ∙ t .if1 .left)
     (sym (d .before .is-do .ensures) ∙ d .if2 .taken) refl refl
-    (c .count-of .ensures (deskIn (a .desk) .nest-is .deps))
+    (c .count-of .ensures (deskIn (a .desk) .nest-is) refl)
 
 refused-requires-2 : tie.Need-refused-requires-2
 refused-requires-2 c κs = search needs

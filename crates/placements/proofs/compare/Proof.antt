@@ -2,12 +2,11 @@
 -- measure is what is left of the points.
 use mathlib.Core.Path.{_≡_, sym, _∙_}
 use mathlib.Core.Bool.{true}
-use mathlib.Core.List.{List}
 use Prim.Native.Nat.{_-_}
 use native.Mathlib.Omega.{arith}
 use lib.ListN.{length, getD}
 use borrow.Author.Tests.{eq-eqb}
-use Rattle.nests.specs.Nests.{Dep, nest}
+use Rattle.nests.specs.Nests.{Nest}
 use Rattle.nests.specs.Loops.{isEnd}
 use Rattle.nests.proofs.Levels.{end-not-first}
 use Rattle.nests.proofs.Loops.{end-has-do, owner-is-do}
@@ -69,40 +68,41 @@ loop-count-requires-2 c κs = tt
 
 -- the ones under the mask are the loop's counts
 ours
-    : (c : tie.After-loop-count2 Inv-loop μ-loop) (ds : List Dep)
+    : (c : tie.After-loop-count2 Inv-loop μ-loop) (n : Nest)
     → let d = c .before .before .before in
     let a = d .before .before .before .before .before .before .args in
-    c .before .loop-count .result ≡
-    loopCount (nest (a .points .now) ds) (gapsIn (a .key .words)) (d .loop-of .result)
-ours c ds =
+    n .points ≡ a .points .now →
+    c .before .loop-count .result ≡ loopCount n (gapsIn (a .key .words)) (d .loop-of .result)
+ours c n same =
     let b1 = c .before in
     let b2 = b1 .before in
     let b3 = b2 .before in
     let b9 = b3 .before .before .before .before .before .before in
     let a = b9 .args in
     b1 .loop-count .ensures ∙
-    count-masked (nest (a .points .now) ds) (a .key .words) (b2 .loop-mask .result .words) (b3 .loop-of .result)
-    (b9 .pre .1 .0) (b2 .loop-mask .ensures)
+    count-masked n (a .key .words) (b2 .loop-mask .result .words) (b3 .loop-of .result)
+    (rw same (b9 .pre .1 .0)) (rw same (b2 .loop-mask .ensures))
 
 theirs
-    : (c : tie.After-loop-count2 Inv-loop μ-loop) (ds : List Dep)
+    : (c : tie.After-loop-count2 Inv-loop μ-loop) (n : Nest)
     → let d = c .before .before .before in
     let a = d .before .before .before .before .before .before .args in
-    c .loop-count2 .result ≡ loopCount (nest (a .points .now) ds) (gapsIn (a .other .words)) (d .loop-of .result)
-theirs c ds =
+    n .points ≡ a .points .now →
+    c .loop-count2 .result ≡ loopCount n (gapsIn (a .other .words)) (d .loop-of .result)
+theirs c n same =
     let b2 = c .before .before in
     let b3 = b2 .before in
     let b9 = b3 .before .before .before .before .before .before in
     let a = b9 .args in
     c .loop-count2 .ensures ∙
-    count-masked (nest (a .points .now) ds) (a .other .words) (b2 .loop-mask .result .words) (b3 .loop-of .result)
-    (b9 .pre .1 .1) (b2 .loop-mask .ensures)
+    count-masked n (a .other .words) (b2 .loop-mask .result .words) (b3 .loop-of .result)
+    (rw same (b9 .pre .1 .1)) (rw same (b2 .loop-mask .ensures))
 
 returns : tie.Need-returns Inv-loop μ-loop
 returns c =
     let a = c .before .before .before .before .before .before .before .before .before .before .args in
     let l = c .before .before .before .before .before .before .before .before .loop in
-    λ ds.
+    λ n same.
     compare-differ
     (a .points .now)
     (gapsIn (a .key .words))
@@ -113,11 +113,12 @@ returns c =
     (c .before .before .before .before .before .if1 .taken)
     (c .before .before .before .before .loop-of .result)
     (c .before .before .before .before .loop-of .ensures)
-    ds
+    n
     (c .before .before .loop-count .result)
     (c .before .loop-count2 .result)
-    (ours (c .before) ds)
-    (theirs (c .before) ds)
+    same
+    (ours (c .before) n same)
+    (theirs (c .before) n same)
     (c .if2 .taken)
 
 add-e : tie.Need-add-e Inv-loop μ-loop
@@ -140,7 +141,7 @@ loop-again c =
     (c .before .before .before .before .before .if1 .taken)
     (c .before .before .before .before .loop-of .result)
     (c .before .before .before .before .loop-of .ensures)
-    (λ ds. sym (ours (c .before) ds) ∙ c .if2 .left ∙ theirs (c .before) ds)
+    (λ n same. sym (ours (c .before) n same) ∙ c .if2 .left ∙ theirs (c .before) n same)
 
 add-e-2 : tie.Need-add-e-2 Inv-loop μ-loop
 add-e-2 c = omega arith

@@ -1,7 +1,6 @@
 -- `count_of` meets its contract: the ones under the mask of the loop's own gaps (`count-masked`).
 use mathlib.Core.Path.{_∙_}
 use borrow.Author.Needs.{needs}
-use Rattle.nests.specs.Nests.{nest}
 use Rattle.placements.proofs.Masked.{count-masked}
 use Rattle.placements.proofs.count_of.Statement.{statement}
 use Rattle.placements.proofs.count_of.Tie as tie
@@ -20,10 +19,10 @@ returns c =
     let b1 = c .before in
     let b4 = b1 .before .before .before in
     let a = b4 .args in
-    λ ds.
+    λ n same.
     c .loop-count .ensures ∙
-    count-masked (nest (a .points .now) ds) (a .p .words) (b1 .loop-mask .result .words) (a .d) (b4 .pre .1 .1)
-    (b1 .loop-mask .ensures)
+    count-masked n (a .p .words) (b1 .loop-mask .result .words) (a .d) (rw same (b4 .pre .1 .1))
+    (rw same (b1 .loop-mask .ensures))
 
 pub count-of-spec : {M : Type 1} → statement M
 count-of-spec = tie.close (tie.spec end-of-requires loop-mask-requires loop-count-requires returns)
