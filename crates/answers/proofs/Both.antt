@@ -13,9 +13,10 @@ use Rattle.lines.specs.Writing.{over}
 use Rattle.lines.proofs.Writing.{over-length, over-part}
 use Rattle.placements.specs.Placements.{areGaps}
 use Rattle.texts.specs.PlacementTexts.{keyText}
-use Rattle.texts.specs.Program.{countsText}
-use Rattle.answers.specs.Answers.{ROOM, keyAndCounts, CountsSay}
-use Rattle.answers.proofs.Lengths.{key-room, counts-length}
+use Rattle.texts.specs.Counts.{countsText, CountsSay}
+use Rattle.texts.proofs.Counting.{counts-length}
+use Rattle.answers.specs.Answers.{ROOM, keyAndCounts}
+use Rattle.answers.proofs.Lengths.{key-room}
 
 -- a nest within the limits, gaps of it, and a buffer that is long enough
 pub record Ready (n : Nest) (gs o : List ℕ) : Type 0 where

@@ -1,6 +1,5 @@
 -- Laws of the program's answers.
 pub mod Lengths
-pub mod Counting
 pub mod Both
 pub mod Answering
 pub mod Calls

@@ -8,7 +8,8 @@ use Rattle.nests.specs.Nests.{Nest}
 use Rattle.lines.specs.Writing.{over}
 use Rattle.texts.specs.NestTexts.{readNest}
 use Rattle.texts.specs.PlacementTexts.{keyText}
-use Rattle.texts.specs.Program.{countsText, programText}
+use Rattle.texts.specs.Counts.{countsText}
+use Rattle.texts.specs.Program.{programText}
 use Rattle.keys.specs.KeyOf.{keyOf}
 
 -- the bytes that a buffer must have for every answer
@@ -18,11 +19,6 @@ ROOM = 4096
 -- a line number fits two bytes
 abbrev pub LINES : ℕ
 LINES = 65536
-
--- the counts of the loops in each nest with points ps, over the start of the buffer, and their length
-pub record CountsSay (ps gs out out′ : List ℕ) (r : ℕ) : Type 0 where
-  pub length-is : (n : Nest) → n .points ≡ ps → r ≡ length (countsText n gs)
-  pub out-is : (n : Nest) → n .points ≡ ps → out′ ≡ over (countsText n gs) out
 
 -- the key's frames, then the counts
 abbrev pub keyAndCounts : Nest → List ℕ → List ℕ

@@ -10,7 +10,7 @@ use lib.ListN.{length}
 use borrow.Author.Tests.{eq-eqb}
 use Rattle.laws.specs.Choice.{isIn}
 use Rattle.nests.specs.Nests.{Nest}
-use Rattle.sitting.proofs.GapLists.{in-with, in-without, without-with, with-without}
+use Rattle.placements.proofs.GapLists.{in-with, in-without, without-with, with-without}
 use Rattle.moves.specs.declared.Move as DM
 use Rattle.moves.specs.TakeBack.{Undoes, History}
 use Rattle.moves.specs.Game.{Fits, withMove, sittingGame}

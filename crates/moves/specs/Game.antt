@@ -8,7 +8,7 @@ use lib.ListN.{length}
 use Rattle.laws.specs.Choice.{isIn}
 use Rattle.nests.specs.Nests.{Nest}
 use Rattle.placements.specs.Placements.{areGaps}
-use Rattle.sitting.specs.GapLists.{withGap, without}
+use Rattle.placements.specs.GapLists.{withGap, without}
 use Rattle.moves.specs.declared.Move as DM
 use Rattle.moves.specs.Ring.{KEPT}
 use Rattle.moves.specs.TakeBack.{Game}

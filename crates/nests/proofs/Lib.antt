@@ -4,6 +4,7 @@ pub mod Levels
 pub mod Loops
 pub mod Gaps
 pub mod Deps
+pub mod Around
 pub mod Ring
 pub mod Stored
 pub mod Scan

@@ -11,7 +11,7 @@ use Rattle.nests.specs.declared.Dependence as DE
 use Rattle.nests.specs.declared.Nest as DN
 use Rattle.nests.specs.Kinds.{POINTS, DEPENDENCES}
 use Rattle.nests.specs.Nests.{Dep}
-use Rattle.nests.specs.Stored.{depIn, depsIn, nestIn, IsCounted, PointAdded, DependenceAdded}
+use Rattle.nests.specs.Stored.{depIn, depsIn, IsCounted, PointAdded, DependenceAdded}
 
 -- the first dependences are as many as asked
 pub depsIn-length : (n : ℕ) (xs : List DE.Dependence) → n ≤ length xs → length (depsIn n xs) ≡ n

@@ -48,6 +48,10 @@ ownerFrom (suc d) g ps = elim (isDo ps d && leb g (endOf ps d)) [ true ↦ d | f
 abbrev pub ownerOf : List ℕ → ℕ → ℕ
 ownerOf ps g = ownerFrom g g ps
 
+-- gap g is one of the gaps d + 1 to e of the loop with DO d and ENDDO e
+abbrev pub isAround : List ℕ → ℕ → ℕ → Bool
+isAround ps g d = ltb d g && leb g (endOf ps d)
+
 -- 01, "The nest and its gaps": a point lies inside a loop if it is strictly between that DO and its ENDDO
 abbrev pub isInside : ℕ → ℕ → ℕ → Bool
 isInside d end p = ltb d p && ltb p end

@@ -55,10 +55,13 @@ CarriedTo ps e end = e .kind ≡ CARRIED → isDo ps (e .d) ≡ true → end ≡
 abbrev pub depFault : List ℕ → Dep → ℕ
 depFault ps e = firstOf (when (not (namesPoints ps e)) 6) (when (not (runsRight ps e)) 7)
 
--- a dependence as the paper says; an independent one has no d
+-- one of the two kinds; an independent dependence has no d
+abbrev pub isOfKind : Dep → Bool
+isOfKind e = (eqb (e .kind) INDEPENDENT && eqb (e .d) 0) || eqb (e .kind) CARRIED
+
+-- a dependence as the paper says
 abbrev pub isDep : List ℕ → Dep → Bool
-isDep ps e =
-    ((eqb (e .kind) INDEPENDENT && eqb (e .d) 0) || eqb (e .kind) CARRIED) && (namesPoints ps e && runsRight ps e)
+isDep ps e = isOfKind e && (namesPoints ps e && runsRight ps e)
 
 abbrev pub areDeps : List ℕ → List Dep → Bool
 areDeps ps [] = true

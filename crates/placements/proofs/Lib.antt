@@ -1,6 +1,7 @@
 -- Laws of placements.
 pub mod Words
 pub mod Rising
+pub mod GapLists
 pub mod Lowest
 pub mod Cuts
 pub mod CutTest

@@ -1,6 +1,6 @@
--- The walk back from a gap that finds the loops around it, and the test that a dependence has the gap.
+-- The walk back from a gap that finds the loops around it.
 -- Main statements: `Walked`, what a turn keeps; `walk-start`, `walk-around`, `walk-over-do`, `walk-over-end`,
--- `walk-over-other`, `walk-done`; `line-has`, `line-before`, `ring-around`, `ring-within`, `ring-front`, `ring-out`.
+-- `walk-over-other`, `walk-done`.
 use mathlib.Core.Path.{_≡_, refl, sym, ap, _∙_}
 use mathlib.Core.Bool.{Bool, true, false, _&&_}
 use mathlib.Core.List.{List}
@@ -10,20 +10,13 @@ use native.Mathlib.Omega.{arith}
 use lib.Dec.{ltb, leb}
 use lib.ListN.{length, getD, set, length-set}
 use lib.Seq.{getD-set-same, getD-set-other}
-use borrow.Author.Tests.{eq-eqb, ne-eqb, lt-ltb, le-ltb, le-leb, lt-leb, leb-true}
-use Rattle.laws.specs.Choice.{between}
-use Rattle.laws.proofs.Tests.{le-or, false-by, and-true, and-intro, or-right, never, test}
-use Rattle.laws.proofs.Connectives.{and-off, or-off}
-use Rattle.nests.specs.Kinds.{DO, ENDDO, INDEPENDENT, POINTS}
-use Rattle.nests.specs.Nests.{Dep}
-use Rattle.nests.specs.Loops.{isDo, endOf}
-use Rattle.nests.specs.Gaps.{hasGap}
+use borrow.Author.Tests.{eq-eqb, ne-eqb, lt-ltb, le-ltb, le-leb, leb-true}
+use Rattle.laws.proofs.Tests.{le-or, false-by, and-true, and-intro, never}
+use Rattle.nests.specs.Kinds.{DO, ENDDO, POINTS}
+use Rattle.nests.specs.Loops.{isDo, endOf, isAround}
 use Rattle.nests.specs.Valid.{isShape}
 use Rattle.nests.proofs.Levels.{lev, lev-up, lev-same, lev-falls}
 use Rattle.nests.proofs.Loops.{range-above, end-beyond}
-use Rattle.sitting.specs.Around.{isAround}
-
--- ---- the walk
 
 -- back to i the table is filled; the lowest level from i to the gap is `base`, and the level at i is `depth` above it
 pub record Walked (ps : List ℕ) (g depth i : ℕ) (table : List Bool) : Type 0 where
@@ -207,43 +200,3 @@ pub walk-done
     → isDo ps d ≡ true
     → getD table d false ≡ isAround ps g d
 walk-done ps g depth i table w h d = w .filled d (omega arith)
-
--- ---- the gaps of a dependence
-
-module _ (ps : List ℕ) (e : Dep) (g : ℕ) where
-  pub line-has : e .kind ≡ INDEPENDENT → e .s < g → leb g (e .t) ≡ hasGap ps e g
-  line-has k h = rw (k, le-leb (suc (e .s)) g h)
-
-  pub line-before : e .kind ≡ INDEPENDENT → g ≤ e .s → false ≡ hasGap ps e g
-  line-before k h = rw (k, lt-leb (suc (e .s)) g (omega arith))
-
-  module _ (k : e .kind ≡ INDEPENDENT → ⊥) (starts : e .d < e .s) where
-    abbrev front : Bool
-    front = between (suc (e .d)) g (e .t)
-
-    pub ring-around : e .s < g → isAround ps g (e .d) ≡ true → true ≡ hasGap ps e g
-    ring-around h a =
-        let z = and-true (ltb (e .d) g) (leb g (endOf ps (e .d))) a in
-        rw
-        (ne-eqb (e .kind) INDEPENDENT k)
-        (sym (or-right front (and-intro (le-leb (suc (e .s)) g h) (z .1))))
-
-    pub ring-within : e .s < g → isAround ps g (e .d) ≡ false → leb g (e .t) ≡ hasGap ps e g
-    ring-within h a =
-        let y : ltb (e .d) g ≡ true = lt-ltb (e .d) g (omega arith) in
-        let z : leb g (endOf ps (e .d)) ≡ false = rw y at a in
-        rw (ne-eqb (e .kind) INDEPENDENT k, le-leb (suc (e .d)) g (omega arith), z, and-off (leb (suc (e .s)) g))
-        (sym (or-off (leb g (e .t))))
-
-    pub ring-front : g ≤ e .s → e .d < g → leb g (e .t) ≡ hasGap ps e g
-    ring-front h l =
-        rw (ne-eqb (e .kind) INDEPENDENT k, le-leb (suc (e .d)) g l, lt-leb (suc (e .s)) g (omega arith))
-        (sym (or-off (leb g (e .t))))
-
-    pub ring-out : g ≤ e .s → g ≤ e .d → false ≡ hasGap ps e g
-    ring-out h l =
-        rw (
-          ne-eqb (e .kind) INDEPENDENT k,
-          lt-leb (suc (e .d)) g (omega arith),
-          lt-leb (suc (e .s)) g (omega arith),
-        )

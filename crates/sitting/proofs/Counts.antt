@@ -15,7 +15,7 @@ use Rattle.laws.proofs.Tests.{and-intro, and-true}
 use Rattle.nests.specs.Nests.{Dep, Nest}
 use Rattle.nests.specs.Gaps.{hasGap}
 use Rattle.placements.specs.Placements.{cuts, uncutFrom, uncut, areGaps, isCorrect}
-use Rattle.sitting.specs.GapLists.{withGap}
+use Rattle.placements.specs.GapLists.{withGap}
 use Rattle.sitting.specs.Counts.{cutCount, countAt, hasGapAt, uncutCount}
 
 -- ---- of one dependence

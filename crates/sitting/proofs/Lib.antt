@@ -1,5 +1,4 @@
--- Laws of sittings: gap lists, counts, loops around a gap, the turns and the outcome of a move.
-pub mod GapLists
+-- Laws of sittings: counts, loops around a gap, the turns and the outcome of a move.
 pub mod Words
 pub mod Counts
 pub mod Around

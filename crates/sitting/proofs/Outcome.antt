@@ -17,10 +17,10 @@ use Rattle.placements.specs.Placements.{areGaps}
 use Rattle.placements.specs.Words.{GAPS, holds}
 use Rattle.placements.proofs.Words.{in-gaps}
 use Rattle.sitting.specs.declared.Sitting as DS
-use Rattle.sitting.specs.GapLists.{withGap, without}
+use Rattle.placements.specs.GapLists.{withGap, without}
 use Rattle.sitting.specs.Counts.{cutCount, countAt, hasGapAt, uncutCount}
 use Rattle.sitting.specs.Kept.{barriers, Kept, Ready, EmptySays, PutSays, LiftSays}
-use Rattle.sitting.proofs.GapLists.{rising-with, rising-without, with-without, rising-short}
+use Rattle.placements.proofs.GapLists.{rising-with, rising-without, with-without, rising-short}
 use Rattle.sitting.proofs.Words.{gaps-with, gaps-without}
 use Rattle.sitting.proofs.Counts.{count-with, count-at-with, none-uncut, none-counted}
 

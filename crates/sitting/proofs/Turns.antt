@@ -12,13 +12,14 @@ use Rattle.nests.specs.declared.Dependence as DE
 use Rattle.nests.specs.declared.Nest as DN
 use Rattle.nests.specs.Kinds.{INDEPENDENT, DEPENDENCES}
 use Rattle.nests.specs.Nests.{Dep}
+use Rattle.nests.specs.Loops.{isAround}
 use Rattle.nests.specs.Gaps.{hasGap}
 use Rattle.nests.specs.Valid.{isDep, areDeps}
 use Rattle.nests.specs.Stored.{depIn, nestIn}
 use Rattle.nests.proofs.Deps.{Fits, dep-fits, valid-is}
 use Rattle.nests.proofs.Stored.{depsIn-at, counted-many}
 use Rattle.sitting.specs.declared.Sitting as DS
-use Rattle.sitting.specs.Around.{isAround, AreAround, GapSays}
+use Rattle.sitting.specs.Around.{AreAround, GapSays}
 use Rattle.sitting.specs.Kept.{barriers, Ready}
 use Rattle.sitting.proofs.Moving.{Moving, Turn}
 

@@ -17,8 +17,8 @@ use Rattle.laws.proofs.Tests.{le-or, eq-or, bool-by}
 use Rattle.laws.proofs.Bits.{bit-one}
 use Rattle.placements.specs.Words.{GAPS, holds, kept, gapsOf, gapsIn}
 use Rattle.placements.proofs.Words.{gapsOf-same, in-gaps}
-use Rattle.sitting.specs.GapLists.{withGap, without}
-use Rattle.sitting.proofs.GapLists.{without-with}
+use Rattle.placements.specs.GapLists.{withGap, without}
+use Rattle.placements.proofs.GapLists.{without-with}
 use Rattle.laws.proofs.Xor.{bit-xor}
 
 -- ---- lists

@@ -1,20 +1,15 @@
 -- The loops around a gap, and the test that a dependence has a gap.
--- Main definitions: `isAround`, `AreAround`, `GapSays`.
+-- Main definitions: `AreAround`, `GapSays`.
 use mathlib.Core.Path.{_≡_}
-use mathlib.Core.Bool.{Bool, true, false, _&&_}
+use mathlib.Core.Bool.{Bool, true, false}
 use mathlib.Core.List.{List}
 use Prim.Native.Nat.{ℕ, _<_}
-use lib.Dec.{ltb, leb}
 use lib.ListN.{getD}
 use Rattle.nests.specs.declared.Dependence as DE
 use Rattle.nests.specs.Kinds.{INDEPENDENT}
-use Rattle.nests.specs.Loops.{isDo, endOf}
+use Rattle.nests.specs.Loops.{isDo, isAround}
 use Rattle.nests.specs.Gaps.{hasGap}
 use Rattle.nests.specs.Stored.{depIn}
-
--- gap g is one of the gaps d + 1 to e of the loop with DO d and ENDDO e
-abbrev pub isAround : List ℕ → ℕ → ℕ → Bool
-isAround ps g d = ltb d g && leb g (endOf ps d)
 
 -- the table says of each DO whether its loop is around the gap
 abbrev pub AreAround : List ℕ → ℕ → List Bool → Type 0

@@ -14,7 +14,7 @@ use Rattle.nests.specs.Stored.{nestIn, IsCounted}
 use Rattle.placements.specs.Placements.{areGaps}
 use Rattle.placements.specs.Words.{holds, gapsIn}
 use Rattle.sitting.specs.declared.Sitting as DS
-use Rattle.sitting.specs.GapLists.{withGap, without}
+use Rattle.placements.specs.GapLists.{withGap, without}
 use Rattle.sitting.specs.Counts.{countAt, hasGapAt, uncutCount}
 
 -- the candidate's barriers, rising

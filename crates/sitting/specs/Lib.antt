@@ -1,5 +1,4 @@
--- Sittings: gaps put and lifted in a list, counts of a placement, what a sitting keeps.
+-- Sittings: loops around a gap, counts of a placement, what a sitting keeps.
 pub mod Around
-pub mod GapLists
 pub mod Counts
 pub mod Kept

@@ -15,3 +15,4 @@ pub mod Loading
 pub mod Barriers
 pub mod Placing
 pub mod Written
+pub mod Counting

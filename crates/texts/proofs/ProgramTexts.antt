@@ -20,7 +20,8 @@ use Rattle.lines.specs.Lines.{lineText}
 use Rattle.lines.proofs.Spelling.{areBytes}
 use Rattle.texts.specs.NestTexts.{blank, readNest, depFrame, pointsText, depsText, nestText}
 use Rattle.texts.specs.PlacementTexts.{keyText}
-use Rattle.texts.specs.Program.{REFUSAL, LONGEST, refusalText, countsText, programText}
+use Rattle.texts.specs.Counts.{countsText}
+use Rattle.texts.specs.Program.{REFUSAL, LONGEST, refusalText, programText}
 use Rattle.texts.proofs.Refusals.{numbers-to-7, place-within}
 use Rattle.texts.proofs.Spelled.{valid-accepted}
 

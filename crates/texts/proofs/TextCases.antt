@@ -12,7 +12,8 @@ use Rattle.lines.specs.Lines.{linesOf, frameOf}
 use Rattle.lines.proofs.Spelling.{framesText}
 use Rattle.texts.specs.NestTexts.{got, readLines, blank, readNest, pointsText, depsText, nestText}
 use Rattle.texts.specs.PlacementTexts.{placed, placeLines, readPlacement, keyText}
-use Rattle.texts.specs.Program.{countsFrom, programText}
+use Rattle.texts.specs.Counts.{countsFrom}
+use Rattle.texts.specs.Program.{programText}
 use Rattle.texts.proofs.Spelled.{valid-accepted}
 
 -- P is 01 01 03 03 03 03 02 01 03 03 03 03 02 02 with 110205, 12010403, 11080b, 12070a09, 12000a02, 110409

@@ -1,5 +1,5 @@
 -- Placements written gap by gap, from the lowest: what is left to write.
--- Main statements: `rest-all`, `rest-held`, `rest-lowest`, `rest-end`; `length-begin`, `length-on`,
+-- Main statements: `key-bytes`; `rest-all`, `rest-held`, `rest-lowest`, `rest-end`; `length-begin`, `length-on`,
 -- `length-done`; `write-begin`, `write-on`, `write-done`.
 use mathlib.Core.Path.{_≡_, refl, sym, _∙_, ap}
 use mathlib.Core.Bool.{Bool, true, false}
@@ -62,6 +62,12 @@ unfolding keyText
 key-length g gs =
     length-append (lineText (BARRIER ∷ (g ∷ []))) (keyText gs) ∙
     ap (λ (n : ℕ). n + length (keyText gs)) (barrier-length g)
+
+-- a key's text has 5 bytes a gap
+pub key-bytes : (gs : List ℕ) → length (keyText gs) ≡ 5 * length gs
+unfolding keyText
+key-bytes [] = refl
+key-bytes (g ∷ gs) = omega (arith, key-length g gs, key-bytes gs)
 
 -- a lowest gap, and what stands from it on
 pub record Lowest (ws : List ℕ) (g : ℕ) : Type 0 where

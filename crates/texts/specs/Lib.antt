@@ -1,5 +1,6 @@
 -- Nest texts and placement texts: how they are read, refused and spelled; and what the program writes.
 pub mod NestTexts
 pub mod PlacementTexts
+pub mod Counts
 pub mod Program
 pub mod Reads

@@ -1,17 +1,21 @@
-// Nest texts and placement texts, read line by line.
+// Nest texts and placement texts, read line by line; placements and their counts, written.
 ghost use mathlib.Core.Path.{_≡_};
+ghost use mathlib.Core.Bool.{true};
 ghost use mathlib.Core.List.{[]};
-ghost use Prim.Native.Nat.{_≤_};
+ghost use Prim.Native.Nat.{_*_, _≤_};
 ghost use lib.ListN.{length, take};
 ghost use Rattle.nests.specs.Kinds.{POINTS};
 ghost use Rattle.nests.specs.Loops.{HasEnds};
+ghost use Rattle.nests.specs.Valid.{isShape};
 ghost use Rattle.nests.specs.Stored.{IsCounted};
 ghost use Rattle.texts.specs.NestTexts.{isPoint};
 ghost use Rattle.texts.specs.Reads.{IsRead, RefusedAs, EndedAs, closedBy, misplacedBy, tooManyBy, PointFault};
 ghost use Rattle.texts.specs.Reads.{KnowsEnds, DependenceFault, FrameFault, IsDependence};
 ghost use Rattle.lines.specs.Writing.{over};
-ghost use Rattle.placements.specs.Words.{gapsIn};
+ghost use Rattle.placements.specs.Placements.{areGapsFrom};
+ghost use Rattle.placements.specs.Words.{GAPS, gapsIn};
 ghost use Rattle.texts.specs.PlacementTexts.{keyText};
+ghost use Rattle.texts.specs.Counts.{CountsSay};
 ghost use Rattle.texts.specs.Reads.{IsPlaced, UnplacedAs, BarrierFault};
 use lines::Frame;
 use lines::Read;
@@ -28,6 +32,7 @@ use nests::deeper;
 use nests::dep_fault;
 use nests::ends_of;
 use placements::Placement;
+use placements::count_of;
 
 // A nest text's reading: the number and the line of its refusal, 0 and 0 for none, and the nest.
 pub struct Reading {
@@ -45,6 +50,9 @@ pub struct PlacementReading {
 
 // The kind of barriers.
 pub const BARRIER: u8 = 33;
+
+// The kind of counts.
+pub const COUNT: u8 = 34;
 
 // Reads a nest text up to its first faulty line. An empty text is the blank paper.
 pub fn read_nest(text: &[u8]) -> Reading
@@ -359,6 +367,28 @@ pub fn write_text(p: Placement, out: &mut [u8]) -> usize
         let frame = [BARRIER, (g % 256) as u8];
         at += put_frame(&mut out[at..], &frame);
         g = p.lowest_from(g + 1);
+    }
+    at
+}
+
+// Writes for each loop in order of its DO a line with its count; gives the length.
+pub fn write_counts(points: &[u8], key: Placement, out: &mut [u8]) -> usize
+    requires { ⌜ (isShape (now points) ≡ true) × (length (now points) ≤ GAPS) ⌝ }
+    requires { ⌜ areGapsFrom 0 (length (now points)) (gapsIn (key .words)) ≡ true ⌝ }
+    requires { ⌜ 7 * length (now points) ≤ length (now out) ⌝ }
+    ensures { λ r. ⌜ CountsSay (now (points .entry)) (gapsIn (key .words)) (now (out .entry)) (now (out .exit)) r ⌝ }
+{
+    let mut at: usize = 0;
+    let mut d: usize = 0;
+    while d < points.len() {
+        if points[d] == DO {
+            let ones = count_of(points, d, key);
+            let frame = [COUNT, (d % 256) as u8, (ones % 256) as u8];
+            at += put_frame(&mut out[at..], &frame);
+            d += 1;
+        } else {
+            d += 1;
+        }
     }
     at
 }

@@ -3,7 +3,7 @@
 use mathlib.Core.Path.{sym, _∙_}
 use borrow.Author.Needs.{needs}
 use Rattle.nests.specs.Stored.{depIn}
-use Rattle.sitting.proofs.Around.{line-has, line-before, ring-around, ring-within, ring-front, ring-out}
+use Rattle.nests.proofs.Around.{line-has, line-before, ring-around, ring-within, ring-front, ring-out}
 use Rattle.sitting.proofs.has_gap.Statement.{statement}
 use Rattle.sitting.proofs.has_gap.Tie as tie
 

@@ -13,7 +13,7 @@ use Rattle.nests.specs.Gaps.{hasGap}
 use Rattle.nests.specs.Stored.{depIn, nestIn}
 use Rattle.nests.proofs.Deps.{valid-is}
 use Rattle.nests.proofs.Stored.{counted-points}
-use Rattle.sitting.specs.GapLists.{without}
+use Rattle.placements.specs.GapLists.{without}
 use Rattle.sitting.specs.Counts.{cutCount}
 use Rattle.sitting.specs.Kept.{barriers}
 use Rattle.sitting.proofs.Moving.{Moving, Turn, move-start, move-past, move-done}

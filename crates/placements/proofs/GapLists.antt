@@ -1,20 +1,22 @@
 -- Rising lists of gaps with one gap more or one less: putting and lifting undo each other.
 -- Main statements: `in-with`, `rising-with`, `in-without`, `rising-without`, `without-with`, `with-without`,
--- `rising-short`.
+-- `rising-length`, `rising-short`, `count-few`.
 use mathlib.Core.Path.{_≡_, refl, sym, ap, _∙_}
 use mathlib.Core.Bool.{Bool, true, false, _&&_, _||_, not}
 use mathlib.Core.List.{List, [], _∷_}
-use Prim.Native.Nat.{ℕ, _+_, _≤_, _<_}
+use Prim.Native.Nat.{ℕ, suc, _+_, _-_, _≤_, _<_}
 use native.Mathlib.Omega.{arith}
 use lib.Dec.{eqb, ltb}
 use lib.ListN.{length}
 use borrow.Author.Tests.{eqb-true, eqb-false, eq-eqb, ne-eqb, lt-ltb, le-ltb, ltb-false}
-use Rattle.laws.specs.Choice.{pick, isIn}
+use Rattle.laws.specs.Choice.{pick, when, isIn}
 use Rattle.laws.proofs.Tests.{or-false, never}
 use Rattle.laws.proofs.Connectives.{and-off}
-use Rattle.placements.specs.Placements.{areGapsFrom}
+use Rattle.nests.specs.Nests.{Nest}
+use Rattle.nests.specs.Loops.{ownerOf}
+use Rattle.placements.specs.Placements.{areGapsFrom, loopCount}
 use Rattle.placements.proofs.Rising.{Rises, rises, rising-in, rising-out}
-use Rattle.sitting.specs.GapLists.{withGap, without}
+use Rattle.placements.specs.GapLists.{withGap, without}
 
 or-turn : (a b c : Bool) → (a || (b || c)) ≡ (b || (a || c))
 or-turn true true c = refl
@@ -155,9 +157,21 @@ with-without last n g (x ∷ xs) h p = go (eqb g x) refl (rises last n x xs h) p
 
 -- ---- how long
 
--- a rising list has fewer gaps than there are below its bound
+-- a rising list has no more gaps than there are between its bounds
+pub rising-length : (last n : ℕ) (gs : List ℕ) → areGapsFrom last n gs ≡ true → length gs ≤ n - suc last
+rising-length last n [] h = omega arith
+rising-length last n (g ∷ gs) h =
+    let r = rises last n g gs h in
+    omega (arith, r .above, r .below, rising-length g n gs (r .rest))
+
 pub rising-short : (last n : ℕ) (gs : List ℕ) → areGapsFrom last n gs ≡ true → last < n → last + length gs < n
-rising-short last n [] h l = omega arith
-rising-short last n (x ∷ xs) h l =
-    let r = rises last n x xs h in
-    omega (arith, rising-short x n xs (r .rest) (r .below))
+rising-short last n gs h l = omega (arith, rising-length last n gs h)
+
+-- a loop's count is at most the number of gaps
+pub count-few : (n : Nest) (gs : List ℕ) (d : ℕ) → loopCount n gs d ≤ length gs
+count-few n [] d = omega arith
+count-few n (g ∷ gs) d = go (eqb (ownerOf (n .points) g) d) (count-few n gs d)
+  where
+    go : (t : Bool) → loopCount n gs d ≤ length gs → when t 1 + loopCount n gs d ≤ suc (length gs)
+    go true h = omega arith
+    go false h = omega arith

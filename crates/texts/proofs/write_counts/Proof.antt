@@ -7,10 +7,10 @@ use lib.ListN.{length, getD, length-take, length-drop}
 use borrow.Author.Needs.{needs}
 use borrow.Author.Tests.{eq-eqb}
 use Rattle.placements.specs.Words.{gapsIn}
-use Rattle.answers.proofs.Counting.{Counting, count-begin, count-length, count-within}
-use Rattle.answers.proofs.Counting.{count-room, count-skip, count-on, count-done}
-use Rattle.answers.proofs.write_counts.Statement.{statement}
-use Rattle.answers.proofs.write_counts.Tie as tie
+use Rattle.texts.proofs.Counting.{Counting, count-begin, count-length, count-within}
+use Rattle.texts.proofs.Counting.{count-room, count-skip, count-on, count-done}
+use Rattle.texts.proofs.write_counts.Statement.{statement}
+use Rattle.texts.proofs.write_counts.Tie as tie
 
 abbrev Inv-loop : tie.InvT-loop
 Inv-loop points key out₀ at₀ d₀ out at d = Counting points (gapsIn (key .words)) out₀ out at d

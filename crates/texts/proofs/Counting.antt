@@ -1,25 +1,57 @@
 -- The counts written loop by loop, in order of the DOs: what is written and what is left give the whole text, in each
 -- nest with these points.
--- Main statements: `Counting`, what a turn keeps; `count-begin`, `count-skip`, `count-on`, `count-done`.
+-- Main statements: `count-byte`, `counts-length`; `Counting`, what a turn keeps; `count-begin`, `count-skip`, `count-on`,
+-- `count-done`.
 use mathlib.Core.Path.{_≡_, refl, _∙_, ap}
-use mathlib.Core.Bool.{true}
+use mathlib.Core.Bool.{Bool, true, false}
 use mathlib.Core.List.{List, [], _∷_, _++_}
-use Prim.Native.Nat.{ℕ, _+_, _-_, _*_, _%_, _≤_, _<_}
+use Prim.Native.Nat.{ℕ, suc, _+_, _-_, _*_, _%_, _≤_, _<_}
 use native.Mathlib.Numerals.{add-one}
 use native.Mathlib.Omega.{arith}
+use lib.Dec.{eqb}
 use lib.ListN.{length, getD, drop, length-append, drop-of-length-le}
 use lib.Seq.{drop-cons}
 use borrow.Author.Tests.{eq-eqb, ne-eqb}
 use borrow.Rule.Slice.PartMut.{midOf, putMid}
+use Rattle.laws.specs.Choice.{pick}
 use Rattle.nests.specs.Kinds.{DO, POINTS}
 use Rattle.nests.specs.Nests.{Nest, nest}
 use Rattle.lines.specs.Lines.{lineText}
 use Rattle.lines.specs.Writing.{over}
+use Rattle.lines.proofs.Writing.{text-length}
 use Rattle.lines.proofs.Parts.{Partly, part-begin, part-room, part-length, part-on, part-left, part-done}
-use Rattle.placements.specs.Placements.{areGapsFrom, loopCount}
-use Rattle.texts.specs.Program.{COUNT, countsFrom, countsText}
-use Rattle.answers.specs.Answers.{CountsSay}
-use Rattle.answers.proofs.Lengths.{count-byte, line-length, counts-length}
+use Rattle.placements.specs.Placements.{areGapsFrom, areGaps, loopCount}
+use Rattle.placements.proofs.GapLists.{rising-length, count-few}
+use Rattle.texts.specs.Counts.{COUNT, countsFrom, countsText, CountsSay}
+
+-- a loop's count in a nest within the limits is a byte
+pub count-byte
+    : (n : Nest) (gs : List ℕ) (d : ℕ)
+    → length (n .points) ≤ POINTS
+    → areGaps n gs ≡ true
+    → loopCount n gs d < 256
+count-byte n gs d few h = omega (arith, count-few n gs d, rising-length 0 (length (n .points)) gs h)
+
+-- a count's line has 7 bytes
+pub line-length : (d c : ℕ) → length (lineText (COUNT ∷ (d ∷ (c ∷ [])))) ≡ 7
+line-length d c = text-length (COUNT ∷ (d ∷ (c ∷ [])))
+
+-- so the counts have at most 7 bytes a point
+pub counts-length : (n : Nest) (gs : List ℕ) (i : ℕ) (ps : List ℕ) → length (countsFrom n gs i ps) ≤ 7 * length ps
+unfolding countsFrom
+counts-length n gs i [] = omega arith
+counts-length n gs i (p ∷ ps) = go (eqb p DO) (counts-length n gs (suc i) ps)
+  where
+    line : List ℕ
+    line = lineText (COUNT ∷ (i ∷ (loopCount n gs i ∷ [])))
+
+    go
+        : (t : Bool)
+        → length (countsFrom n gs (suc i) ps) ≤ 7 * length ps
+        → length (pick t (lineText (COUNT ∷ (i ∷ (loopCount n gs i ∷ [])))) [] ++ countsFrom n gs (suc i) ps)
+        ≤ 7 * suc (length ps)
+    go true h = omega (arith, length-append line (countsFrom n gs (suc i) ps), line-length i (loopCount n gs i))
+    go false h = omega arith
 
 -- the counts of the loops from point d on are left
 pub restOf : Nest → List ℕ → ℕ → List ℕ
