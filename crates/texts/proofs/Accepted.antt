@@ -1,8 +1,9 @@
 -- A nest text is accepted if and only if it breaks no rule: it is accepted with a nest exactly where it is empty and
--- the nest is the blank paper, or the nest is valid and the text is its spelling. While lines are read without a fault,
--- the nest so far has points that begin a shape, valid dependences only after all points, and the text so far is its
--- spelling.
--- Main statements: `accepted-spelling`, `accepted-valid`, `accepted-text`, `one-nest`, `one-spelling`.
+-- the nest is the blank paper, or it is the text of ordered pieces that make the nest, and the nest is valid. While
+-- lines are read without a fault, the nest so far has points that begin a shape, and valid dependences only after all
+-- points.
+-- Main statements: `accepted-spelling`, `one-list`, `accepted-valid`; of the one spelling of a nest
+-- `accepted-nest-text`, `accepted-text`, `one-nest`, `one-spelling`.
 use mathlib.Core.Path.{_≡_, refl, sym, ap, _∙_}
 use mathlib.Core.Bool.{Bool, true, false, _&&_, _||_, not}
 use mathlib.Core.Logic.{_↔_, _⊎_, inl, inr}
@@ -15,22 +16,26 @@ use borrow.Author.Tests.{leb-false, le-leb, eqb-true, eqb-false, eq-eqb, not-fal
 use Rattle.laws.specs.Choice.{pick, when, firstOf}
 use Rattle.laws.proofs.Tests.{never-both, lt-by, and-intro, and-true, or-false}
 use Rattle.laws.proofs.Choices.{first-zero, when-zero, unless-zero}
-use Rattle.nests.specs.Kinds.{DO, INDEPENDENT, CARRIED, POINTS, DEPTH, DEPENDENCES}
-use Rattle.nests.specs.Nests.{Dep, dep, Nest, nest, empty}
+use Rattle.nests.specs.Kinds.{DO, POINTS, DEPTH, DEPENDENCES}
+use Rattle.nests.specs.Nests.{Dep, Nest, empty, withPoint, withDep}
 use Rattle.nests.specs.Loops.{depth, isClosed}
-use Rattle.nests.specs.Valid.{namesPoints, runsRight, isDep, areDeps, isValid, depFault}
+use Rattle.nests.specs.Valid.{isOfKind, namesPoints, runsRight, isDep, areDeps, isValid, depFault}
 use Rattle.nests.proofs.Deps.{Valid, is-valid}
-use Rattle.lines.specs.Lines.{Line, linesOf, isGood, frameOf, lineText}
-use Rattle.lines.proofs.Spelling.{lineBytes, linesText, lines-text, good-bytes}
-use Rattle.texts.specs.NestTexts.{kindOf, isPoint, kindGood, depOf, pointFault, dependenceFault, frameFault}
-use Rattle.texts.specs.NestTexts.{withFrame, lineFault, Got, got, readLines, blank, readNest}
-use Rattle.texts.specs.NestTexts.{depFrame, pointsText, depsText, nestText}
+use Rattle.lines.specs.Lines.{Line, linesOf, isGood, frameOf}
+use Rattle.lines.proofs.Spelling.{linesText, lines-text, good-bytes}
+use Rattle.texts.specs.Pieces.{Piece, Point, Depend, Told, isPoint, pieceOf, pieceFrame, isPast, pointFault}
+use Rattle.texts.specs.Pieces.{dependenceFault, pieceFault, toldFault, withPiece, withTold}
+use Rattle.texts.specs.Pieces.{piecesText, madeFrom, madeOf}
+use Rattle.texts.specs.NestTexts.{frameFault, withFrame, lineFault, Got, got, readLines, blank, readNest}
+use Rattle.texts.specs.NestTexts.{Spells, Means, pointPieces, depPieces, piecesOf, nestText}
 use Rattle.texts.proofs.BlankPaper.{blank-read}
 use Rattle.texts.proofs.Shapes.{Begins, begins-none, begins-first, begins-more, begins-closed}
-use Rattle.texts.proofs.NestFrames.{Sort, opens, ends, states, runs, carries, sort-of}
-use Rattle.texts.proofs.NestFrames.{points-text-more, deps-text-more}
+use Rattle.texts.proofs.Pieces.{isPiece, arePieces, told-by, one-pieces}
 use Rattle.texts.proofs.Refusals.{accepted-got}
+use Rattle.texts.proofs.Spelled.{InOrder, point-early, order-rest, start-order, pieces-good, spells-read}
 use Rattle.texts.proofs.Spelled.{valid-accepted}
+
+-- ---- what is accepted spells a valid nest
 
 -- a nest partly read
 pub record Begun (n : Nest) : Type 0 where
@@ -66,40 +71,30 @@ point-begins (q ∷ ps) p more first deep b point = begins-more (q ∷ ps) p b (
     shallow : p ≡ DO → depth (q ∷ ps) < DEPTH
     shallow is = leb-false DEPTH (depth (q ∷ ps)) (rw (eq-eqb p DO is) at deep)
 
--- one frame more: the nest is still partly read, and its spelling has that frame's line more
-pub record Goes (n : Nest) (f : List ℕ) (m : Nest) : Type 0 where
-  pub begun : Begun m
-  pub text : nestText m ≡ nestText n ++ lineText f
+-- one piece more: the nest is still partly read
+no-deps : (ps : List ℕ) (ds : List Dep) → leb 1 (length ds) ≡ false → areDeps ps ds ≡ true
+no-deps ps [] h = refl
+no-deps ps (e ∷ ds) h = absurd (omega (arith, leb-false 1 (suc (length ds)) h))
 
-point-goes
-    : (ps : List ℕ) (ds : List Dep) (p : ℕ)
-    → isPoint p ≡ true
-    → Begun (nest ps ds)
-    → pointFault (nest ps ds) p ≡ 0
-    → Goes (nest ps ds) (p ∷ []) (nest (ps ++ (p ∷ [])) ds)
-unfolding nestText depsText
-point-goes ps (e ∷ ds) p point b h =
-    let a = first-zero (when (leb 1 (suc (length ds))) 3) _ h in
-    absurd (omega (arith, leb-false 1 (suc (length ds)) (when-zero (leb 1 (suc (length ds))) 2 (a .0))))
-point-goes ps [] p point b h =
+point-begun : (n : Nest) (p : ℕ) → isPoint p ≡ true → Begun n → pointFault n p ≡ 0 → Begun (withPoint n p)
+point-begun n p point b h =
+    let ps = n .points in
     let closed = isClosed ps in
     let early = eqb (length ps) 0 && not (eqb p DO) in
     let full = leb POINTS (length ps) in
     let deep = eqb p DO && leb DEPTH (depth ps) in
-    let a = first-zero (when (closed || early) 4) (when (full || deep) 5) h in
+    let place = firstOf (when (closed || early) 4) (when (full || deep) 5) in
+    let z = first-zero (when (isPast n) 3) place h in
+    let a = first-zero (when (closed || early) 4) (when (full || deep) 5) (z .1) in
     let x = or-false closed early (when-zero (closed || early) 3 (a .0)) in
     let y = or-false full deep (when-zero (full || deep) 4 (a .1)) in
     let room = leb-false POINTS (length ps) (y .0) in
     let long = length-append ps (p ∷ []) in
     record {
-      begun =
-          record {
-            shape = point-begins ps p (x .0) (x .1) (y .1) (b .shape) point;
-            few = omega arith;
-            many = b .many;
-            deps = refl;
-          };
-      text = simp append-nil (points-text-more ps p);
+      shape = point-begins ps p (x .0) (x .1) (y .1) (b .shape) point;
+      few = omega arith;
+      many = b .many;
+      deps = no-deps (ps ++ (p ∷ [])) (n .deps) (when-zero (isPast n) 2 (z .0));
     }
 
 deps-more
@@ -112,14 +107,10 @@ deps-more ps (x ∷ ds) e h w =
     let z = and-true (isDep ps x) (areDeps ps ds) h in
     and-intro (z .0) (deps-more ps ds e (z .1) w)
 
-dep-goes
-    : (ps : List ℕ) (ds : List Dep) (e : Dep)
-    → ((eqb (e .kind) INDEPENDENT && eqb (e .d) 0) || eqb (e .kind) CARRIED) ≡ true
-    → Begun (nest ps ds)
-    → dependenceFault (nest ps ds) e ≡ 0
-    → Goes (nest ps ds) (depFrame e) (nest ps (ds ++ (e ∷ [])))
-unfolding nestText
-dep-goes ps ds e sort b h =
+dep-begun : (n : Nest) (e : Dep) → isOfKind e ≡ true → Begun n → dependenceFault n e ≡ 0 → Begun (withDep n e)
+dep-begun n e kind b h =
+    let ps = n .points in
+    let ds = n .deps in
     let full = when (leb DEPENDENCES (length ds)) 5 in
     let a = first-zero (when (not (isClosed ps)) 4) (firstOf full (depFault ps e)) h in
     let x = first-zero full (depFault ps e) (a .1) in
@@ -129,59 +120,95 @@ dep-goes ps ds e sort b h =
     let right = unless-zero (runsRight ps e) 6 (y .1) in
     let long = length-append ds (e ∷ []) in
     record {
-      begun =
-          record {
-            shape = b .shape;
-            few = b .few;
-            many = omega arith;
-            deps = deps-more ps ds e (b .deps) (and-intro sort (and-intro names right));
-          };
-      text = rw (deps-text-more ds e) (sym (append-assoc (pointsText ps) (depsText ds) (lineText (depFrame e))));
+      shape = b .shape;
+      few = b .few;
+      many = omega arith;
+      deps = deps-more ps ds e (b .deps) (and-intro kind (and-intro names right));
     }
 
-sort-goes
-    : (n : Nest) {f : List ℕ}
-    → Sort f
-    → Begun n
-    → pick (isPoint (kindOf f)) (pointFault n (kindOf f)) (dependenceFault n (depOf f)) ≡ 0
-    → Goes n f (withFrame n f)
-sort-goes n opens b h = point-goes (n .points) (n .deps) 1 refl b h
-sort-goes n ends b h = point-goes (n .points) (n .deps) 2 refl b h
-sort-goes n states b h = point-goes (n .points) (n .deps) 3 refl b h
-sort-goes n (runs s t) b h = dep-goes (n .points) (n .deps) (dep INDEPENDENT 0 s t) refl b h
-sort-goes n (carries d s t) b h = dep-goes (n .points) (n .deps) (dep CARRIED d s t) refl b h
+piece-begun : (n : Nest) (x : Piece) → isPiece x ≡ true → Begun n → pieceFault n x ≡ 0 → Begun (withPiece n x)
+piece-begun n (Point k) g b h = point-begun n k g b h
+piece-begun n (Depend e) g b h = dep-begun n e g b h
 
-pub frame-goes : (n : Nest) (f : List ℕ) → Begun n → frameFault n f ≡ 0 → Goes n f (withFrame n f)
-frame-goes n f b h =
-    let later = pick (isPoint (kindOf f)) (pointFault n (kindOf f)) (dependenceFault n (depOf f)) in
-    let a = first-zero (when (not (kindGood f)) 2) later h in
-    sort-goes n (sort-of f (unless-zero (kindGood f) 1 (a .0))) b (a .1)
+-- a piece without a fault goes to the front of those that are in order behind it
+dep-past : (n : Nest) (e : Dep) → isPast (withDep n e) ≡ true
+dep-past n e =
+    let long = length-append (n .deps) (e ∷ []) in
+    le-leb 1 (length (n .deps ++ (e ∷ []))) (omega arith)
 
--- a text and the nest that it spells
-pub record Spells (s : List ℕ) (n : Nest) : Type 0 where
-  pub valid : isValid n ≡ true
-  pub text : s ≡ nestText n
+point-late : (n : Nest) (p : ℕ) → pointFault n p ≡ 0 → isPast n ≡ true → ⊥
+point-late n p h z =
+    let a = first-zero (when (isPast n) 3) _ h in
+    never-both z (when-zero (isPast n) 2 (a .0))
 
--- the lines after a nest partly read
+front-order
+    : (n : Nest) (x : Piece) (xs : List Piece) → pieceFault n x ≡ 0 → InOrder (withPiece n x) xs → InOrder n (x ∷ xs)
+front-order n (Point k) xs h o = record { ordered = o .ordered; late = λ z. absurd (point-late n k h z) }
+front-order n (Depend e) xs h o =
+    let rest = o .late (dep-past n e) in
+    record { ordered = and-intro rest (o .ordered); late = λ z. rest }
+
+-- the pieces of the lines after a nest partly read
+record Pieced (n : Nest) (ls : List Line) (m : Nest) : Type 0 where
+  pieces : List Piece
+  order : InOrder n pieces
+  text : linesText ls ≡ piecesText pieces
+  nest-is : m ≡ madeFrom n pieces
+  valid : isValid m ≡ true
+
+module _ (k : ℕ) (n : Nest) (l : Line) (ls : List Line) (m : Nest) (b : Begun n) (good : isGood l ≡ true) where
+  -- the line's piece with those of the lines after it
+  abbrev Goes-on : Told → Type 0
+  Goes-on t =
+      toldFault n t ≡ 0 →
+      readLines (suc k) (withTold n t) ls ≡ got 0 0 m →
+      (Begun (withTold n t) → readLines (suc k) (withTold n t) ls ≡ got 0 0 m → Pieced (withTold n t) ls m) →
+      Pieced n (l ∷ ls) m
+
+  piece-on
+      : (x : Piece) → isPiece x ≡ true → frameOf (l .bytes) ≡ pieceFrame x → pieceFault n x ≡ 0 →
+      Pieced (withPiece n x) ls m → Pieced n (l ∷ ls) m
+  unfolding piecesText
+  piece-on x g same none r =
+      record {
+        pieces = x ∷ r .pieces;
+        order = front-order n x (r .pieces) none (r .order);
+        text = rw (good-bytes l good, same, r .text);
+        nest-is = r .nest-is;
+        valid = r .valid;
+      }
+
+  goes-on : Goes-on (pieceOf (frameOf (l .bytes)))
+  goes-on =
+      told-by Goes-on (frameOf (l .bytes))
+      (λ x g same none q rest. piece-on x g same none (rest (piece-begun n x g b none) q))
+      (λ none. absurd (omega (arith, none)))
+
 lines-accepted
     : (k : ℕ) (n : Nest) (ls : List Line) (m : Nest)
     → Begun n
     → readLines k n ls ≡ got 0 0 m
-    → Spells (nestText n ++ linesText ls) m
-unfolding readLines
+    → Pieced n ls m
+unfolding readLines piecesText
 lines-accepted k n [] m b h = go (isClosed (n .points)) refl h
   where
     go
         : (t : Bool)
         → isClosed (n .points) ≡ t
         → pick t (got 0 0 n) (got 4 k empty) ≡ got 0 0 m
-        → Spells (nestText n ++ []) m
+        → Pieced n [] m
     go true e q =
         let same : n ≡ m = ap (λ (g : Got). g .nest-is) q in
         let shape = begins-closed (n .points) (b .shape) e in
         let valid : Valid n =
         record { shape = shape; few-points = b .few; few-deps = b .many; all-deps = b .deps } in
-        rw (← same) (record { valid = is-valid n valid; text = append-nil (nestText n) })
+        record {
+          pieces = [];
+          order = record { ordered = refl; late = λ z. refl };
+          text = refl;
+          nest-is = sym same;
+          valid = rw (← same) (is-valid n valid);
+        }
     go false e q = absurd (omega (arith, ap (λ (g : Got). g .number) q))
 lines-accepted k n (l ∷ ls) m b h =
     go (eqb (lineFault n l) 0) refl h (lines-accepted (suc k) (withFrame n (frameOf (l .bytes))) ls m)
@@ -192,37 +219,43 @@ lines-accepted k n (l ∷ ls) m b h =
         → pick t (readLines (suc k) (withFrame n (frameOf (l .bytes))) ls) (got (lineFault n l) k empty) ≡ got 0 0 m
         → (Begun (withFrame n (frameOf (l .bytes)))
         → readLines (suc k) (withFrame n (frameOf (l .bytes))) ls ≡ got 0 0 m
-        → Spells (nestText (withFrame n (frameOf (l .bytes))) ++ linesText ls) m)
-        → Spells (nestText n ++ (lineBytes l ++ linesText ls)) m
+        → Pieced (withFrame n (frameOf (l .bytes))) ls m)
+        → Pieced n (l ∷ ls) m
     go true e q rest =
         let none = eqb-true (lineFault n l) 0 e in
         let a = first-zero (when (not (isGood l)) 1) (frameFault n (frameOf (l .bytes))) none in
-        let good = unless-zero (isGood l) 0 (a .0) in
-        let g = frame-goes n (frameOf (l .bytes)) b (a .1) in
-        let r = rest (g .begun) q in
-        record {
-          valid = r .valid;
-          text = rw (good-bytes l good, ← append-assoc, ← g .text) (r .text);
-        }
+        goes-on k n l ls m b (unless-zero (isGood l) 0 (a .0)) (a .1) q rest
     go false e q rest = absurd (eqb-false (lineFault n l) 0 e (ap (λ (g : Got). g .number) q))
 
--- the nest that a text means: of an empty one the blank paper, of every other one the nest that it spells
-abbrev pub Means : List ℕ → Nest → Type 0
-Means s n = ((s ≡ []) × (n ≡ blank)) ⊎ Spells s n
-
 text-accepted : (s : List ℕ) (n : Nest) → readNest s ≡ got 0 0 n → Means s n
-unfolding readNest nestText pointsText depsText
+unfolding readNest
 text-accepted [] n h = inl (refl, sym (ap (λ (g : Got). g .nest-is) h))
-text-accepted (b ∷ s) n h = inr (rw lines-text at (lines-accepted 1 empty (linesOf (b ∷ s)) n begun-empty h))
+text-accepted (b ∷ s) n h =
+    let r = lines-accepted 1 empty (linesOf (b ∷ s)) n begun-empty h in
+    inr (record {
+      pieces = r .pieces;
+      ordered = r .order .ordered;
+      text = sym (lines-text (b ∷ s)) ∙ r .text;
+      nest-is = r .nest-is;
+      valid = r .valid;
+    })
 
 meaning-accepted : (s : List ℕ) (n : Nest) → Means s n → readNest s ≡ got 0 0 n
 meaning-accepted s n (inl e) = rw (e .0, e .1) (blank-read [] refl)
-meaning-accepted s n (inr h) = rw (h .text) (valid-accepted n (h .valid))
+meaning-accepted s n (inr h) = spells-read s n h
 
 -- "a nest text is accepted if and only if it breaks no rule": it then spells a valid nest, the one that is read, or it
 -- is empty and the nest is 01, 02
 pub accepted-spelling : (s : List ℕ) (n : Nest) → (readNest s ≡ got 0 0 n) ↔ Means s n
 accepted-spelling s n = (text-accepted s n, meaning-accepted s n)
+
+-- of a text there is one list of pieces
+pub one-list : (s : List ℕ) (n m : Nest) (a : Spells s n) (b : Spells s m) → a .pieces ≡ b .pieces
+one-list s n m a b = one-pieces (a .pieces) (b .pieces) (good n a) (good m b) (sym (a .text) ∙ b .text)
+  where
+    good : (x : Nest) (c : Spells s x) → arePieces (c .pieces) ≡ true
+    good x c =
+        pieces-good empty (c .pieces) (start-order (c .pieces) (c .ordered)) (ap isValid (sym (c .nest-is)) ∙ c .valid)
 
 -- the same of a text that is accepted, with the nest that it gives
 pub accepted-means : (s : List ℕ) → readNest s .number ≡ 0 → Means s (readNest s .nest-is)
@@ -235,13 +268,74 @@ accepted-valid s h = go (readNest s .nest-is) (accepted-means s h)
     go n (inl e) = rw (e .1)
     go n (inr e) = e .valid
 
+-- ---- the spelling of a nest
+
+-- pieces in order are those of the nest that they make, behind those of the nest before
+point-pieces-more
+    : (ps : List ℕ) (p : ℕ) → pointPieces (ps ++ (p ∷ [])) ≡ pointPieces ps ++ (Point p ∷ [])
+unfolding pointPieces
+point-pieces-more [] p = refl
+point-pieces-more (q ∷ ps) p = rw (point-pieces-more ps p)
+
+dep-pieces-more : (ds : List Dep) (e : Dep) → depPieces (ds ++ (e ∷ [])) ≡ depPieces ds ++ (Depend e ∷ [])
+unfolding depPieces
+dep-pieces-more [] e = refl
+dep-pieces-more (x ∷ ds) e = rw (dep-pieces-more ds e)
+
+no-dep-pieces : (ds : List Dep) → leb 1 (length ds) ≡ false → depPieces ds ≡ []
+unfolding depPieces
+no-dep-pieces [] h = refl
+no-dep-pieces (e ∷ ds) h = absurd (omega (arith, leb-false 1 (suc (length ds)) h))
+
+piece-more
+    : (n : Nest) (x : Piece) (xs : List Piece) → InOrder n (x ∷ xs) → piecesOf (withPiece n x) ≡ piecesOf n ++ (x ∷ [])
+piece-more n (Point k) xs o =
+    let none = no-dep-pieces (n .deps) (point-early n k xs o) in
+    rw (
+      none,
+      point-pieces-more (n .points) k,
+      append-nil (pointPieces (n .points)),
+      append-nil (pointPieces (n .points) ++ (Point k ∷ [])),
+    )
+piece-more n (Depend e) xs o =
+    let same = append-assoc (pointPieces (n .points)) (depPieces (n .deps)) (Depend e ∷ []) in
+    rw (dep-pieces-more (n .deps) e) (sym same)
+
+ordered-made : (n : Nest) (xs : List Piece) → InOrder n xs → piecesOf (madeFrom n xs) ≡ piecesOf n ++ xs
+ordered-made n [] o = sym (append-nil (piecesOf n))
+ordered-made n (x ∷ xs) o =
+    ordered-made (withPiece n x) xs (order-rest n x xs o)
+    ∙ rw (piece-more n x xs o) (append-assoc (piecesOf n) (x ∷ []) xs)
+
+spells-text : (s : List ℕ) (n : Nest) → Spells s n → s ≡ nestText n
+unfolding nestText pointPieces depPieces
+spells-text s n h =
+    let same : piecesOf (madeOf (h .pieces)) ≡ h .pieces =
+    ordered-made empty (h .pieces) (start-order (h .pieces) (h .ordered)) in
+    h .text ∙ ap piecesText (sym same) ∙ ap (λ (m : Nest). piecesText (piecesOf m)) (sym (h .nest-is))
+
+-- so a text is accepted with a nest exactly where it is empty and the nest is 01, 02, or the nest is valid and the text
+-- is its spelling
+pub accepted-nest-text
+    : (s : List ℕ) (n : Nest)
+    → (readNest s ≡ got 0 0 n) ↔ (((s ≡ []) × (n ≡ blank)) ⊎ ((isValid n ≡ true) × (s ≡ nestText n)))
+accepted-nest-text s n = (λ h. to (text-accepted s n h), from)
+  where
+    to : Means s n → ((s ≡ []) × (n ≡ blank)) ⊎ ((isValid n ≡ true) × (s ≡ nestText n))
+    to (inl e) = inl e
+    to (inr h) = inr (h .valid, spells-text s n h)
+
+    from : ((s ≡ []) × (n ≡ blank)) ⊎ ((isValid n ≡ true) × (s ≡ nestText n)) → readNest s ≡ got 0 0 n
+    from (inl e) = meaning-accepted s n (inl e)
+    from (inr h) = rw (h .1) (valid-accepted n (h .0))
+
 -- a text that is accepted and not empty is the spelling of its nest
 pub accepted-text : (s : List ℕ) → 0 < length s → readNest s .number ≡ 0 → s ≡ nestText (readNest s .nest-is)
 accepted-text s some h = go (accepted-means s h)
   where
     go : Means s (readNest s .nest-is) → s ≡ nestText (readNest s .nest-is)
     go (inl e) = absurd (omega (arith, ap length (e .0)))
-    go (inr e) = e .text
+    go (inr e) = spells-text s (readNest s .nest-is) e
 
 -- a valid nest has one spelling, and no other nest has it; of texts that are not empty no two give the same nest
 pub one-nest : (n m : Nest) → isValid n ≡ true → isValid m ≡ true → nestText n ≡ nestText m → n ≡ m

@@ -1,7 +1,7 @@
 -- The counts written loop by loop, in order of the DOs: what is written and what is left give the whole text, in each
 -- nest with these points.
--- Main statements: `count-byte`, `counts-length`; `Counting`, what a turn keeps; `count-begin`, `count-skip`, `count-on`,
--- `count-done`.
+-- Main statements: `count-byte`, `counts-length`; `Counting`, what a turn keeps; `count-begin`, `count-skip`,
+-- `count-on`, `count-done`.
 use mathlib.Core.Path.{_≡_, refl, _∙_, ap}
 use mathlib.Core.Bool.{Bool, true, false}
 use mathlib.Core.List.{List, [], _∷_, _++_}
@@ -104,7 +104,8 @@ module _
     count-length = part-length (countsText bare gs) (restOf bare gs d) o out at (c .part bare refl) (fits bare refl)
 
     within : length (restOf bare gs d) + at ≤ length o
-    within = omega (arith, part-room (countsText bare gs) (restOf bare gs d) o out at (c .part bare refl) (fits bare refl))
+    within =
+        omega (arith, part-room (countsText bare gs) (restOf bare gs d) o out at (c .part bare refl) (fits bare refl))
 
     pub count-within : at ≤ length o
     count-within = omega (arith, within)

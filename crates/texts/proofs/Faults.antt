@@ -12,7 +12,7 @@ use Rattle.laws.proofs.Connectives.{or-off}
 use Rattle.nests.specs.Kinds.{DO, POINTS, DEPTH, DEPENDENCES}
 use Rattle.nests.specs.Nests.{Dep, Nest}
 use Rattle.nests.specs.Valid.{depFault}
-use Rattle.texts.specs.NestTexts.{pointFault, dependenceFault}
+use Rattle.texts.specs.Pieces.{pointFault, dependenceFault}
 use Rattle.texts.specs.Reads.{HasNumbers, closedBy, misplacedBy, tooManyBy}
 
 -- a line that is not good, and one that is

@@ -1,6 +1,6 @@
 -- Laws of texts.
 pub mod Shapes
-pub mod NestFrames
+pub mod Pieces
 pub mod BlankPaper
 pub mod Spelled
 pub mod Refusals

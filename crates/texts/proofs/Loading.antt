@@ -1,9 +1,9 @@
 -- Nest texts read line by line: what a turn of the reader keeps, and one law for each way through a turn.
--- Main statements: `at-blank`, `begun`, `at-end`, `at-refusal`, `at-fault`, `room-for-point`, `room-for-dependence`,
--- `on-point`, `on-dependence`.
+-- Main statements: `at-blank`, `begun`, `at-end`, `at-refusal`; of a turn that comes to a frame (`Turn`) `at-fault`,
+-- `not-refused`, `room-for-point`, `room-for-dependence`, `on-point`, `on-dependence`.
 use mathlib.Core.Path.{_≡_, refl, sym, _∙_, ap}
 use mathlib.Core.Bool.{Bool, true, false, _&&_, not}
-use mathlib.Core.List.{List, [], _∷_, _++_}
+use mathlib.Core.List.{List, [], _∷_}
 use Prim.Native.Nat.{ℕ, suc, _+_, _-_, _^_, _≤_, _<_}
 use native.Mathlib.Numerals.{add-one}
 use native.Mathlib.Omega.{arith}
@@ -27,14 +27,15 @@ use Rattle.lines.specs.Lines.{Line, linesOf, isGood, frameOf}
 use Rattle.lines.specs.Reading.{lineAt}
 use Rattle.lines.proofs.Reading.{no-line, bad-line, good-line, Good-line}
 use Rattle.texts.specs.declared.Reading.{Reading}
-use Rattle.texts.specs.NestTexts.{isPoint, kindOf, kindGood, depOf, pointFault, dependenceFault, frameFault}
-use Rattle.texts.specs.NestTexts.{withFrame, lineFault, Got, got, readLines, readNest}
+use Rattle.texts.specs.declared.Piece as DP
+use Rattle.texts.specs.declared.Piece.the-variants as PV
+use Rattle.texts.specs.Pieces.{Told, pieceOf, isPast, pointFault, dependenceFault, toldFault, withTold}
+use Rattle.texts.specs.NestTexts.{frameFault, withFrame, lineFault, Got, got, readLines, readNest}
 use Rattle.texts.specs.Reads.{IsRead, RefusedAs, EndedAs, HasNumbers, closedBy, misplacedBy, tooManyBy}
-use Rattle.texts.specs.Reads.{KnowsEnds, FrameFault, IsDependence}
+use Rattle.texts.specs.Reads.{KnowsEnds, toldIn, IsPiece, PieceFault}
 use Rattle.texts.proofs.BlankPaper.{lines-read}
 use Rattle.texts.proofs.Shapes.{depth-more}
 use Rattle.texts.proofs.Faults.{bad-first, good-first}
-use Rattle.texts.proofs.Frames.{is-point, with-point, with-dependence}
 
 -- the depth is at most the number of points
 deeper-grows : (d p : ℕ) → deeper d p ≤ suc d
@@ -49,29 +50,6 @@ depth-bound : (d : ℕ) (ps : List ℕ) → depthFrom d ps ≤ d + length ps
 depth-bound d [] = omega arith
 depth-bound d (p ∷ ps) = omega (arith, depth-bound (deeper d p) ps, deeper-grows d p)
 
--- a frame that is no point leaves the depth
-stays-deep : (d k : ℕ) → isPoint k ≡ false → deeper d k ≡ d
-stays-deep d k h =
-    let one : k ≡ DO → ⊥ = λ e. never (sym h ∙ is-point k (omega arith) (omega arith)) in
-    let two : k ≡ ENDDO → ⊥ = λ e. never (sym h ∙ is-point k (omega arith) (omega arith)) in
-    rw (ne-eqb k 1 one, ne-eqb k 2 two)
-
-depth-with : (n : Nest) (l : List ℕ) → depth (withFrame n l .points) ≡ deeper (depth (n .points)) (kindOf l)
-depth-with n l = go (isPoint (kindOf l)) refl
-  where
-    with-point : Nest
-    with-point = nest (n .points ++ (kindOf l ∷ [])) (n .deps)
-
-    with-dependence : Nest
-    with-dependence = nest (n .points) (n .deps ++ (depOf l ∷ []))
-
-    go
-        : (t : Bool)
-        → isPoint (kindOf l) ≡ t
-        → depth (pick t with-point with-dependence .points) ≡ deeper (depth (n .points)) (kindOf l)
-    go true e = depth-more (n .points) (kindOf l)
-    go false e = sym (stays-deep (depth (n .points)) (kindOf l) e)
-
 -- a line's refusal
 fault-bad : (n : Nest) (l : Line) → isGood l ≡ false → lineFault n l ≡ 1
 fault-bad n l h = bad-first (isGood l) (frameFault n (frameOf (l .bytes))) h
@@ -79,11 +57,11 @@ fault-bad n l h = bad-first (isGood l) (frameFault n (frameOf (l .bytes))) h
 fault-good : (n : Nest) (l : Line) → isGood l ≡ true → lineFault n l ≡ frameFault n (frameOf (l .bytes))
 fault-good n l h = good-first (isGood l) (frameFault n (frameOf (l .bytes))) h
 
--- a frame that is not refused has room
+-- a piece that is not refused has room
 point-room : (n : Nest) (k : ℕ) → pointFault n k ≡ 0 → length (n .points) < POINTS
 point-room n k h =
     let count = length (n .points) in
-    let early = when (leb 1 (length (n .deps))) 3 in
+    let early = when (isPast n) 3 in
     let place = when (misplacedBy count (depth (n .points)) k) 4 in
     let many = when (tooManyBy count (depth (n .points)) k) 5 in
     let none : many ≡ 0 = first-zero place many (first-zero early (firstOf place many) h .1) .1 in
@@ -98,19 +76,6 @@ dependence-room n e h =
     let none : many ≡ 0 =
     first-zero many (depFault (n .points) e) (first-zero open-is (firstOf many (depFault (n .points) e)) h .1) .0 in
     leb-false DEPENDENCES (length (n .deps)) (when-zero (leb DEPENDENCES (length (n .deps))) 4 none)
-
-module _ (n : Nest) (l : List ℕ) (none : frameFault n l ≡ 0) where
-  abbrev rest-fault : Bool → ℕ
-  rest-fault b = pick b (pointFault n (kindOf l)) (dependenceFault n (depOf l))
-
-  no-rest : rest-fault (isPoint (kindOf l)) ≡ 0
-  no-rest = first-zero (when (not (kindGood l)) 2) (rest-fault (isPoint (kindOf l))) none .1
-
-  room-point : isPoint (kindOf l) ≡ true → length (n .points) < POINTS
-  room-point t = point-room n (kindOf l) (ap rest-fault (sym t) ∙ no-rest)
-
-  room-dependence : isPoint (kindOf l) ≡ false → length (n .deps) < DEPENDENCES
-  room-dependence t = dependence-room n (depOf l) (ap rest-fault (sym t) ∙ no-rest)
 
 -- the rest of the reading, by the first line
 read-none : (k : ℕ) (n : Nest) → readLines k n [] ≡ pick (isClosed (n .points)) (got 0 0 n) (got 4 k empty)
@@ -219,122 +184,136 @@ module _
           counted = e .counted;
         }
 
-    -- the frame of a good line
-    module _ (f : Frame) (h : lineAt s at ≡ RV.Frame f) (e : ℕ) (fault : FrameFault ps (n .many) deep f e) where
-      good : Good-line s at f
-      good = good-line s at f h
+-- a turn that comes to a frame: the nest so far, the frame of a good line, the piece that it tells, and its refusal
+pub record Turn
+    (s : List ℕ) (n : DN.Nest) (ends : List ℕ) (deep at line : ℕ) (f : Frame) (x : DP.Piece) (e : ℕ)
+    : Type 0 where
+  pub so-far : Loading s n ends deep at line
+  pub frame-is : lineAt s at ≡ RV.Frame f
+  pub piece-is : IsPiece f x
+  pub fault-is : PieceFault (take (n .count) (n .points)) (n .many) deep x e
 
-      spelled : List ℕ
-      spelled = frameOf (good .first .bytes)
+module _
+    {s : List ℕ}
+    {n : DN.Nest}
+    {ends : List ℕ}
+    {deep at line : ℕ}
+    {f : Frame}
+    {x : DP.Piece}
+    {e : ℕ}
+    (turn : Turn s n ends deep at line f x e)
+  where
+    abbrev p : Loading s n ends deep at line
+    p = turn .so-far
 
-      fault-is : e ≡ frameFault (nestIn n) spelled
-      unfolding spelled
-      fault-is = fault (nestIn n) spelled refl numbers (good .frame-is)
+    good : Good-line s at f
+    good = good-line s at f (turn .frame-is)
 
-      line-fault : lineFault (nestIn n) (good .first) ≡ e
-      unfolding spelled
-      line-fault = fault-good (nestIn n) (good .first) (good .good) ∙ sym fault-is
+    tells : toldIn x ≡ pieceOf (frameOf (good .first .bytes))
+    tells = turn .piece-is (frameOf (good .first .bytes)) (good .frame-is)
 
-      pub at-fault : (r : Reading) → (e ≡ 0 → ⊥) → RefusedAs e line r → IsRead s r
-      at-fault r z q =
-          record {
-            got-is =
-                q .got-is
-                ∙ sym (read-stop line (nestIn n) (good .first) (linesOf (drop (f .next) s)) e line-fault z)
-                ∙ ap (readLines line (nestIn n)) (sym (good .lines))
-                ∙ p .rest;
-            counted = q .counted;
-          }
+    fault-told : e ≡ toldFault (nestIn n) (toldIn x)
+    fault-told = turn .fault-is (nestIn n) refl (numbers s n ends deep at line p)
 
-      none : e ≡ 0 → frameFault (nestIn n) spelled ≡ 0
-      none z = sym fault-is ∙ z
+    line-fault : lineFault (nestIn n) (good .first) ≡ e
+    line-fault =
+        fault-good (nestIn n) (good .first) (good .good)
+        ∙ ap (toldFault (nestIn n)) (sym tells)
+        ∙ sym fault-told
 
-      kind-is : isPoint (f .kind) ≡ isPoint (kindOf spelled)
-      unfolding spelled
-      kind-is = ap isPoint (good .frame-is .kind-is)
+    pub at-fault : (r : Reading) → (e ≡ 0 → ⊥) → RefusedAs e line r → IsRead s r
+    at-fault r z q =
+        record {
+          got-is =
+              q .got-is
+              ∙ sym (read-stop line (nestIn n) (good .first) (linesOf (drop (f .next) s)) e line-fault z)
+              ∙ ap (readLines line (nestIn n)) (sym (good .lines))
+              ∙ p .rest;
+          counted = q .counted;
+        }
 
-      pub room-for-point : e ≡ 0 → isPoint (f .kind) ≡ true → n .count < POINTS
-      room-for-point z t =
-          omega (arith, p .counted .count-is, room-point (nestIn n) spelled (none z) (sym kind-is ∙ t))
+    pub next-inside : (at < f .next) × (f .next ≤ length s)
+    next-inside = omega (arith, good .on, good .inside)
 
-      pub room-for-dependence : e ≡ 0 → isPoint (f .kind) ≡ false → n .many < DEPENDENCES
-      room-for-dependence z t =
-          omega (arith, p .counted .many-is, room-dependence (nestIn n) spelled (none z) (sym kind-is ∙ t))
+    -- the nest with what the frame tells
+    on
+        : (m : DN.Nest) (ends′ : List ℕ) (d : ℕ)
+        → e ≡ 0
+        → nestIn m ≡ withTold (nestIn n) (toldIn x)
+        → IsCounted m
+        → length (m .deps) ≡ DEPENDENCES
+        → d ≡ depth (nestIn m .points)
+        → KnowsEnds (nestIn m .points) d ends′
+        → Loading s m ends′ d (f .next) (line + 1)
+    on m ends′ d z added c l w t =
+        record {
+          counted = c;
+          long = l;
+          deep-is = w;
+          knows = t;
+          inside = good .inside;
+          lines = omega (arith, p .lines, good .on);
+          rest =
+              ap (λ (y : ℕ). readLines y (nestIn m) (linesOf (drop (f .next) s))) (add-one line)
+              ∙ ap (λ (y : Nest). readLines (suc line) y (linesOf (drop (f .next) s))) added
+              ∙ ap (λ (y : Told). readLines (suc line) (withTold (nestIn n) y) (linesOf (drop (f .next) s))) tells
+              ∙ sym (read-on line (nestIn n) (good .first) (linesOf (drop (f .next) s)) (line-fault ∙ z))
+              ∙ ap (readLines line (nestIn n)) (sym (good .lines))
+              ∙ p .rest;
+        }
 
-      pub next-inside : (at < f .next) × (f .next ≤ length s)
-      next-inside = omega (arith, good .on, good .inside)
+    -- what is not known has a fault
+    pub not-refused : x ≡ PV.Refused → e ≡ 0 → ⊥
+    not-refused is z =
+        let two : toldFault (nestIn n) (toldIn x) ≡ 2 = rw is in
+        omega (arith, fault-told)
 
-      on
-          : (m : DN.Nest) (ends′ : List ℕ) (d : ℕ)
-          → e ≡ 0
-          → nestIn m ≡ withFrame (nestIn n) spelled
-          → IsCounted m
-          → length (m .deps) ≡ DEPENDENCES
-          → d ≡ deeper deep (f .kind)
-          → KnowsEnds (nestIn m .points) d ends′
-          → Loading s m ends′ d (f .next) (line + 1)
-      unfolding spelled
-      on m ends′ d z added c l w t =
-          record {
-            counted = c;
-            long = l;
-            deep-is =
-                w
-                ∙ ap (λ (x : ℕ). deeper x (f .kind)) (p .deep-is)
-                ∙ ap (deeper (depth (nestIn n .points))) (good .frame-is .kind-is)
-                ∙ sym (depth-with (nestIn n) spelled)
-                ∙ ap (λ (x : Nest). depth (x .points)) (sym added);
-            knows = t;
-            inside = good .inside;
-            lines = omega (arith, p .lines, good .on);
-            rest =
-                ap (λ (x : ℕ). readLines x (nestIn m) (linesOf (drop (f .next) s))) (add-one line)
-                ∙ ap (λ (x : Nest). readLines (suc line) x (linesOf (drop (f .next) s))) added
-                ∙ sym (read-on line (nestIn n) (good .first) (linesOf (drop (f .next) s)) (line-fault ∙ z))
-                ∙ ap (readLines line (nestIn n)) (sym (good .lines))
-                ∙ p .rest;
-          }
+    -- a point more
+    module _ (k : ℕ) (is : x ≡ PV.Point k) (z : e ≡ 0) where
+      pub room-for-point : n .count < POINTS
+      room-for-point =
+          let none : toldFault (nestIn n) (toldIn x) ≡ 0 = sym fault-told ∙ z in
+          omega (arith, p .counted .count-is, point-room (nestIn n) k (rw is at none))
 
-      -- a point more
       pub on-point
           : (ends′ : List ℕ) (d : ℕ)
-          → e ≡ 0
-          → isPoint (f .kind) ≡ true
           → length (n .points) ≡ POINTS
-          → d ≡ deeper deep (f .kind)
-          → KnowsEnds (take (n .count + 1) (set (n .points) (n .count) (f .kind))) d ends′
-          → Loading s (stored.with-point n (p .counted) (f .kind)) ends′ d (f .next) (line + 1)
-      unfolding spelled
-      on-point ends′ d z t l w k =
-          let q = stored.point-added n (p .counted) (f .kind) (room-for-point z t) l in
+          → d ≡ deeper deep k
+          → KnowsEnds (take (n .count + 1) (set (n .points) (n .count) k)) d ends′
+          → Loading s (stored.with-point n (p .counted) k) ends′ d (f .next) (line + 1)
+      on-point ends′ d l w t =
+          let q = stored.point-added n (p .counted) k room-for-point l in
           on
-          (stored.with-point n (p .counted) (f .kind))
+          (stored.with-point n (p .counted) k)
           ends′
           d
           z
-          (q .nest-is ∙ with-point (nestIn n) f spelled (good .frame-is) t)
+          (q .nest-is ∙ ap (λ (y : DP.Piece). withTold (nestIn n) (toldIn y)) (sym is))
           (q .counted)
           (p .long)
-          w
-          k
+          (w
+          ∙ ap (λ (y : ℕ). deeper y k) (p .deep-is)
+          ∙ sym (depth-more (nestIn n .points) k)
+          ∙ ap (λ (y : Nest). depth (y .points)) (sym (q .nest-is)))
+          t
 
-      -- a dependence more
-      pub on-dependence
-          : (g : Dependence)
-          → e ≡ 0
-          → isPoint (f .kind) ≡ false
-          → IsDependence f g
-          → Loading s (stored.with-dependence n (p .counted) g) ends deep (f .next) (line + 1)
-      unfolding spelled
-      on-dependence g z t i =
-          let q = stored.dependence-added n (p .counted) g (room-for-dependence z t) (p .long) in
+    -- a dependence more
+    module _ (g : Dependence) (is : x ≡ PV.Dependence g) (z : e ≡ 0) where
+      pub room-for-dependence : n .many < DEPENDENCES
+      room-for-dependence =
+          let none : toldFault (nestIn n) (toldIn x) ≡ 0 = sym fault-told ∙ z in
+          omega (arith, p .counted .many-is, dependence-room (nestIn n) (depIn g) (rw is at none))
+
+      pub on-dependence : Loading s (stored.with-dependence n (p .counted) g) ends deep (f .next) (line + 1)
+      on-dependence =
+          let q = stored.dependence-added n (p .counted) g room-for-dependence (p .long) in
           on
           (stored.with-dependence n (p .counted) g)
           ends
           deep
           z
-          (q .nest-is ∙ with-dependence (nestIn n) f spelled (good .frame-is) (depIn g) t (i spelled (good .frame-is)))
+          (q .nest-is ∙ ap (λ (y : DP.Piece). withTold (nestIn n) (toldIn y)) (sym is))
           (q .counted)
           (length-set (n .deps) (n .many) g ∙ p .long)
-          (sym (stays-deep deep (f .kind) t))
+          (p .deep-is)
           (p .knows)

@@ -5,7 +5,7 @@
 use mathlib.Core.Path.{_≡_, refl}
 use mathlib.Core.Bool.{Bool, true, false}
 use mathlib.Core.List.{List, [], _∷_, _++_}
-use Prim.Native.Nat.{ℕ, _*_, _/_, _%_, _≤_, _<_}
+use Prim.Native.Nat.{ℕ, _+_, _*_, _/_, _%_, _≤_, _<_}
 use native.Mathlib.Omega.{arith}
 use lib.Dec.{eqb}
 use lib.ListN.{length, length-append}
@@ -18,18 +18,15 @@ use Rattle.nests.specs.Valid.{isValid}
 use Rattle.nests.proofs.Deps.{valid-is}
 use Rattle.lines.specs.Lines.{lineText}
 use Rattle.lines.proofs.Spelling.{areBytes}
-use Rattle.texts.specs.NestTexts.{blank, readNest, depFrame, pointsText, depsText, nestText}
+use Rattle.texts.specs.Pieces.{Piece, depFrame, piecesText}
+use Rattle.texts.specs.NestTexts.{blank, readNest, pointPieces, depPieces, nestText}
 use Rattle.texts.specs.PlacementTexts.{keyText}
 use Rattle.texts.specs.Counts.{countsText}
 use Rattle.texts.specs.Program.{REFUSAL, LONGEST, refusalText, programText}
 use Rattle.texts.proofs.Refusals.{numbers-to-7, place-within}
 use Rattle.texts.proofs.Spelled.{valid-accepted}
 
-points-length : (ps : List ℕ) → length (pointsText ps) ≡ 3 * length ps
-unfolding pointsText
-points-length [] = refl
-points-length (p ∷ ps) = omega (arith, points-length ps)
-
+-- a point's line has 3 bytes, a dependence's at most 9
 frame-length : (e : Dep) → length (lineText (depFrame e)) ≤ 9
 frame-length e = go (eqb (e .kind) INDEPENDENT)
   where
@@ -40,20 +37,27 @@ frame-length e = go (eqb (e .kind) INDEPENDENT)
     go true = omega arith
     go false = omega arith
 
-deps-length : (ds : List Dep) → length (depsText ds) ≤ 9 * length ds
-unfolding depsText
+deps-length : (ds : List Dep) → length (piecesText (depPieces ds)) ≤ 9 * length ds
+unfolding depPieces piecesText
 deps-length [] = omega arith
 deps-length (e ∷ ds) =
-    omega (arith, deps-length ds, frame-length e, length-append (lineText (depFrame e)) (depsText ds))
+    omega (arith, deps-length ds, frame-length e, length-append (lineText (depFrame e)) (piecesText (depPieces ds)))
+
+points-length
+    : (ps : List ℕ) (xs : List Piece)
+    → length (piecesText (pointPieces ps ++ xs)) ≡ 3 * length ps + length (piecesText xs)
+unfolding pointPieces piecesText
+points-length [] xs = omega arith
+points-length (p ∷ ps) xs = omega (arith, points-length ps xs)
 
 -- a valid nest's spelling is within the longest input
 pub spelling-short : (n : Nest) → isValid n ≡ true → length (nestText n) ≤ LONGEST
 unfolding nestText
 spelling-short n h =
     let v = valid-is n h in
-    let points = points-length (n .points) in
+    let points = points-length (n .points) (depPieces (n .deps)) in
     let deps = deps-length (n .deps) in
-    omega (arith, v .few-points, v .few-deps, length-append (pointsText (n .points)) (depsText (n .deps)))
+    omega (arith, v .few-points, v .few-deps)
 
 -- a valid nest: its key, then its counts
 pub program-accepted

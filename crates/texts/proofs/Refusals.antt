@@ -11,14 +11,15 @@ use lib.ListN.{length}
 use borrow.Author.Tests.{eqb-false}
 use Rattle.laws.specs.Choice.{pick}
 use Rattle.laws.proofs.Tests.{eq-by}
-use Rattle.laws.proofs.Choices.{first-le, when-le, pick-le}
+use Rattle.laws.proofs.Choices.{first-le, when-le}
 use Rattle.nests.specs.Kinds.{DO, POINTS, DEPTH, DEPENDENCES}
 use Rattle.nests.specs.Nests.{Dep, Nest, empty}
 use Rattle.nests.specs.Loops.{depth, isClosed}
 use Rattle.nests.specs.Valid.{namesPoints, runsRight, depFault}
 use Rattle.lines.specs.Lines.{Line, linesOf, isGood, frameOf}
 use Rattle.lines.proofs.Spelling.{lines-few}
-use Rattle.texts.specs.NestTexts.{kindOf, isPoint, kindGood, depOf, pointFault, dependenceFault}
+use Rattle.texts.specs.Pieces.{Point, Depend, Told, told, unknown, pieceOf, isPast}
+use Rattle.texts.specs.Pieces.{pointFault, dependenceFault, toldFault}
 use Rattle.texts.specs.NestTexts.{withFrame, lineFault, Got, got, readLines, readNest}
 
 -- the numbers of a line are at most 7
@@ -31,7 +32,7 @@ dep-fault-to-7 ps e =
 point-fault-to-7 : (n : Nest) (p : ℕ) → pointFault n p ≤ 7
 point-fault-to-7 n p =
     let ps = n .points in
-    let late = when-le (leb 1 (length (n .deps))) 3 7 (omega arith) in
+    let late = when-le (isPast n) 3 7 (omega arith) in
     let outside = when-le (isClosed ps || (eqb (length ps) 0 && not (eqb p DO))) 4 7 (omega arith) in
     let beyond = when-le (leb POINTS (length ps) || (eqb p DO && leb DEPTH (depth ps))) 5 7 (omega arith) in
     first-le _ _ 7 late (first-le _ _ 7 outside beyond)
@@ -42,11 +43,14 @@ dependence-fault-to-7 n e =
     let beyond = when-le (leb DEPENDENCES (length (n .deps))) 5 7 (omega arith) in
     first-le _ _ 7 early (first-le _ _ 7 beyond (dep-fault-to-7 (n .points) e))
 
+told-fault-to-7 : (n : Nest) (x : Told) → toldFault n x ≤ 7
+told-fault-to-7 n (told (Point k)) = point-fault-to-7 n k
+told-fault-to-7 n (told (Depend e)) = dependence-fault-to-7 n e
+told-fault-to-7 n unknown = omega arith
+
 pub line-fault-to-7 : (n : Nest) (l : Line) → lineFault n l ≤ 7
 line-fault-to-7 n l =
-    let f = frameOf (l .bytes) in
-    let sort = pick-le (isPoint (kindOf f)) _ _ 7 (point-fault-to-7 n (kindOf f)) (dependence-fault-to-7 n (depOf f)) in
-    let frame = first-le _ _ 7 (when-le (not (kindGood f)) 2 7 (omega arith)) sort in
+    let frame = told-fault-to-7 n (pieceOf (frameOf (l .bytes))) in
     first-le _ _ 7 (when-le (not (isGood l)) 1 7 (omega arith)) frame
 
 -- what reading may answer, with lines from `first` to `last`

@@ -1,6 +1,7 @@
 -- Shapes point by point: a point fits after others exactly where the rule of closing allows it, and points that are all
 -- there have depth 0. So the points read so far can be told from what may still follow them.
--- Main statements: `closes-step`, `step-closes`, `depth-more`, `shape-closed`, `begins-more`, `begins-closed`.
+-- Main statements: `closes-step`, `step-closes`, `depth-more`, `shape-closed`, `shape-follows`, `begins-more`,
+-- `begins-closed`.
 use mathlib.Core.Path.{_≡_, refl}
 use mathlib.Core.Bool.{Bool, true, false, _&&_}
 use mathlib.Core.List.{List, [], _∷_, _++_, append-assoc, append-nil}
@@ -14,7 +15,7 @@ use Rattle.laws.proofs.Tests.{never, and-intro, and-true}
 use Rattle.nests.specs.Kinds.{DO, ENDDO, STATEMENT, DEPTH}
 use Rattle.nests.specs.Loops.{deeper, depthFrom, depth, isClosed}
 use Rattle.nests.specs.Valid.{closes, isShape}
-use Rattle.texts.specs.NestTexts.{isPoint}
+use Rattle.texts.specs.Pieces.{isPoint}
 
 -- a point p at depth d, with r after it: a loop is open, p is a point, a DO is not too deep, and r closes what is open
 pub record Fits (d p : ℕ) (r : List ℕ) : Type 0 where
@@ -118,6 +119,33 @@ shape-closed (p ∷ ps) h =
     let z = and-true (eqb p DO) (closes 1 ps) h in
     let more = le-leb 1 (suc (length ps)) (omega arith) in
     rw (z .0) (and-intro more (eq-eqb (depthFrom 1 ps) 0 (closes-depth 1 ps (z .1))))
+
+-- what stands after some points closes the loops that they leave open
+closes-through : (d : ℕ) (ps r : List ℕ) → closes d (ps ++ r) ≡ true → closes (depthFrom d ps) r ≡ true
+closes-through d [] r h = h
+closes-through d (p ∷ ps) r h = closes-through (deeper d p) ps r (closes-step d p (ps ++ r) h .rest)
+
+-- a point p of a shape, right after the points ps
+pub record Follows (ps : List ℕ) (p : ℕ) : Type 0 where
+  pub point : isPoint p ≡ true
+  pub first : length ps ≡ 0 → p ≡ DO
+  pub inside : 1 ≤ length ps → 1 ≤ depth ps
+  pub shallow : p ≡ DO → depth ps < DEPTH
+
+pub shape-follows : (ps : List ℕ) (p : ℕ) (r : List ℕ) → isShape (ps ++ (p ∷ r)) ≡ true → Follows ps p
+shape-follows [] p r h =
+    let is = eqb-true p DO (and-true (eqb p DO) (closes 1 r) h .0) in
+    record { point = rw is; first = λ z. is; inside = λ z. absurd (omega arith); shallow = λ z. omega arith }
+shape-follows (q ∷ ps) p r h =
+    let z = and-true (eqb q DO) (closes 1 (ps ++ (p ∷ r))) h in
+    let deep : depth (q ∷ ps) ≡ depthFrom 1 ps = rw (z .0) in
+    let f = closes-step (depthFrom 1 ps) p r (closes-through 1 ps (p ∷ r) (z .1)) in
+    record {
+      point = f .point;
+      first = λ e. absurd (omega arith);
+      inside = λ e. omega (arith, f .inside);
+      shallow = λ e. omega (arith, f .shallow e);
+    }
 
 -- points that begin a shape: what closes the loops that they leave open makes them one
 pub record Begins (ps : List ℕ) : Type 0 where

@@ -1,161 +1,304 @@
--- A valid nest's spelling is accepted with that nest: along its points the depth tells that no rule is broken, and each
--- of its dependences has no fault.
--- Main statements: `points-read`, `deps-read`, `valid-accepted`.
-use mathlib.Core.Path.{_≡_, refl, _∙_}
+-- Ordered pieces that make a valid nest are read to the end, and give that nest: whatever stands behind a piece only
+-- adds to the nest, so the rules that the whole nest keeps tell that the piece has no fault. The spelling of a valid
+-- nest is one such text.
+-- Main statements: `fitting`, `pieces-read`, `pieces-good`, `spells-read`, `nest-spells`, `valid-accepted`.
+use mathlib.Core.Path.{_≡_, refl, sym, ap, _∙_}
 use mathlib.Core.Bool.{Bool, true, false, _&&_, _||_, not}
 use mathlib.Core.List.{List, [], _∷_, _++_, append-assoc, append-nil}
-use Prim.Native.Nat.{ℕ, suc, _+_, _≤_, _<_}
+use Prim.Native.Nat.{ℕ, suc, _≤_, _<_}
 use native.Mathlib.Omega.{arith}
 use lib.Dec.{eqb, leb}
 use lib.ListN.{length, length-append}
-use borrow.Author.Tests.{leb-true, eqb-true, lt-ltb, lt-leb, le-leb, ne-eqb}
+use borrow.Author.Tests.{eqb-true, lt-leb, le-leb, ne-eqb, eq-eqb}
 use Rattle.laws.specs.Choice.{when, firstOf}
-use Rattle.laws.proofs.Tests.{never, and-intro, and-true}
-use Rattle.nests.specs.Kinds.{DO, STATEMENT, INDEPENDENT, CARRIED, POINTS, DEPTH, DEPENDENCES}
-use Rattle.nests.specs.Nests.{Dep, Nest, nest, empty}
+use Rattle.laws.proofs.Tests.{never, false-by, and-intro, and-true}
+use Rattle.nests.specs.Kinds.{DO, POINTS, DEPTH, DEPENDENCES}
+use Rattle.nests.specs.Nests.{Dep, Nest, nest, empty, withPoint, withDep}
 use Rattle.nests.specs.Loops.{depth, isClosed}
-use Rattle.nests.specs.Valid.{closes, isShape, namesPoints, runsRight, isDep, areDeps, isValid}
+use Rattle.nests.specs.Valid.{isShape, isOfKind, namesPoints, runsRight, isDep, areDeps, isValid}
 use Rattle.nests.proofs.Deps.{Valid, valid-is}
-use Rattle.lines.specs.Lines.{linesOf}
-use Rattle.lines.proofs.Spelling.{areBytes}
-use Rattle.texts.specs.NestTexts.{isPoint, pointFault, frameFault, withFrame, got, readLines, readNest}
-use Rattle.texts.specs.NestTexts.{depFrame, pointsText, depsText, nestText}
+use Rattle.lines.specs.Lines.{linesOf, lineText}
+use Rattle.lines.proofs.Spelling.{areBytes, line-first, digits-good, frame-digits}
+use Rattle.texts.specs.Pieces.{Piece, Point, Depend, pieceFrame, isPast, pieceFault}
+use Rattle.texts.specs.Pieces.{withPiece, piecesText, noFirst, isOrdered, madeFrom, madeOf}
+use Rattle.texts.specs.NestTexts.{frameFault, withFrame, got, readLines, readNest, Spells}
+use Rattle.texts.specs.NestTexts.{pointPieces, depPieces, piecesOf, nestText}
 use Rattle.texts.proofs.BlankPaper.{lines-read}
-use Rattle.texts.proofs.Shapes.{closes-step, depth-more, shape-closed}
-use Rattle.texts.proofs.NestFrames.{read-frame, DepSort, run, carry, dep-sort, dep-below, dep-bytes}
+use Rattle.texts.proofs.Shapes.{Follows, shape-follows, shape-closed}
+use Rattle.texts.proofs.Pieces.{isPiece, arePieces, piece-back, piece-long, dep-sort, dep-bytes, point-bytes}
 
--- a point's frame has the point's fault
-pub frame-point : (n : Nest) (p : ℕ) → isPoint p ≡ true → frameFault n (p ∷ []) ≡ pointFault n p
-frame-point n p h = rw h
+-- ---- what pieces make
 
-pub with-point : (n : Nest) (p : ℕ) → isPoint p ≡ true → withFrame n (p ∷ []) ≡ nest (n .points ++ (p ∷ [])) (n .deps)
-with-point n p h = rw h
+-- m has all that n has, and more behind it
+pub record Grown (n m : Nest) : Type 0 where
+  pub more-points : List ℕ
+  pub points-are : m .points ≡ n .points ++ more-points
+  pub more-deps : List Dep
+  pub deps-are : m .deps ≡ n .deps ++ more-deps
 
-pub point-bytes : (p : ℕ) → isPoint p ≡ true → areBytes (p ∷ []) ≡ true
-point-bytes p h =
-    let z = and-true (leb DO p) (leb p STATEMENT) h in
-    and-intro (lt-ltb p 256 (omega (arith, leb-true p STATEMENT (z .1)))) refl
+pub grown : (n : Nest) (xs : List Piece) → Grown n (madeFrom n xs)
+grown n [] =
+    record {
+      more-points = [];
+      points-are = sym (append-nil (n .points));
+      more-deps = [];
+      deps-are = sym (append-nil (n .deps));
+    }
+grown n (Point k ∷ xs) =
+    let g = grown (withPoint n k) xs in
+    record {
+      more-points = k ∷ g .more-points;
+      points-are = g .points-are ∙ append-assoc (n .points) (k ∷ []) (g .more-points);
+      more-deps = g .more-deps;
+      deps-are = g .deps-are;
+    }
+grown n (Depend e ∷ xs) =
+    let g = grown (withDep n e) xs in
+    record {
+      more-points = g .more-points;
+      points-are = g .points-are;
+      more-deps = e ∷ g .more-deps;
+      deps-are = g .deps-are ∙ append-assoc (n .deps) (e ∷ []) (g .more-deps);
+    }
 
--- a point that fits after others has no fault
-pub point-fits
+-- without a point among them the points stay
+points-stay : (n : Nest) (xs : List Piece) → noFirst xs ≡ true → madeFrom n xs .points ≡ n .points
+points-stay n [] h = refl
+points-stay n (Point k ∷ xs) h = never h
+points-stay n (Depend e ∷ xs) h = points-stay (withDep n e) xs h
+
+-- ---- no fault
+
+-- a point that follows others in a shape
+point-none
     : (ps : List ℕ) (p : ℕ)
-    → 1 ≤ length ps
     → length ps < POINTS
-    → 1 ≤ depth ps
-    → (p ≡ DO → depth ps < DEPTH)
-    → pointFault (nest ps []) p ≡ 0
-point-fits ps p some few inside shallow = go (eqb p DO) refl
+    → Follows ps p
+    → firstOf
+    (when (isClosed ps || (eqb (length ps) 0 && not (eqb p DO))) 4)
+    (when (leb POINTS (length ps) || (eqb p DO && leb DEPTH (depth ps))) 5)
+    ≡ 0
+point-none [] p few f = rw (eq-eqb p DO (f .first refl))
+point-none (q ∷ ps) p few f = go (eqb p DO) refl
   where
-    within : eqb (depth ps) 0 ≡ false
-    within = ne-eqb (depth ps) 0 (omega arith)
+    within : eqb (depth (q ∷ ps)) 0 ≡ false
+    within = ne-eqb (depth (q ∷ ps)) 0 (λ z. omega (arith, f .inside (omega arith)))
 
-    later : eqb (length ps) 0 ≡ false
-    later = ne-eqb (length ps) 0 (omega arith)
+    more : leb 1 (length (q ∷ ps)) ≡ true
+    more = le-leb 1 (length (q ∷ ps)) (omega arith)
 
-    more : leb 1 (length ps) ≡ true
-    more = le-leb 1 (length ps) some
+    later : eqb (length (q ∷ ps)) 0 ≡ false
+    later = ne-eqb (length (q ∷ ps)) 0 (omega arith)
 
-    room : leb POINTS (length ps) ≡ false
-    room = lt-leb POINTS (length ps) few
+    room : leb POINTS (length (q ∷ ps)) ≡ false
+    room = lt-leb POINTS (length (q ∷ ps)) few
 
     go
         : (t : Bool)
         → eqb p DO ≡ t
         → firstOf
-        (when (isClosed ps || (eqb (length ps) 0 && not t)) 4)
-        (when (leb POINTS (length ps) || (t && leb DEPTH (depth ps))) 5)
+        (when (isClosed (q ∷ ps) || (eqb (length (q ∷ ps)) 0 && not t)) 4)
+        (when (leb POINTS (length (q ∷ ps)) || (t && leb DEPTH (depth (q ∷ ps)))) 5)
         ≡ 0
-    go true e = rw (within, more, later, room, lt-leb DEPTH (depth ps) (shallow (eqb-true p DO e)))
+    go true e = rw (within, more, later, room, lt-leb DEPTH (depth (q ∷ ps)) (f .shallow (eqb-true p DO e)))
     go false e = rw (within, more, later, room)
 
--- the rest of a shape's points is read to its end
-pub points-read
-    : (k : ℕ) (ps r s : List ℕ)
-    → 1 ≤ length ps
-    → length ps + length r ≤ POINTS
-    → closes (depth ps) r ≡ true
-    → readLines k (nest ps []) (linesOf (pointsText r ++ s)) ≡ readLines (k + length r) (nest (ps ++ r) []) (linesOf s)
-unfolding pointsText
-points-read k ps [] s some few h =
-    let same : k + 0 ≡ k = omega arith in
-    rw (same, append-nil)
-points-read k ps (p ∷ r) s some few h =
-    let f = closes-step (depth ps) p r h in
-    let none : frameFault (nest ps []) (p ∷ []) ≡ 0 =
-    frame-point (nest ps []) p (f .point) ∙ point-fits ps p some (omega arith) (f .inside) (f .shallow) in
-    let first = read-frame k (nest ps []) (p ∷ []) (pointsText r ++ s) (point-bytes p (f .point)) refl none in
-    let long = length-append ps (p ∷ []) in
-    let deep : closes (depth (ps ++ (p ∷ []))) r ≡ true = rw (depth-more ps p) (f .rest) in
-    let rest = points-read (suc k) (ps ++ (p ∷ [])) r s (omega arith) (omega arith) deep in
-    let line : suc k + length r ≡ k + suc (length r) = omega arith in
-    first ∙ rw (with-point (nest ps []) p (f .point)) (rest ∙ rw (line, append-assoc))
+deps-at : (ps : List ℕ) (ds : List Dep) (e : Dep) (r : List Dep) → areDeps ps (ds ++ (e ∷ r)) ≡ true → isDep ps e ≡ true
+deps-at ps [] e r h = and-true (isDep ps e) (areDeps ps r) h .0
+deps-at ps (x ∷ ds) e r h = deps-at ps ds e r (and-true (isDep ps x) (areDeps ps (ds ++ (e ∷ r))) h .1)
 
-pub names-right : (ps : List ℕ) (e : Dep) → isDep ps e ≡ true → (namesPoints ps e ≡ true) × (runsRight ps e ≡ true)
-names-right ps e h =
-    let sort = (eqb (e .kind) INDEPENDENT && eqb (e .d) 0) || eqb (e .kind) CARRIED in
-    and-true (namesPoints ps e) (runsRight ps e) (and-true sort (namesPoints ps e && runsRight ps e) h .1)
+-- the piece may stand after n: it is of a kind, its numbers are bytes, and it has no fault
+pub record Fitting (n : Nest) (x : Piece) : Type 0 where
+  pub kind : isPiece x ≡ true
+  pub bytes : areBytes (pieceFrame x) ≡ true
+  pub none : pieceFault n x ≡ 0
 
--- a valid dependence has no fault after the points
-pub dep-fits
-    : (ps : List ℕ) (ds : List Dep) {e : Dep}
-    → isClosed ps ≡ true
-    → length ds < DEPENDENCES
-    → DepSort e
-    → namesPoints ps e ≡ true
-    → runsRight ps e ≡ true
-    → (frameFault (nest ps ds) (depFrame e) ≡ 0) × (withFrame (nest ps ds) (depFrame e) ≡ nest ps (ds ++ (e ∷ [])))
-dep-fits ps ds closed few (run s t) names right =
-    let room = lt-leb DEPENDENCES (length ds) few in
-    (rw (closed, room, names, right), refl)
-dep-fits ps ds closed few (carry d s t) names right =
-    let room = lt-leb DEPENDENCES (length ds) few in
-    (rw (closed, room, names, right), refl)
+-- pieces in their order after n, where points come no more once there is something else
+pub record InOrder (n : Nest) (xs : List Piece) : Type 0 where
+  pub ordered : isOrdered xs ≡ true
+  pub late : isPast n ≡ true → noFirst xs ≡ true
 
-frame-long : {e : Dep} → DepSort e → leb 1 (length (depFrame e)) ≡ true
-frame-long (run s t) = refl
-frame-long (carry d s t) = refl
+module _ (n : Nest) (k : ℕ) (xs : List Piece) (o : InOrder n (Point k ∷ xs)) where
+  pub point-early : isPast n ≡ false
+  point-early = false-by (λ z. never (o .late z))
 
--- valid dependences are read to the end
-pub deps-read
-    : (k : ℕ) (ps : List ℕ) (ds es : List Dep)
-    → isClosed ps ≡ true
-    → length ps ≤ POINTS
-    → length ds + length es ≤ DEPENDENCES
-    → areDeps ps es ≡ true
-    → readLines k (nest ps ds) (linesOf (depsText es)) ≡ got 0 0 (nest ps (ds ++ es))
-unfolding depsText linesOf readLines
-deps-read k ps ds [] closed small few h = rw (closed, append-nil)
-deps-read k ps ds (e ∷ es) closed small few h =
-    let a = and-true (isDep ps e) (areDeps ps es) h in
-    let sort = dep-sort ps e (a .0) in
-    let right = names-right ps e (a .0) in
-    let fits = dep-fits ps ds closed (omega arith) sort (right .0) (right .1) in
-    let bytes = dep-bytes ps small sort (dep-below ps sort (right .0)) in
-    let first = read-frame k (nest ps ds) (depFrame e) (depsText es) bytes (frame-long sort) (fits .0) in
-    let long = length-append ds (e ∷ []) in
-    let rest = deps-read (suc k) ps (ds ++ (e ∷ [])) es closed small (omega arith) (a .1) in
-    first ∙ rw (fits .1) (rest ∙ rw append-assoc)
+  point-fitting : Valid (madeFrom (withPoint n k) xs) → Fitting n (Point k)
+  point-fitting v =
+      let m = madeFrom (withPoint n k) xs in
+      let g = grown (withPoint n k) xs in
+      let all : m .points ≡ n .points ++ (k ∷ g .more-points) =
+      g .points-are ∙ append-assoc (n .points) (k ∷ []) (g .more-points) in
+      let shape : isShape (n .points ++ (k ∷ g .more-points)) ≡ true = rw all at (v .shape) in
+      let f = shape-follows (n .points) k (g .more-points) shape in
+      let long = ap length all ∙ length-append (n .points) (k ∷ g .more-points) in
+      let few : length (n .points) < POINTS = omega (arith, long, v .few-points) in
+      record {
+        kind = f .point;
+        bytes = point-bytes k (f .point);
+        none = rw point-early (point-none (n .points) k few f);
+      }
 
-spelling-read
-    : (ps : List ℕ) (ds : List Dep)
-    → Valid (nest ps ds)
-    → readNest (nestText (nest ps ds)) ≡ got 0 0 (nest ps ds)
-unfolding nestText pointsText
-spelling-read [] ds v = never (v .shape)
-spelling-read (p ∷ r) ds v =
-    let z = and-true (eqb p DO) (closes 1 r) (v .shape) in
-    let is = eqb-true p DO (z .0) in
-    let point : isPoint p ≡ true = rw is in
-    let none : frameFault empty (p ∷ []) ≡ 0 = rw is in
-    let text = pointsText r ++ depsText ds in
-    let first = read-frame 1 empty (p ∷ []) text (point-bytes p point) refl none in
-    let deep : closes (depth (p ∷ [])) r ≡ true = rw (z .0) (z .1) in
-    let points = points-read 2 (p ∷ []) r (depsText ds) (omega arith) (omega (arith, v .few-points)) deep in
-    let closed = shape-closed (p ∷ r) (v .shape) in
-    let deps = deps-read (2 + length r) (p ∷ r) [] ds closed (v .few-points) (omega (arith, v .few-deps)) (v .all-deps) in
-    lines-read (nestText (nest (p ∷ r) ds)) (omega arith)
-    ∙ rw append-assoc (first ∙ rw (with-point empty p point) (points ∙ deps))
+  point-rest : InOrder (withPoint n k) xs
+  point-rest = record { ordered = o .ordered; late = λ z. never (o .late z) }
 
--- a valid nest's spelling is accepted with that nest
+module _ (n : Nest) (e : Dep) (xs : List Piece) (o : InOrder n (Depend e ∷ xs)) where
+  dep-last : noFirst xs ≡ true
+  dep-last = and-true (noFirst xs) (isOrdered xs) (o .ordered) .0
+
+  dep-fitting : Valid (madeFrom (withDep n e) xs) → Fitting n (Depend e)
+  dep-fitting v =
+      let m = madeFrom (withDep n e) xs in
+      let g = grown (withDep n e) xs in
+      let same : m .points ≡ n .points = points-stay (withDep n e) xs dep-last in
+      let closed : isClosed (n .points) ≡ true = rw same at (shape-closed (m .points) (v .shape)) in
+      let all : m .deps ≡ n .deps ++ (e ∷ g .more-deps) =
+      g .deps-are ∙ append-assoc (n .deps) (e ∷ []) (g .more-deps) in
+      let long = ap length all ∙ length-append (n .deps) (e ∷ g .more-deps) in
+      let few : length (n .deps) < DEPENDENCES = omega (arith, long, v .few-deps) in
+      let room = lt-leb DEPENDENCES (length (n .deps)) few in
+      let deps : areDeps (n .points) (n .deps ++ (e ∷ g .more-deps)) ≡ true = rw (same, all) at (v .all-deps) in
+      let is = deps-at (n .points) (n .deps) e (g .more-deps) deps in
+      let a = and-true (isOfKind e) (namesPoints (n .points) e && runsRight (n .points) e) is in
+      let b = and-true (namesPoints (n .points) e) (runsRight (n .points) e) (a .1) in
+      let small : length (n .points) ≤ POINTS = rw same at (v .few-points) in
+      record {
+        kind = a .0;
+        bytes = dep-bytes (n .points) small (dep-sort e (a .0)) (b .0);
+        none = rw (closed, room, b .0, b .1);
+      }
+
+  dep-rest : InOrder (withDep n e) xs
+  dep-rest =
+      record { ordered = and-true (noFirst xs) (isOrdered xs) (o .ordered) .1; late = λ z. dep-last }
+
+-- a piece of a valid nest's text fits, and the rest is in order behind it
+pub fitting
+    : (n : Nest) (x : Piece) (xs : List Piece)
+    → InOrder n (x ∷ xs)
+    → isValid (madeFrom n (x ∷ xs)) ≡ true
+    → Fitting n x
+fitting n (Point k) xs o v = point-fitting n k xs o (valid-is (madeFrom (withPoint n k) xs) v)
+fitting n (Depend e) xs o v = dep-fitting n e xs o (valid-is (madeFrom (withDep n e) xs) v)
+
+pub order-rest : (n : Nest) (x : Piece) (xs : List Piece) → InOrder n (x ∷ xs) → InOrder (withPiece n x) xs
+order-rest n (Point k) xs o = point-rest n k xs o
+order-rest n (Depend e) xs o = dep-rest n e xs o
+
+-- ---- texts
+
+-- one line of a nest text
+pub read-frame
+    : (k : ℕ) (n : Nest) (f s : List ℕ)
+    → areBytes f ≡ true
+    → leb 1 (length f) ≡ true
+    → frameFault n f ≡ 0
+    → readLines k n (linesOf (lineText f ++ s)) ≡ readLines (suc k) (withFrame n f) (linesOf s)
+unfolding readLines
+read-frame k n f s h w none = rw (line-first f s h) (rw (digits-good f h w, frame-digits f h, none))
+
+read-piece
+    : (k : ℕ) (n : Nest) (x : Piece) (s : List ℕ)
+    → Fitting n x
+    → readLines k n (linesOf (lineText (pieceFrame x) ++ s)) ≡ readLines (suc k) (withPiece n x) (linesOf s)
+read-piece k n x s f =
+    let back = piece-back x (f .kind) in
+    let none : frameFault n (pieceFrame x) ≡ 0 = rw back (f .none) in
+    let made : withFrame n (pieceFrame x) ≡ withPiece n x = rw back in
+    read-frame k n (pieceFrame x) s (f .bytes) (piece-long x (f .kind)) none
+    ∙ ap (λ (m : Nest). readLines (suc k) m (linesOf s)) made
+
+-- ordered pieces that make a valid nest are read to the end
+pub pieces-read
+    : (k : ℕ) (n : Nest) (xs : List Piece)
+    → InOrder n xs
+    → isValid (madeFrom n xs) ≡ true
+    → readLines k n (linesOf (piecesText xs)) ≡ got 0 0 (madeFrom n xs)
+unfolding piecesText linesOf readLines
+pieces-read k n [] o v = rw (shape-closed (n .points) (valid-is n v .shape))
+pieces-read k n (x ∷ xs) o v =
+    read-piece k n x (piecesText xs) (fitting n x xs o v)
+    ∙ pieces-read (suc k) (withPiece n x) xs (order-rest n x xs o) v
+
+-- and each of them is of a kind, its numbers bytes
+pub pieces-good
+    : (n : Nest) (xs : List Piece) → InOrder n xs → isValid (madeFrom n xs) ≡ true → arePieces xs ≡ true
+pieces-good n [] o v = refl
+pieces-good n (x ∷ xs) o v =
+    let f = fitting n x xs o v in
+    and-intro (and-intro (f .kind) (f .bytes)) (pieces-good (withPiece n x) xs (order-rest n x xs o) v)
+
+-- at the start nothing is past
+pub start-order : (xs : List Piece) → isOrdered xs ≡ true → InOrder empty xs
+start-order xs o = record { ordered = o; late = λ z. never z }
+
+-- a text of no byte has no pieces, and they make no valid nest
+some-text : (xs : List Piece) → isValid (madeOf xs) ≡ true → 0 < length (piecesText xs)
+unfolding piecesText
+some-text [] v = never v
+some-text (x ∷ xs) v =
+    let text = lineText (pieceFrame x) in
+    omega (arith, length-append text (piecesText xs), line-some (pieceFrame x))
+  where
+    line-some : (f : List ℕ) → 0 < length (lineText f)
+    line-some [] = omega arith
+    line-some (b ∷ f) = omega arith
+
+pub spells-read : (s : List ℕ) (n : Nest) → Spells s n → readNest s ≡ got 0 0 n
+spells-read s n h =
+    let xs = h .pieces in
+    let valid : isValid (madeOf xs) ≡ true = rw (h .nest-is) at (h .valid) in
+    rw (h .text, h .nest-is)
+    (lines-read (piecesText xs) (some-text xs valid) ∙ pieces-read 1 empty xs (start-order xs (h .ordered)) valid)
+
+-- ---- the spelling of a nest
+
+deps-first : (ds : List Dep) → (noFirst (depPieces ds) ≡ true) × (isOrdered (depPieces ds) ≡ true)
+unfolding depPieces
+deps-first [] = (refl, refl)
+deps-first (e ∷ ds) = let r = deps-first ds in (r .0, and-intro (r .0) (r .1))
+
+points-first : (ps : List ℕ) (ds : List Dep) → isOrdered (pointPieces ps ++ depPieces ds) ≡ true
+unfolding pointPieces
+points-first [] ds = deps-first ds .1
+points-first (p ∷ ps) ds = points-first ps ds
+
+points-made
+    : (n : Nest) (ps : List ℕ) (ds : List Dep)
+    → madeFrom n (pointPieces ps ++ depPieces ds) .points ≡ n .points ++ ps
+unfolding pointPieces
+points-made n [] ds = points-stay n (depPieces ds) (deps-first ds .0) ∙ sym (append-nil (n .points))
+points-made n (p ∷ ps) ds = points-made (withPoint n p) ps ds ∙ append-assoc (n .points) (p ∷ []) ps
+
+deps-only : (n : Nest) (ds : List Dep) → madeFrom n (depPieces ds) .deps ≡ n .deps ++ ds
+unfolding depPieces
+deps-only n [] = sym (append-nil (n .deps))
+deps-only n (e ∷ ds) = deps-only (withDep n e) ds ∙ append-assoc (n .deps) (e ∷ []) ds
+
+deps-made
+    : (n : Nest) (ps : List ℕ) (ds : List Dep)
+    → madeFrom n (pointPieces ps ++ depPieces ds) .deps ≡ n .deps ++ ds
+unfolding pointPieces
+deps-made n [] ds = deps-only n ds
+deps-made n (p ∷ ps) ds = deps-made (withPoint n p) ps ds
+
+same-nest : (n m : Nest) → n .points ≡ m .points → n .deps ≡ m .deps → n ≡ m
+same-nest n m p q = ap (λ (ps : List ℕ). nest ps (n .deps)) p ∙ ap (λ (ds : List Dep). nest (m .points) ds) q
+
+pub nest-made : (n : Nest) → madeOf (piecesOf n) ≡ n
+nest-made n =
+    same-nest (madeOf (piecesOf n)) n (points-made empty (n .points) (n .deps)) (deps-made empty (n .points) (n .deps))
+
+-- the spelling of a valid nest spells it, so it is accepted with that nest
+pub nest-spells : (n : Nest) → isValid n ≡ true → Spells (nestText n) n
+unfolding nestText
+nest-spells n v =
+    record {
+      pieces = piecesOf n;
+      ordered = points-first (n .points) (n .deps);
+      text = refl;
+      nest-is = sym (nest-made n);
+      valid = v;
+    }
+
 pub valid-accepted : (n : Nest) → isValid n ≡ true → readNest (nestText n) ≡ got 0 0 n
-valid-accepted n h = spelling-read (n .points) (n .deps) (valid-is n h)
+valid-accepted n v = spells-read (nestText n) n (nest-spells n v)

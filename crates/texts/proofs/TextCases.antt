@@ -10,7 +10,8 @@ use Rattle.nests.specs.Kinds.{INDEPENDENT, CARRIED}
 use Rattle.nests.specs.Nests.{dep, Nest, nest, empty, withDep}
 use Rattle.lines.specs.Lines.{linesOf, frameOf}
 use Rattle.lines.proofs.Spelling.{framesText}
-use Rattle.texts.specs.NestTexts.{got, readLines, blank, readNest, pointsText, depsText, nestText}
+use Rattle.texts.specs.NestTexts.{got, readLines, blank, readNest, pointPieces, depPieces, nestText}
+use Rattle.texts.specs.Pieces.{piecesText}
 use Rattle.texts.specs.PlacementTexts.{placed, placeLines, readPlacement, keyText}
 use Rattle.texts.specs.Counts.{countsFrom}
 use Rattle.texts.specs.Program.{programText}
@@ -142,16 +143,16 @@ pub full-read : readNest (nestText full) ≡ got 0 0 full
 full-read = valid-accepted full refl
 
 pub point-257 : readNest (nestText (nest (1 ∷ replicate 256 3) [])) ≡ got 5 257 empty
-unfolding readNest readLines linesOf frameOf nestText pointsText depsText
+unfolding readNest readLines linesOf frameOf nestText pointPieces depPieces piecesText
 point-257 = refl
 
 pub dependence-513
     : readNest (nestText (nest (1 ∷ 3 ∷ 3 ∷ 2 ∷ []) (replicate 513 (dep INDEPENDENT 0 1 2)))) ≡ got 5 517 empty
-unfolding readNest readLines linesOf frameOf nestText pointsText depsText
+unfolding readNest readLines linesOf frameOf nestText pointPieces depPieces piecesText
 dependence-513 = refl
 
 pub point-after : readNest (nestText (nest (1 ∷ 2 ∷ 3 ∷ []) [])) ≡ got 4 3 empty
-unfolding readNest readLines linesOf frameOf nestText pointsText depsText
+unfolding readNest readLines linesOf frameOf nestText pointPieces depPieces piecesText
 point-after = refl
 
 -- loops 8 deep are accepted, 9 deep have number 5
@@ -162,7 +163,7 @@ pub deep-8 : readNest (nestText deep) ≡ got 0 0 deep
 deep-8 = valid-accepted deep refl
 
 pub deep-9 : readNest (nestText (nest (replicate 9 1 ++ replicate 9 2) [])) ≡ got 5 9 empty
-unfolding readNest readLines linesOf frameOf nestText pointsText depsText
+unfolding readNest readLines linesOf frameOf nestText pointPieces depPieces piecesText
 deep-9 = refl
 
 -- case 13: gap 13 of P is accepted, 14 has number 8; the key of P needs 10 bytes

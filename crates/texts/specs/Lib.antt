@@ -1,4 +1,5 @@
--- Nest texts and placement texts: how they are read, refused and spelled; and what the program writes.
+-- Nest texts, their pieces, and placement texts: how they are read, refused and spelled; and what the program writes.
+pub mod Pieces
 pub mod NestTexts
 pub mod PlacementTexts
 pub mod Counts

@@ -1,66 +1,26 @@
 -- Nest texts: read line by line with refusals 1 to 7, and spelled, a frame a line.
--- Main definitions: `readNest`, `blank`, `nestText`.
-use mathlib.Core.Bool.{Bool, true, false, _&&_, _||_, not}
+-- Main definitions: `readNest`, `blank`, `Spells`, `Means`, `nestText`.
+use mathlib.Core.Path.{_≡_}
+use mathlib.Core.Bool.{true, not}
+use mathlib.Core.Logic.{_⊎_}
 use mathlib.Core.List.{List, [], _∷_, _++_}
-use Prim.Native.Nat.{ℕ, zero, suc}
-use lib.Dec.{eqb, leb}
-use lib.ListN.{length, getD}
-use Rattle.laws.specs.Choice.{pick, when, firstOf, between}
-use Rattle.nests.specs.Kinds.{DO, ENDDO, STATEMENT, INDEPENDENT, CARRIED, POINTS, DEPTH, DEPENDENCES}
-use Rattle.nests.specs.Nests.{Dep, dep, Nest, nest, empty, withPoint, withDep}
-use Rattle.nests.specs.Loops.{depth, isClosed}
-use Rattle.nests.specs.Valid.{depFault}
-use Rattle.lines.specs.Lines.{Line, linesOf, isGood, frameOf, lineText}
-
-abbrev pub kindOf : List ℕ → ℕ
-kindOf f = getD f 0 0
-
-abbrev pub isPoint : ℕ → Bool
-isPoint k = between DO k STATEMENT
-
--- 01, "Text": a point is one byte alone, an independent dependence 11 s t, a carried one 12 d s t
-abbrev pub kindGood : List ℕ → Bool
-kindGood f =
-    (isPoint (kindOf f) && eqb (length f) 1) ||
-    ((eqb (kindOf f) INDEPENDENT && eqb (length f) 3) || (eqb (kindOf f) CARRIED && eqb (length f) 4))
-
-abbrev pub depOf : List ℕ → Dep
-depOf f =
-    pick
-    (eqb (kindOf f) INDEPENDENT)
-    (dep INDEPENDENT 0 (getD f 1 0) (getD f 2 0))
-    (dep CARRIED (getD f 1 0) (getD f 2 0) (getD f 3 0))
-
--- 01, "Numbers from the input": 3, 4 and 5 for a point
-abbrev pub pointFault : Nest → ℕ → ℕ
-pointFault n k =
-    firstOf
-    (when (leb 1 (length (n .deps))) 3)
-    (firstOf
-    (when (isClosed (n .points) || (eqb (length (n .points)) 0 && not (eqb k DO))) 4)
-    (when (leb POINTS (length (n .points)) || (eqb k DO && leb DEPTH (depth (n .points)))) 5))
-
--- 4, 5, 6 and 7 for a dependence
-abbrev pub dependenceFault : Nest → Dep → ℕ
-dependenceFault n e =
-    firstOf
-    (when (not (isClosed (n .points))) 4)
-    (firstOf (when (leb DEPENDENCES (length (n .deps))) 5) (depFault (n .points) e))
+use Prim.Native.Nat.{ℕ, suc}
+use lib.Dec.{eqb}
+use Rattle.laws.specs.Choice.{pick, when, firstOf}
+use Rattle.nests.specs.Kinds.{DO, ENDDO}
+use Rattle.nests.specs.Nests.{Dep, Nest, nest, empty}
+use Rattle.nests.specs.Loops.{isClosed}
+use Rattle.nests.specs.Valid.{isValid}
+use Rattle.lines.specs.Lines.{Line, linesOf, isGood, frameOf}
+use Rattle.texts.specs.Pieces.{Piece, Point, Depend, pieceOf, toldFault, withTold, piecesText, isOrdered, madeOf}
 
 -- 2 to 7 for a frame; 0 for none
 abbrev pub frameFault : Nest → List ℕ → ℕ
-frameFault n f =
-    firstOf
-    (when (not (kindGood f)) 2)
-    (pick (isPoint (kindOf f)) (pointFault n (kindOf f)) (dependenceFault n (depOf f)))
+frameFault n f = toldFault n (pieceOf f)
 
 -- the nest with one frame more
 abbrev pub withFrame : Nest → List ℕ → Nest
-withFrame n f =
-    pick
-    (isPoint (kindOf f))
-    (withPoint n (kindOf f))
-    (withDep n (depOf f))
+withFrame n f = withTold n (pieceOf f)
 
 -- 1 to 7 for a line; 0 for none
 abbrev pub lineFault : Nest → Line → ℕ
@@ -94,22 +54,29 @@ unfoldable pub readNest : List ℕ → Got
 readNest [] = got 0 0 blank
 readNest (b ∷ s) = readLines 1 empty (linesOf (b ∷ s))
 
--- a dependence as a frame
-abbrev pub depFrame : Dep → List ℕ
-depFrame e =
-    pick
-    (eqb (e .kind) INDEPENDENT)
-    (INDEPENDENT ∷ (e .s ∷ (e .t ∷ [])))
-    (CARRIED ∷ (e .d ∷ (e .s ∷ (e .t ∷ []))))
+-- a text and the nest that it spells: the text is that of ordered pieces, and they make the nest, which is valid
+pub record Spells (s : List ℕ) (n : Nest) : Type 0 where
+  pub pieces : List Piece
+  pub ordered : isOrdered pieces ≡ true
+  pub text : s ≡ piecesText pieces
+  pub nest-is : n ≡ madeOf pieces
+  pub valid : isValid n ≡ true
 
-unfoldable pub pointsText : List ℕ → List ℕ
-pointsText [] = []
-pointsText (p ∷ ps) = lineText (p ∷ []) ++ pointsText ps
+-- the nest that a text means: of an empty one the blank paper, of every other one the nest that it spells
+abbrev pub Means : List ℕ → Nest → Type 0
+Means s n = ((s ≡ []) × (n ≡ blank)) ⊎ Spells s n
 
-unfoldable pub depsText : List Dep → List ℕ
-depsText [] = []
-depsText (e ∷ es) = lineText (depFrame e) ++ depsText es
+-- 01, "Text": the spelling of a nest, all points, then all dependences
+unfoldable pub pointPieces : List ℕ → List Piece
+pointPieces [] = []
+pointPieces (p ∷ ps) = Point p ∷ pointPieces ps
 
--- 01, "Text": the spelling of a nest, all points, then all dependences, a frame a line
+unfoldable pub depPieces : List Dep → List Piece
+depPieces [] = []
+depPieces (e ∷ es) = Depend e ∷ depPieces es
+
+abbrev pub piecesOf : Nest → List Piece
+piecesOf n = pointPieces (n .points) ++ depPieces (n .deps)
+
 unfoldable pub nestText : Nest → List ℕ
-nestText n = pointsText (n .points) ++ depsText (n .deps)
+nestText n = piecesText (piecesOf n)

@@ -1,12 +1,13 @@
 -- What the readers of whole texts promise, and what their steps promise of the nest so far.
--- Main definitions: `IsRead`, `IsPlaced`, `HasNumbers`, `KnowsEnds`, `PointFault`, `DependenceFault`, `FrameFault`.
+-- Main definitions: `IsRead`, `IsPlaced`, `HasNumbers`, `KnowsEnds`, `toldIn`, `IsPiece`,
+-- `PointFault`, `DependenceFault`, `PieceFault`.
 use mathlib.Core.Path.{_≡_}
-use mathlib.Core.Bool.{Bool, true, false, _&&_, _||_, not}
+use mathlib.Core.Bool.{Bool, _&&_, _||_, not}
 use mathlib.Core.List.{List, []}
 use Prim.Native.Nat.{ℕ}
 use lib.Dec.{eqb, leb}
 use lib.ListN.{length}
-use Rattle.nests.specs.Kinds.{DO, POINTS, DEPTH, DEPENDENCES}
+use Rattle.nests.specs.Kinds.{DO, POINTS, DEPTH}
 use Rattle.laws.specs.Choice.{pick}
 use Rattle.nests.specs.Nests.{Nest, empty}
 use Rattle.nests.specs.Loops.{depth, HasEnds}
@@ -18,7 +19,10 @@ use Rattle.lines.specs.Reading.{IsFrame}
 use Rattle.placements.specs.Words.{gapsIn}
 use Rattle.texts.specs.declared.Reading.{Reading}
 use Rattle.texts.specs.declared.PlacementReading.{PlacementReading}
-use Rattle.texts.specs.NestTexts.{depOf, pointFault, dependenceFault, frameFault}
+use Rattle.texts.specs.declared.Piece as DP
+use Rattle.texts.specs.declared.Piece.the-variants as PV
+use Rattle.texts.specs.Pieces.{Point, Depend, Told, told, unknown, pieceOf}
+use Rattle.texts.specs.Pieces.{pointFault, dependenceFault, toldFault}
 use Rattle.texts.specs.NestTexts.{got, readNest}
 use Rattle.texts.specs.PlacementTexts.{barrierFault, placed, readPlacement}
 
@@ -59,7 +63,17 @@ pub record KnowsEnds (ps : List ℕ) (deep : ℕ) (ends : List ℕ) : Type 0 whe
   pub long : length ends ≡ POINTS
   pub has-ends : deep ≡ 0 → HasEnds ps ends
 
--- r is the refusal of a point, a dependence, a frame, in each nest with these numbers
+-- the piece of the code as what the frame tells
+abbrev pub toldIn : DP.Piece → Told
+toldIn (PV.Point k) = told (Point k)
+toldIn (PV.Dependence e) = told (Depend (depIn e))
+toldIn PV.Refused = unknown
+
+-- x is what the frame tells
+abbrev pub IsPiece : Frame → DP.Piece → Type 0
+IsPiece f x = (l : List ℕ) → IsFrame f l → toldIn x ≡ pieceOf l
+
+-- r is the refusal of a point, a dependence, a piece, in each nest with these numbers
 abbrev pub PointFault : ℕ → ℕ → ℕ → ℕ → ℕ → Type 0
 PointFault count many deep kind r = (n : Nest) → HasNumbers n count many deep → r ≡ pointFault n kind
 
@@ -67,13 +81,9 @@ abbrev pub DependenceFault : List ℕ → ℕ → ℕ → Dependence → ℕ →
 DependenceFault ps many deep e r =
     (n : Nest) → n .points ≡ ps → HasNumbers n (length ps) many deep → r ≡ dependenceFault n (depIn e)
 
-abbrev pub FrameFault : List ℕ → ℕ → ℕ → Frame → ℕ → Type 0
-FrameFault ps many deep f r =
-    (n : Nest) (l : List ℕ) → n .points ≡ ps → HasNumbers n (length ps) many deep → IsFrame f l → r ≡ frameFault n l
-
--- the dependence that a frame spells
-abbrev pub IsDependence : Frame → Dependence → Type 0
-IsDependence f e = (l : List ℕ) → IsFrame f l → depIn e ≡ depOf l
+abbrev pub PieceFault : List ℕ → ℕ → ℕ → DP.Piece → ℕ → Type 0
+PieceFault ps many deep x r =
+    (n : Nest) → n .points ≡ ps → HasNumbers n (length ps) many deep → r ≡ toldFault n (toldIn x)
 
 -- the reading of a placement text: its number and line, and the gaps, of which there is none where the text is refused
 pub record IsPlaced (n : ℕ) (s : List ℕ) (r : PlacementReading) : Type 0 where

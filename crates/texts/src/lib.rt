@@ -8,9 +8,8 @@ ghost use Rattle.nests.specs.Kinds.{POINTS};
 ghost use Rattle.nests.specs.Loops.{HasEnds};
 ghost use Rattle.nests.specs.Valid.{isShape};
 ghost use Rattle.nests.specs.Stored.{IsCounted};
-ghost use Rattle.texts.specs.NestTexts.{isPoint};
 ghost use Rattle.texts.specs.Reads.{IsRead, RefusedAs, EndedAs, closedBy, misplacedBy, tooManyBy, PointFault};
-ghost use Rattle.texts.specs.Reads.{KnowsEnds, DependenceFault, FrameFault, IsDependence};
+ghost use Rattle.texts.specs.Reads.{KnowsEnds, DependenceFault, IsPiece, PieceFault};
 ghost use Rattle.lines.specs.Writing.{over};
 ghost use Rattle.placements.specs.Placements.{areGapsFrom};
 ghost use Rattle.placements.specs.Words.{GAPS, gapsIn};
@@ -48,6 +47,13 @@ pub struct PlacementReading {
     pub placement: Placement,
 }
 
+// What a frame of a nest text tells: a point, a dependence, or nothing that is known.
+pub enum Piece {
+    Point(u8),
+    Dependence(Dependence),
+    Refused,
+}
+
 // The kind of barriers.
 pub const BARRIER: u8 = 33;
 
@@ -72,25 +78,29 @@ pub fn read_nest(text: &[u8]) -> Reading
             Read::End => return ended(nest, depth, line),
             Read::Refused(number) => return refused(number, line),
             Read::Frame(f) => {
+                let piece = piece_of(f);
                 let count = nest.count;
                 let many = nest.many;
-                let number = frame_fault(&nest.points, &ends, count, many, depth, f);
+                let number = piece_fault(&nest.points, &ends, count, many, depth, piece);
                 if number != 0 {
                     return refused(number, line);
                 }
                 at = f.next;
                 line += 1;
-                let kind = f.kind;
-                if is_point(kind) {
-                    nest.points[count] = kind;
-                    nest.count = count + 1;
-                    depth = deeper(depth, kind);
-                    if depth == 0 {
-                        ends = ends_within(&nest.points, nest.count);
+                match piece {
+                    Piece::Point(kind) => {
+                        nest.points[count] = kind;
+                        nest.count = count + 1;
+                        depth = deeper(depth, kind);
+                        if depth == 0 {
+                            ends = ends_within(&nest.points, nest.count);
+                        }
                     }
-                } else {
-                    nest.deps[many] = dependence_of(f);
-                    nest.many = many + 1;
+                    Piece::Dependence(e) => {
+                        nest.deps[many] = e;
+                        nest.many = many + 1;
+                    }
+                    Piece::Refused => return refused(2, line),
                 }
             }
         }
@@ -203,37 +213,64 @@ fn barrier_fault(last: usize, points: usize, f: Frame) -> u8
     }
 }
 
-// The refusal of a frame after the first points, 2 to 7, or 0 for none.
-fn frame_fault(all: &[u8], ends: &[usize], count: usize, many: usize, depth: usize, f: Frame) -> u8
-    requires { ⌜ count ≤ length (now all) ⌝ }
-    requires { ⌜ KnowsEnds (take count (now all)) depth (now ends) ⌝ }
-    ensures { λ r. ⌜ FrameFault (take count (now (all .entry))) many depth f r ⌝ }
+// What a frame tells, by its kind and its length.
+fn piece_of(f: Frame) -> Piece
+    ensures { λ r. ⌜ IsPiece f r ⌝ }
 {
-    let points = &all[..count];
     let kind = f.kind;
     match kind {
         DO | ENDDO | STATEMENT => {
             if f.len == 1 {
-                point_fault(count, many, depth, kind)
-            } else {
-                2
+                return Piece::Point(kind);
             }
+            Piece::Refused
         }
         INDEPENDENT => {
             if f.len == 3 {
-                dependence_fault(points, ends, many, depth, dependence_of(f))
-            } else {
-                2
+                return Piece::Dependence(Dependence {
+                    kind: INDEPENDENT,
+                    d: 0,
+                    s: f.a,
+                    t: f.b,
+                });
             }
+            Piece::Refused
         }
         CARRIED => {
             if f.len == 4 {
-                dependence_fault(points, ends, many, depth, dependence_of(f))
-            } else {
-                2
+                return Piece::Dependence(Dependence {
+                    kind: CARRIED,
+                    d: f.a,
+                    s: f.b,
+                    t: f.c,
+                });
             }
+            Piece::Refused
         }
-        _ => 2,
+        _ => Piece::Refused,
+    }
+}
+
+// The refusal of a piece after the first points, 2 to 7, or 0 for none.
+fn piece_fault(
+    all: &[u8],
+    ends: &[usize],
+    count: usize,
+    many: usize,
+    depth: usize,
+    piece: Piece,
+) -> u8
+    requires { ⌜ count ≤ length (now all) ⌝ }
+    requires { ⌜ KnowsEnds (take count (now all)) depth (now ends) ⌝ }
+    ensures { λ r. ⌜ PieceFault (take count (now (all .entry))) many depth piece r ⌝ }
+{
+    match piece {
+        Piece::Point(kind) => point_fault(count, many, depth, kind),
+        Piece::Dependence(e) => {
+            let points = &all[..count];
+            dependence_fault(points, ends, many, depth, e)
+        }
+        Piece::Refused => 2,
     }
 }
 
@@ -308,37 +345,6 @@ fn ends_within(all: &[u8], count: usize) -> [usize; Nest::POINTS]
 {
     let points = &all[..count];
     ends_of(points)
-}
-
-// The kind is a point's.
-fn is_point(kind: u8) -> bool
-    ensures { λ r. ⌜ r ≡ isPoint kind ⌝ }
-{
-    match kind {
-        DO | ENDDO | STATEMENT => true,
-        _ => false,
-    }
-}
-
-// The dependence that a frame spells.
-fn dependence_of(f: Frame) -> Dependence
-    ensures { λ r. ⌜ IsDependence f r ⌝ }
-{
-    if f.kind == INDEPENDENT {
-        Dependence {
-            kind: INDEPENDENT,
-            d: 0,
-            s: f.a,
-            t: f.b,
-        }
-    } else {
-        Dependence {
-            kind: CARRIED,
-            d: f.a,
-            s: f.b,
-            t: f.c,
-        }
-    }
 }
 
 // The length of a placement's text.

@@ -1,13 +1,13 @@
 -- An empty text is the blank paper; else each turn reads one line: it keeps the nest so far, or is the text's refusal,
 -- or its end.
 use mathlib.Core.Path.{_≡_, refl, sym, _∙_}
-use Prim.Native.Nat.{_-_, _≤_, _<_}
+use Prim.Native.Nat.{_-_, _<_}
 use native.Mathlib.Omega.{arith}
 use lib.ListN.{length, length-set}
 use borrow.Author.Needs.{needs}
 use Rattle.nests.specs.Kinds.{POINTS, DEPENDENCES}
-use Rattle.texts.proofs.Loading.{Loading, at-blank, begun, count-inside, deep-fits, at-end, at-refusal}
-use Rattle.texts.proofs.Loading.{at-fault, room-for-point, room-for-dependence, next-inside}
+use Rattle.texts.proofs.Loading.{Loading, Turn, at-blank, begun, count-inside, deep-fits, at-end, at-refusal}
+use Rattle.texts.proofs.Loading.{at-fault, not-refused, room-for-point, room-for-dependence, next-inside}
 use Rattle.texts.proofs.Loading.{on-point, on-dependence}
 use Rattle.texts.proofs.read_nest.Statement.{statement}
 use Rattle.texts.proofs.read_nest.Tie as tie
@@ -86,81 +86,73 @@ returns-3 c =
 enum-known-next-2 : tie.Need-enum-known-next-2 Inv-loop μ-loop
 enum-known-next-2 c = c .match .keys3
 
-slice-aggregate-frame-fault : tie.Need-slice-aggregate-frame-fault Inv-loop μ-loop
-slice-aggregate-frame-fault c =
-    let l = c .before .before .before .before .before .before .before .before .loop in
-    sym (l .inv .knows .long)
+piece-of-requires : tie.Need-piece-of-requires Inv-loop μ-loop
+piece-of-requires c κs = tt
 
-frame-fault-requires : tie.Need-frame-fault-requires Inv-loop μ-loop
-frame-fault-requires c κs =
-    let a = c .before .before .before .before .before .before .before .before in
+slice-aggregate-piece-fault : tie.Need-slice-aggregate-piece-fault Inv-loop μ-loop
+slice-aggregate-piece-fault c =
+    sym (c .before .before .before .before .before .before .before .before .before .loop .inv .knows .long)
+
+piece-fault-requires : tie.Need-piece-fault-requires Inv-loop μ-loop
+piece-fault-requires c κs =
+    let a = c .before .before .before .before .before .before .before .before .before in
     let l = a .loop in
     let s = a .before .before .before .before in (
       count-inside (s .args .text .now) (l .nest) (l .ends) (l .depth) (l .at) (l .line) (l .inv),
       l .inv .knows,
     )
 
+-- before a frame's refusal: the head of the loop, and the piece that the frame tells; before a point and a dependence
+-- are stored: the refusal
+abbrev head : tie.After-piece-fault Inv-loop μ-loop → tie.At-loop Inv-loop μ-loop
+head k = k .before .before .before .before .before .before .before .before .before .before
+
+abbrev told : tie.After-piece-fault Inv-loop μ-loop → tie.After-piece-of Inv-loop μ-loop
+told k = k .before .before .before .before .before
+
+abbrev told-point : tie.After-known-told3 Inv-loop μ-loop → tie.After-piece-fault Inv-loop μ-loop
+told-point c = c .before .before .before .before
+
+abbrev told-dependence : tie.After-known-told4 Inv-loop μ-loop → tie.After-piece-fault Inv-loop μ-loop
+told-dependence c = c .before .before .before .before
+
+-- the frame of a good line, with its piece and its refusal
+turn
+    : (k : tie.After-piece-fault Inv-loop μ-loop)
+    → let l = head k .loop in
+    let s = head k .before .before .before .before in
+    let f = told k .before .before .next2 .given .0 .0 in
+    let x = told k .piece-of .result in
+    Turn (s .args .text .now) (l .nest) (l .ends) (l .depth) (l .at) (l .line) f x (k .piece-fault .result)
+turn k =
+    let r = told k .before .before .before .before in
+    record {
+      so-far = head k .loop .inv;
+      frame-is = sym (r .read-line .ensures) ∙ told k .before .before .next2 .given .1;
+      piece-is = told k .piece-of .ensures;
+      fault-is = k .piece-fault .ensures;
+    }
+
 refused-requires-2 : tie.Need-refused-requires-2 Inv-loop μ-loop
 refused-requires-2 c κs = tt
 
 returns-4 : tie.Need-returns-4 Inv-loop μ-loop
-returns-4 c =
-    let k = c .before .before in
-    let f = k .before .before .before .before .before .before .next2 in
-    let r = k .before .before .before .before .before .before .before .before in
-    let l = r .before .loop in
-    let s = r .before .before .before .before .before in
-    at-fault
-    (s .args .text .now)
-    (l .nest)
-    (l .ends)
-    (l .depth)
-    (l .at)
-    (l .line)
-    (l .inv)
-    (f .given .0 .0)
-    (sym (r .read-line .ensures) ∙ f .given .1)
-    (k .frame-fault .result)
-    (k .frame-fault .ensures)
-    (c .refused2 .result)
-    (c .before .if2 .taken)
-    (c .refused2 .ensures)
+returns-4 c = at-fault (turn (c .before .before)) (c .refused2 .result) (c .before .if2 .taken) (c .refused2 .ensures)
 
 add-line : tie.Need-add-line Inv-loop μ-loop
 add-line c =
-    let a = c .before .before .before .before .before .before .before .before .before .before in
-    let l = a .loop in
-    let s = a .before .before .before .before in
+    let l = head (c .before) .loop in
+    let s = head (c .before) .before .before .before .before in
     omega (arith, l .inv .inside, l .inv .lines, s .good .0)
 
-is-point-requires : tie.Need-is-point-requires Inv-loop μ-loop
-is-point-requires c κs = tt
+enum-known-piece : tie.Need-enum-known-piece Inv-loop μ-loop
+enum-known-piece c = c .match2 .keys1
 
 -- a point has room
-point-fits
-    : (c : tie.Then3 Inv-loop μ-loop)
-    → let k = c .before .before .before in
-    k .before .before .before .before .before .before .before .before .before .loop .nest .count < POINTS
+point-fits : (c : tie.After-known-told3 Inv-loop μ-loop) → head (told-point c) .loop .nest .count < POINTS
 point-fits c =
-    let k = c .before .before .before in
-    let f = k .before .before .before .before .before .before .next2 in
-    let r = k .before .before .before .before .before .before .before .before in
-    let l = r .before .loop in
-    let s = r .before .before .before .before .before in
-    room-for-point
-    (s .args .text .now)
-    (l .nest)
-    (l .ends)
-    (l .depth)
-    (l .at)
-    (l .line)
-    (l .inv)
-    (f .given .0 .0)
-    (sym (r .read-line .ensures) ∙ f .given .1)
-    (k .frame-fault .result)
-    (k .frame-fault .ensures)
-    (c .before .before .if2 .left)
-    (sym (c .before .is-point .ensures) ∙ c .if3 .taken)
+    let none = c .before .before .before .if2 .left in
+    room-for-point (turn (told-point c)) _ (c .before .piece .given .1) none
 
 element-write-nest : tie.Need-element-write-nest Inv-loop μ-loop
 element-write-nest c = point-fits c
@@ -170,178 +162,88 @@ add-nest c = omega (arith, point-fits c)
 
 deeper-requires : tie.Need-deeper-requires Inv-loop μ-loop
 deeper-requires c κs =
-    let a = c .before .before .before .before .before .before .before .before .before .before .before .before in
-    let l = a .loop in
-    let s = a .before .before .before .before in
+    let l = head (told-point c) .loop in
+    let s = head (told-point c) .before .before .before .before in
     deep-fits (s .args .text .now) (l .nest) (l .ends) (l .depth) (l .at) (l .line) (l .inv)
 
 ends-within-requires : tie.Need-ends-within-requires Inv-loop μ-loop
 ends-within-requires c κs =
     let t = c .before .before .before .before .before in
-    let k = t .before .before .before in
-    let f = k .before .before .before .before .before .before .next2 in
-    let n = k .before .before .before .before .before .before .before .before .before .loop .nest in
+    let n = head (told-point t) .loop .nest in
     let few = point-fits t in
     let all : length (n .points) ≡ POINTS = search needs in
-    (omega (arith, few, all, length-set (n .points) (n .count) (f .given .0 .0 .kind)), omega (arith, few))
-
--- the next line starts later
-goes-on
-    : (k : tie.After-frame-fault Inv-loop μ-loop)
-    → let l = k .before .before .before .before .before .before .before .before .before .loop in
-    let f = k .before .before .before .before .before .before .next2 in
-    let s = k .before .before .before .before .before .before .before .before .before .before .before .before .before in
-    (l .at < f .given .0 .0 .next) × (f .given .0 .0 .next ≤ length (s .args .text .now))
-goes-on k =
-    let f = k .before .before .before .before .before .before .next2 in
-    let r = k .before .before .before .before .before .before .before .before in
-    let l = r .before .loop in
-    let s = r .before .before .before .before .before in
-    next-inside
-    (s .args .text .now)
-    (l .nest)
-    (l .ends)
-    (l .depth)
-    (l .at)
-    (l .line)
-    (l .inv)
-    (f .given .0 .0)
-    (sym (r .read-line .ensures) ∙ f .given .1)
-    (k .frame-fault .result)
-    (k .frame-fault .ensures)
+    (omega (arith, few, all, length-set (n .points) (n .count) (t .before .piece .given .0 .0)), omega (arith, few))
 
 loop-less : tie.Need-loop-less Inv-loop μ-loop
 loop-less c =
-    let n = goes-on (c .before .before .before .before .before .before .before .before .before) in
+    let t = c .before .before .before .before .before .before in
+    let n = next-inside (turn (told-point t)) in
     omega (arith, n .0, n .1)
 
 loop-again : tie.Need-loop-again Inv-loop μ-loop
 loop-again c =
     let d = c .before .before .before .before .before in
-    let k = d .before .before .before .before in
-    let f = k .before .before .before .before .before .before .next2 in
-    let r = k .before .before .before .before .before .before .before .before in
-    let l = r .before .loop in
-    let s = r .before .before .before .before .before in
-    on-point
-    (s .args .text .now)
-    (l .nest)
-    (l .ends)
-    (l .depth)
-    (l .at)
-    (l .line)
-    (l .inv)
-    (f .given .0 .0)
-    (sym (r .read-line .ensures) ∙ f .given .1)
-    (k .frame-fault .result)
-    (k .frame-fault .ensures)
-    (c .ends-within .result)
-    (d .deeper .result)
-    (d .before .before .before .if2 .left)
-    (sym (d .before .before .is-point .ensures) ∙ d .before .if3 .taken)
-    (search needs)
-    (d .deeper .ensures)
+    let t = d .before in
+    let none = t .before .before .before .if2 .left in
+    on-point (turn (told-point t)) _ (t .before .piece .given .1) none (c .ends-within .result) (d .deeper .result)
+    (search needs) (d .deeper .ensures)
     (record { long = search needs; has-ends = λ z. c .ends-within .ensures })
 
 loop-less-2 : tie.Need-loop-less-2 Inv-loop μ-loop
 loop-less-2 c =
-    let n = goes-on (c .before .before .before .before .before) in
+    let t = c .before .before in
+    let n = next-inside (turn (told-point t)) in
     omega (arith, n .0, n .1)
 
 loop-again-2 : tie.Need-loop-again-2 Inv-loop μ-loop
 loop-again-2 c =
     let d = c .before in
-    let k = d .before .before .before .before in
-    let f = k .before .before .before .before .before .before .next2 in
-    let r = k .before .before .before .before .before .before .before .before in
-    let l = r .before .loop in
-    let s = r .before .before .before .before .before in
-    on-point
-    (s .args .text .now)
-    (l .nest)
-    (l .ends)
-    (l .depth)
-    (l .at)
-    (l .line)
-    (l .inv)
-    (f .given .0 .0)
-    (sym (r .read-line .ensures) ∙ f .given .1)
-    (k .frame-fault .result)
-    (k .frame-fault .ensures)
-    (l .ends)
-    (d .deeper .result)
-    (d .before .before .before .if2 .left)
-    (sym (d .before .before .is-point .ensures) ∙ d .before .if3 .taken)
-    (search needs)
-    (d .deeper .ensures)
-    (record { long = l .inv .knows .long; has-ends = λ z. absurd (c .if4 .left z) })
+    let t = d .before in
+    let l = head (told-point t) .loop in
+    let none = t .before .before .before .if2 .left in
+    on-point (turn (told-point t)) _ (t .before .piece .given .1) none (l .ends) (d .deeper .result)
+    (search needs) (d .deeper .ensures)
+    (record { long = l .inv .knows .long; has-ends = λ z. absurd (c .if3 .left z) })
 
-dependence-of-requires : tie.Need-dependence-of-requires Inv-loop μ-loop
-dependence-of-requires c κs = tt
+enum-known-piece-2 : tie.Need-enum-known-piece-2 Inv-loop μ-loop
+enum-known-piece-2 c = c .match2 .keys2
 
 -- a dependence has room
-dependence-fits
-    : (c : tie.After-dependence-of Inv-loop μ-loop)
-    → let k = c .before .before .before .before in
-    k .before .before .before .before .before .before .before .before .before .loop .nest .many < DEPENDENCES
+dependence-fits : (c : tie.After-known-told4 Inv-loop μ-loop) → head (told-dependence c) .loop .nest .many < DEPENDENCES
 dependence-fits c =
-    let k = c .before .before .before .before in
-    let f = k .before .before .before .before .before .before .next2 in
-    let r = k .before .before .before .before .before .before .before .before in
-    let l = r .before .loop in
-    let s = r .before .before .before .before .before in
-    room-for-dependence
-    (s .args .text .now)
-    (l .nest)
-    (l .ends)
-    (l .depth)
-    (l .at)
-    (l .line)
-    (l .inv)
-    (f .given .0 .0)
-    (sym (r .read-line .ensures) ∙ f .given .1)
-    (k .frame-fault .result)
-    (k .frame-fault .ensures)
-    (c .before .before .before .if2 .left)
-    (sym (c .before .before .is-point .ensures) ∙ c .before .if3 .left)
+    let none = c .before .before .before .if2 .left in
+    room-for-dependence (turn (told-dependence c)) _ (c .before .piece2 .given .1) none
 
-mul-t33 : tie.Need-mul-t33 Inv-loop μ-loop
-mul-t33 c = omega (arith, dependence-fits c)
+mul-e : tie.Need-mul-e Inv-loop μ-loop
+mul-e c = omega (arith, dependence-fits c)
 
-element-set-from-nest : tie.Need-element-set-from-nest Inv-loop μ-loop
-element-set-from-nest c = dependence-fits c
+element-set-from-e : tie.Need-element-set-from-e Inv-loop μ-loop
+element-set-from-e c = dependence-fits c
 
 add-nest-2 : tie.Need-add-nest-2 Inv-loop μ-loop
 add-nest-2 c = omega (arith, dependence-fits c)
 
 loop-less-3 : tie.Need-loop-less-3 Inv-loop μ-loop
 loop-less-3 c =
-    let n = goes-on (c .before .before .before .before) in
+    let n = next-inside (turn (told-dependence c)) in
     omega (arith, n .0, n .1)
 
 loop-again-3 : tie.Need-loop-again-3 Inv-loop μ-loop
 loop-again-3 c =
-    let k = c .before .before .before .before in
-    let f = k .before .before .before .before .before .before .next2 in
-    let r = k .before .before .before .before .before .before .before .before in
-    let l = r .before .loop in
-    let s = r .before .before .before .before .before in
-    on-dependence
-    (s .args .text .now)
-    (l .nest)
-    (l .ends)
-    (l .depth)
-    (l .at)
-    (l .line)
-    (l .inv)
-    (f .given .0 .0)
-    (sym (r .read-line .ensures) ∙ f .given .1)
-    (k .frame-fault .result)
-    (k .frame-fault .ensures)
-    (c .dependence-of .result)
-    (c .before .before .before .if2 .left)
-    (sym (c .before .before .is-point .ensures) ∙ c .before .if3 .left)
-    (c .dependence-of .ensures)
+    let none = c .before .before .before .if2 .left in
+    on-dependence (turn (told-dependence c)) _ (c .before .piece2 .given .1) none
+
+enum-told-2 : tie.Need-enum-told-2 Inv-loop μ-loop
+enum-told-2 c = c .match2 .keys3
+
+refused-requires-3 : tie.Need-refused-requires-3 Inv-loop μ-loop
+refused-requires-3 c κs = tt
+
+-- what is not known was refused before
+returns-5 : tie.Need-returns-5 Inv-loop μ-loop
+returns-5 c =
+    let n = c .before .before .before in
+    absurd (not-refused (turn (n .before)) (c .before .enum-told2 .given .1) (n .if2 .left))
 
 pub read-nest-spec : {M : Type 1} → statement M
 read-nest-spec =
@@ -361,12 +263,13 @@ read-nest-spec =
     refused-requires
     returns-3
     enum-known-next-2
-    slice-aggregate-frame-fault
-    frame-fault-requires
+    piece-of-requires
+    slice-aggregate-piece-fault
+    piece-fault-requires
     refused-requires-2
     returns-4
     add-line
-    is-point-requires
+    enum-known-piece
     element-write-nest
     add-nest
     deeper-requires
@@ -375,9 +278,12 @@ read-nest-spec =
     loop-again
     loop-less-2
     loop-again-2
-    dependence-of-requires
-    mul-t33
-    element-set-from-nest
+    enum-known-piece-2
+    mul-e
+    element-set-from-e
     add-nest-2
     loop-less-3
-    loop-again-3)
+    loop-again-3
+    enum-told-2
+    refused-requires-3
+    returns-5)
