@@ -19,7 +19,8 @@ use Rattle.lines.specs.Lines.{lineText}
 use Rattle.placements.specs.Placements.{loopCount}
 use Rattle.texts.specs.NestTexts.{readNest}
 use Rattle.texts.specs.PlacementTexts.{keyText}
-use Rattle.texts.specs.Program.{COUNT, LONGEST, countsFrom, countsText, answerText, programText}
+use Rattle.texts.specs.Counts.{COUNT, countsFrom, countsText}
+use Rattle.texts.specs.Program.{LONGEST, answerText, programText}
 use Rattle.keys.specs.KeyOf.{keyOf}
 use Rattle.desk.specs.Desks.{Desk, loadedDesk, withKey, deskIn}
 use Rattle.desk.specs.Says.{countFault}

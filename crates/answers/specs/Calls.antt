@@ -8,7 +8,8 @@ use lib.ListN.{length, take}
 use Rattle.laws.specs.Choice.{pick}
 use Rattle.nests.specs.Kinds.{DO}
 use Rattle.lines.specs.Lines.{lineText}
-use Rattle.texts.specs.Program.{COUNT, LONGEST, refusalText}
+use Rattle.texts.specs.Counts.{COUNT}
+use Rattle.texts.specs.Program.{LONGEST, refusalText}
 use Rattle.desk.specs.declared.Desk as DD
 use Rattle.desk.specs.declared.Reply as DR
 use Rattle.desk.specs.declared.Answer as DA
