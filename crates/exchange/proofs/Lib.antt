@@ -2,7 +2,7 @@
 -- neighbours among the gaps around it; the swap of a loop's barriers for the planner's; the theorem.
 pub mod Totals
 pub mod Prices
--- pub mod Beside
--- pub mod Swap
--- pub mod SwapCounts
--- pub mod Fewest
+pub mod Beside
+pub mod Swap
+pub mod SwapCounts
+pub mod Fewest

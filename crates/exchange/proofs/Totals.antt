@@ -41,7 +41,7 @@ module _ (f h : ℕ → ℕ) (p c : ℕ) where
     where
       go : (n ≡ p) ⊎ ((n ≡ p) → ⊥) → (p < n → total f n ≡ total h n + c) → f n + total f n ≡ h n + total h n + c
       go (inl z) r =
-          let below : total f n ≡ total h n = total-same f h n (λ m i. e m (omega arith) (λ (y : m ≡ p). omega arith)) in
+          let below : total f n ≡ total h n = total-same f h n (λ m i. e m (omega arith) (λ y. omega arith)) in
           let here : f n ≡ h n + c = rw z u in
           omega arith
       go (inr z) r = omega (arith, e n (omega arith) z, r (omega (arith, z)))
@@ -54,7 +54,7 @@ module _ (f h : ℕ → ℕ) (p c : ℕ) where
     where
       go : (n ≡ p) ⊎ ((n ≡ p) → ⊥) → (p < n → total f n ≤ total h n + c) → f n + total f n ≤ h n + total h n + c
       go (inl z) r =
-          let below : total f n ≡ total h n = total-same f h n (λ m i. e m (omega arith) (λ (y : m ≡ p). omega arith)) in
+          let below : total f n ≡ total h n = total-same f h n (λ m i. e m (omega arith) (λ y. omega arith)) in
           let here : f n ≤ h n + c = rw z u in
           omega arith
       go (inr z) r = omega (arith, e n (omega arith) z, r (omega (arith, z)))
