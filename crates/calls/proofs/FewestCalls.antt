@@ -1,0 +1,51 @@
+-- 001, lemma 2, in the desk's words: under turns that fit, no correct placement has fewer barrier calls than the key.
+-- Main statement: `fewest-calls`.
+use mathlib.Core.Path.{_≡_, _∙_}
+use mathlib.Core.Bool.{true}
+use mathlib.Core.List.{List}
+use Prim.Native.Nat.{ℕ, _≤_}
+use native.Mathlib.Omega.{arith}
+use Rattle.nests.specs.Nests.{Nest}
+use Rattle.nests.specs.Valid.{isShape, isValid}
+use Rattle.nests.proofs.Deps.{valid-is, deps-fit}
+use Rattle.placements.specs.Placements.{isCorrect}
+use Rattle.placements.proofs.Cuts.{correct-gaps, correct-cuts}
+use Rattle.planner.specs.Home.{loopsIn, keyIn}
+use Rattle.planner.proofs.Instance.{AllFit}
+use Rattle.exchange.proofs.Prices.{calls, calls-same}
+use Rattle.exchange.proofs.Fewest.{nest-fewest}
+use Rattle.keys.specs.KeyOf.{keyOf}
+use Rattle.keys.proofs.Predicates.{memberOf, list-cuts, same-count}
+use Rattle.keys.proofs.KeyGaps.{key-gaps, in-key}
+use Rattle.calls.specs.Calls.{callsOf, turnsFit}
+use Rattle.calls.proofs.ByLoops.{priceOf, list-calls, doubling}
+
+module _ (n : Nest) (shape : isShape (n .points) ≡ true) (fit : AllFit (n .points) (n .deps)) (ts : List ℕ) where
+  -- the key's calls are those of the placement that the planner lays
+  key-calls :
+      callsOf n ts (keyOf n) ≡
+      calls (loopsIn (n .points)) 0 (priceOf (n .points) ts) (keyIn (n .points) (n .deps))
+  key-calls =
+      list-calls n shape ts (keyOf n) (key-gaps n shape fit) ∙
+      calls-same (loopsIn (n .points)) 0 (priceOf (n .points) ts) (memberOf (keyOf n)) (keyIn (n .points) (n .deps))
+      (λ l h. same-count (n .points) (memberOf (keyOf n)) (keyIn (n .points) (n .deps)) l (in-key n shape fit))
+
+  -- of points that make loops and dependences that are placed well
+  pub fitting-calls :
+      turnsFit n ts ≡ true → (gs : List ℕ) → isCorrect n gs ≡ true → callsOf n ts (keyOf n) ≤ callsOf n ts gs
+  fitting-calls turns gs c =
+      omega (
+        arith,
+        key-calls,
+        list-calls n shape ts gs (correct-gaps n gs c),
+        nest-fewest (n .points) (n .deps) shape fit (priceOf (n .points) ts) (doubling n shape ts turns) (memberOf gs)
+        (λ e a. list-cuts (n .points) e gs (correct-cuts n gs c e a)),
+      )
+
+-- 02, job 11: no correct placement has fewer calls under those turns
+pub fewest-calls :
+    (n : Nest) (ts gs : List ℕ) → isValid n ≡ true → turnsFit n ts ≡ true → isCorrect n gs ≡ true →
+    callsOf n ts (keyOf n) ≤ callsOf n ts gs
+fewest-calls n ts gs h turns c =
+    let v = valid-is n h in
+    fitting-calls n (v .shape) (deps-fit (n .points) (n .deps) (v .all-deps)) ts turns gs c

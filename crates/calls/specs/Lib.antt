@@ -1,0 +1,2 @@
+-- Barrier calls in a run.
+pub mod Calls
