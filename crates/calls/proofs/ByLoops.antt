@@ -8,11 +8,10 @@ use mathlib.Core.Logic.{⊎-elim}
 use Prim.Native.Nat.{ℕ, zero, suc, _+_, _*_, _≤_, _<_}
 use native.Mathlib.Nat.{zero-mul, suc-mul, mul-le-mul-right}
 use native.Mathlib.Omega.{arith}
-use lib.Dec.{eqb}
 use lib.ListN.{length}
 use borrow.Author.Tests.{eq-eqb, ne-eqb}
 use Rattle.laws.specs.Choice.{when}
-use Rattle.laws.proofs.Tests.{test, eq-or}
+use Rattle.laws.proofs.Tests.{test}
 use Rattle.nests.specs.Nests.{Nest}
 use Rattle.nests.specs.Loops.{isDo, endOf, ownerOf}
 use Rattle.nests.specs.Valid.{isShape}

@@ -39,7 +39,7 @@ module _ (n : Nest) (shape : isShape (n .points) ≡ true) (fit : AllFit (n .poi
         key-calls,
         list-calls n shape ts gs (correct-gaps n gs c),
         nest-fewest (n .points) (n .deps) shape fit (priceOf (n .points) ts) (doubling n shape ts turns) (memberOf gs)
-        (λ e a. list-cuts (n .points) e gs (correct-cuts n gs c e a)),
+            (λ e a. list-cuts (n .points) e gs (correct-cuts n gs c e a)),
       )
 
 -- 02, job 11: no correct placement has fewer calls under those turns

@@ -4,5 +4,5 @@ pub mod Turns
 pub mod Times
 pub mod ByLoops
 pub mod FewestCalls
--- pub mod Sizes
--- pub mod CallCases
+pub mod Sizes
+pub mod CallCases

@@ -1,20 +1,21 @@
 -- How often a gap is passed in a run, from the turns of the loops around it: of two gaps with the same loop as often,
 -- and after a DO as often as before it times the loop's turns.
--- Main statements: `times-own`, `times-do`.
+-- Main statements: `times-own`, `times-do`, `times-end`, `times-plain`.
 use mathlib.Core.Path.{_≡_, refl, sym, ap, _∙_}
 use mathlib.Core.Bool.{Bool, true, false, _&&_}
 use mathlib.Core.List.{List}
 use mathlib.Core.Logic.{_⊎_, inl, inr, ⊎-elim}
-use Prim.Native.Nat.{ℕ, zero, suc, _+_, _*_, _≤_, _<_}
+use Prim.Native.Nat.{ℕ, zero, suc, _*_, _≤_, _<_}
 use native.Mathlib.Omega.{arith}
 use lib.Dec.{leb}
 use lib.ListN.{length}
 use borrow.Author.Tests.{leb-true, le-leb}
 use Rattle.laws.specs.Choice.{pick}
-use Rattle.laws.proofs.Tests.{test, le-or, false-by, bool-by, and-true}
-use Rattle.nests.specs.Loops.{isDo, endOf, ownerOf}
+use Rattle.laws.proofs.Tests.{le-or, lt-by, false-by, bool-by, and-true}
+use Rattle.nests.specs.Loops.{isDo, isEnd, endOf, ownerOf}
 use Rattle.nests.specs.Valid.{isShape}
-use Rattle.nests.proofs.Loops.{end-after, nested, Owner, owner-law, owner-inside}
+use Rattle.nests.proofs.Loops.{end-after, end-has-do, end-owner-before, nested, outermost, Owner, owner-law}
+use Rattle.nests.proofs.Gaps.{owner-after-end, owner-after-plain}
 use Rattle.calls.specs.Calls.{turnsOf, timesFrom, timesAt}
 
 module _ (ps ts : List ℕ) where
@@ -107,3 +108,27 @@ module _ (ps : List ℕ) (shape : isShape ps ≡ true) (ts : List ℕ) where
           outer z =
               le-leb (suc d) (endOf ps x)
               (omega (arith, end-after ps shape d h, nested ps shape x d k h p (leb-true d (endOf ps x) z)))
+
+  -- after an ENDDO as often as before its loop's DO, and after a statement as often as before it
+  pub times-end :
+      (e : ℕ) → isEnd ps e ≡ true → suc e < length ps → timesAt ps ts (suc e) ≡ timesAt ps ts (ownerOf ps e)
+  times-end e h l =
+      times-own (suc e) (omega arith) l ∙
+      rw (owner-after-end ps shape e l h) (sym (times-own (ownerOf ps e) inner (omega (arith, before))))
+    where
+      before : ownerOf ps e < e
+      before = end-owner-before ps shape e h
+
+      -- the outermost loop ends at the last point
+      inner : 0 < ownerOf ps e
+      inner = lt-by (λ z. (
+          let o : ownerOf ps e ≡ 0 = omega arith in
+          let q : endOf ps (ownerOf ps e) ≡ endOf ps 0 = ap (endOf ps) o in
+          omega (arith, end-has-do ps shape e h, outermost ps shape)))
+
+  pub times-plain :
+      (i : ℕ) → 0 < i → suc i < length ps → isDo ps i ≡ false → isEnd ps i ≡ false →
+      timesAt ps ts (suc i) ≡ timesAt ps ts i
+  times-plain i a l h k =
+      times-own (suc i) (omega arith) l ∙
+      rw (owner-after-plain ps shape i l h k) (sym (times-own i a (omega arith)))

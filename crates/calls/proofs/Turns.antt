@@ -1,22 +1,22 @@
 -- Turns that fit: each loop has its own, at most 16, and every loop but the outermost at least 2.
 -- Main statements: `fit-is`, `turns-most`, `turns-least`.
 use mathlib.Core.Path.{_≡_}
-use mathlib.Core.Bool.{Bool, true, false, _&&_}
+use mathlib.Core.Bool.{true}
 use mathlib.Core.List.{List, [], _∷_}
 use mathlib.Core.Logic.{_⊎_, inl, inr}
-use Prim.Native.Nat.{ℕ, zero, suc, _+_, _≤_, _<_}
+use Prim.Native.Nat.{ℕ, zero, suc, _≤_, _<_}
 use native.Mathlib.Omega.{arith}
 use lib.Dec.{eqb}
 use lib.ListN.{length, getD}
 use borrow.Author.Tests.{eqb-true}
-use Rattle.laws.specs.Choice.{between, when}
-use Rattle.laws.proofs.Tests.{test, le-or, eq-or, and-true}
+use Rattle.laws.specs.Choice.{between}
+use Rattle.laws.proofs.Tests.{eq-or, and-true}
 use Rattle.laws.proofs.Ranges.{in-between}
 use Rattle.nests.specs.Nests.{Nest}
 use Rattle.nests.specs.Loops.{isDo}
 use Rattle.nests.specs.Valid.{isShape}
 use Rattle.nests.proofs.Levels.{starts-with-do, point-in}
-use Rattle.calls.specs.Calls.{TURNS, dosBefore, turnsOf, areTurns, turnsFit}
+use Rattle.calls.specs.Calls.{TURNS, INNER, OUTER, dosBefore, turnsOf, areTurns, turnsFit}
 
 -- ---- the DOs before a point
 
@@ -61,12 +61,12 @@ module _ (first inner : ℕ) where
 
 pub record Fits (n : Nest) (ts : List ℕ) : Type 0 where
   pub as-many : length ts ≡ dosBefore (n .points) (length (n .points))
-  pub bounds : areTurns 1 2 ts ≡ true
+  pub bounds : areTurns OUTER INNER ts ≡ true
 
 pub fit-is : (n : Nest) (ts : List ℕ) → turnsFit n ts ≡ true → Fits n ts
 fit-is n ts h =
     let many = dosBefore (n .points) (length (n .points)) in
-    let z = and-true (eqb (length ts) many) (areTurns 1 2 ts) h in
+    let z = and-true (eqb (length ts) many) (areTurns OUTER INNER ts) h in
     record { as-many = eqb-true (length ts) many (z .0); bounds = z .1 }
 
 module _ (n : Nest) (shape : isShape (n .points) ≡ true) (ts : List ℕ) (fit : turnsFit n ts ≡ true) where
@@ -79,10 +79,10 @@ module _ (n : Nest) (shape : isShape (n .points) ≡ true) (ts : List ℕ) (fit 
       )
 
   pub turns-most : (d : ℕ) → isDo (n .points) d ≡ true → turnsOf (n .points) ts d ≤ TURNS
-  turns-most d h = list-most 1 2 ts (fit-is n ts fit .bounds) (dosBefore (n .points) d) (in-list d h)
+  turns-most d h = list-most OUTER INNER ts (fit-is n ts fit .bounds) (dosBefore (n .points) d) (in-list d h)
 
-  pub turns-least : (d : ℕ) → isDo (n .points) d ≡ true → 0 < d → 2 ≤ turnsOf (n .points) ts d
-  turns-least d h l = list-least 1 2 ts (fit-is n ts fit .bounds) (dosBefore (n .points) d) later (in-list d h)
+  pub turns-least : (d : ℕ) → isDo (n .points) d ≡ true → 0 < d → INNER ≤ turnsOf (n .points) ts d
+  turns-least d h l = list-least OUTER INNER ts (fit-is n ts fit .bounds) (dosBefore (n .points) d) later (in-list d h)
     where
       -- the outermost loop's DO stands before
       later : 0 < dosBefore (n .points) d

@@ -18,10 +18,14 @@ use Rattle.planner.proofs.Claim.{Hit, Sound}
 use Rattle.planner.proofs.AttainedEmpty.{InChild, each-in-child}
 use Rattle.exchange.proofs.Beside.{ends-within, inside-or, lies-around}
 
--- z in the range of l; elsewhere x, with the gap before l's DO and the gap after its ENDDO
+-- the gap before l's DO and the gap after its ENDDO
+abbrev beside : Loops → ℕ → ℕ → Bool
+beside B l g = eqb g l || eqb g (suc (B .stop l))
+
+-- z in the range of l; elsewhere x, with the gaps beside l
 unfoldable pub swap : Loops → ℕ → (ℕ → Bool) → (ℕ → Bool) → ℕ → Bool
 swap B l z x g =
-    pick (ltb l g && leb g (B .stop l)) (z g) (x g || (eqb g l || eqb g (suc (B .stop l))))
+    pick (ltb l g && leb g (B .stop l)) (z g) (x g || beside B l g)
 
 module _ (B : Loops) (l : ℕ) (z x : ℕ → Bool) where
   pub swap-in : (g : ℕ) → l < g → g ≤ B .stop l → swap B l z x g ≡ z g
@@ -29,7 +33,7 @@ module _ (B : Loops) (l : ℕ) (z x : ℕ → Bool) where
   swap-in g low high = rw (lt-ltb l g low, le-leb g (B .stop l) high)
 
   swap-out : (g : ℕ) → (l < g → g ≤ B .stop l → ⊥) →
-      swap B l z x g ≡ (x g || (eqb g l || eqb g (suc (B .stop l))))
+      swap B l z x g ≡ (x g || beside B l g)
   unfolding swap
   swap-out g out = rw outside
     where
@@ -38,17 +42,12 @@ module _ (B : Loops) (l : ℕ) (z x : ℕ → Bool) where
           let t = and-true (ltb l g) (leb g (B .stop l)) h in
           out (ltb-true l g (t .0)) (leb-true g (B .stop l) (t .1))))
 
-  pub swap-aside :
-      (g : ℕ) → (l < g → g ≤ B .stop l → ⊥) → (g ≡ l → ⊥) → (g ≡ suc (B .stop l) → ⊥) → swap B l z x g ≡ x g
-  swap-aside g out p q =
-      swap-out g out ∙ rw (ne-eqb g l p, ne-eqb g (suc (B .stop l)) q) (or-off (x g))
-
   swap-keeps : (g : ℕ) → (l < g → g ≤ B .stop l → ⊥) → x g ≡ true → swap B l z x g ≡ true
-  swap-keeps g out h = rw (swap-out g out) (or-left (eqb g l || eqb g (suc (B .stop l))) h)
+  swap-keeps g out h = rw (swap-out g out) (or-left (beside B l g) h)
 
   swap-before : swap B l z x l ≡ true
   swap-before =
-      rw (swap-out l (λ i j. omega arith)) (or-right (x l) (or-left (eqb l (suc (B .stop l))) (eq-eqb l l refl)))
+      rw (swap-out l (λ i j. omega arith)) (or-right (x l) (or-left _ (eq-eqb l l refl)))
 
   swap-after : swap B l z x (suc (B .stop l)) ≡ true
   swap-after =
@@ -56,6 +55,12 @@ module _ (B : Loops) (l : ℕ) (z x : ℕ → Bool) where
     where
       after : ℕ
       after = suc (B .stop l)
+
+  -- outside l's range and not beside l nothing changes
+  pub swap-aside :
+      (g : ℕ) → (l < g → g ≤ B .stop l → ⊥) → (g ≡ l → ⊥) → (g ≡ suc (B .stop l) → ⊥) → swap B l z x g ≡ x g
+  swap-aside g out p q =
+      swap-out g out ∙ rw (ne-eqb g l p, ne-eqb g (suc (B .stop l)) q) (or-off (x g))
 
   -- a line that was cut is cut still, if it begins before l's range or ends after it wherever the two share a gap
   swap-hit : (a b : ℕ) → ((g : ℕ) → a ≤ g → g ≤ b → l < g → g ≤ B .stop l → (a ≤ l) ⊎ (B .stop l < b)) →

@@ -1,0 +1,94 @@
+-- How large a number of calls can be: a gap lies in at most 8 loops of at most 16 turns, and a placement has at most
+-- 255 gaps.
+-- Main statements: `times-deep`, `times-most`, `calls-most`, `calls-fit`.
+use mathlib.Core.Path.{_≡_, ap, _∙_}
+use mathlib.Core.Bool.{true}
+use mathlib.Core.List.{List, [], _∷_}
+use mathlib.Core.Logic.{⊎-elim}
+use Prim.Native.Nat.{ℕ, zero, suc, _+_, _-_, _*_, _^_, _≤_, _<_}
+use native.Mathlib.Nat.{suc-mul, mul-le-mul, mul-le-mul-right, pow-succ', pow-le-pow-right}
+use native.Mathlib.Omega.{arith}
+use lib.ListN.{length}
+use Rattle.laws.proofs.Tests.{le-or}
+use Rattle.nests.specs.Kinds.{POINTS, DEPTH}
+use Rattle.nests.specs.Nests.{Nest}
+use Rattle.nests.specs.Loops.{isDo, ownerOf}
+use Rattle.nests.specs.Valid.{isShape, isValid}
+use Rattle.nests.proofs.Deps.{valid-is}
+use Rattle.nests.proofs.Levels.{lev, lev-zero, lev-deep}
+use Rattle.nests.proofs.Loops.{outermost, owner-is-do, owner-below, owner-lower}
+use Rattle.placements.specs.Placements.{areGapsFrom, areGaps}
+use Rattle.placements.proofs.Rising.{Rises, rises}
+use Rattle.sitting.proofs.GapLists.{rising-short}
+use Rattle.calls.specs.Calls.{TURNS, CALLS, turnsOf, timesFrom, timesAt, callsOf, turnsFit}
+use Rattle.calls.proofs.Turns.{turns-most}
+use Rattle.calls.proofs.Times.{times-own, times-do}
+
+module _ (n : Nest) (shape : isShape (n .points) ≡ true) (ts : List ℕ) (fit : turnsFit n ts ≡ true) where
+  abbrev ps : List ℕ
+  ps = n .points
+
+  -- before the first point once
+  at-first : timesAt ps ts 0 ≤ TURNS ^ lev ps 0
+  unfolding timesFrom
+  at-first = rw (lev-zero ps) (omega arith)
+
+  -- a gap at depth k lies in k loops
+  deep-at : (g : ℕ) → 0 < g → g < length ps → timesAt ps ts (ownerOf ps g) ≤ TURNS ^ lev ps (ownerOf ps g) →
+      timesAt ps ts g ≤ TURNS ^ lev ps g
+  deep-at g a b r =
+      let e : timesAt ps ts g ≡ turnsOf ps ts d * timesAt ps ts d =
+      times-own ps shape ts g a b ∙ times-do ps shape ts d loop in
+      let m : turnsOf ps ts d * timesAt ps ts d ≤ TURNS * TURNS ^ lev ps d =
+      mul-le-mul (turns-most n shape ts fit d loop) r in
+      let p : TURNS ^ suc (lev ps d) ≡ TURNS ^ lev ps g = ap (λ (i : ℕ). TURNS ^ i) (owner-lower ps shape g a b) in
+      omega (arith, pow-succ' TURNS (lev ps d))
+    where
+      d : ℕ
+      d = ownerOf ps g
+
+      loop : isDo ps d ≡ true
+      loop = owner-is-do ps shape g a b
+
+  deep-to : (k g : ℕ) → g ≤ k → g < length ps → timesAt ps ts g ≤ TURNS ^ lev ps g
+  deep-to zero g h l =
+      let z : g ≡ 0 = omega arith in
+      rw z at-first
+  deep-to (suc k) g h l = ⊎-elim
+      (λ (z : 1 ≤ g). (
+      let below : ownerOf ps g < g = owner-below ps shape g z l in
+      deep-at g z l (deep-to k (ownerOf ps g) (omega arith) (omega arith))))
+      (λ (z : g < 1). deep-to k g (omega arith) l)
+      (le-or 1 g)
+
+  pub times-deep : (g : ℕ) → g < length ps → timesAt ps ts g ≤ TURNS ^ lev ps g
+  times-deep g l = deep-to g g (omega arith) l
+
+  pub times-most : (g : ℕ) → g < length ps → timesAt ps ts g ≤ TURNS ^ DEPTH
+  times-most g l =
+      let m : TURNS ^ lev ps g ≤ TURNS ^ DEPTH = pow-le-pow-right {n = TURNS} (omega arith) (lev-deep ps shape g) in
+      omega (arith, times-deep g l)
+
+  -- of any part of a placement
+  pub calls-most : (last : ℕ) (gs : List ℕ) → areGapsFrom last (length ps) gs ≡ true →
+      callsOf n ts gs ≤ length gs * TURNS ^ DEPTH
+  unfolding callsOf
+  calls-most last [] h = omega arith
+  calls-most last (g ∷ gs) h = go (rises last (length ps) g gs h) (calls-most g gs)
+    where
+      go :
+          Rises last (length ps) g gs →
+          (areGapsFrom g (length ps) gs ≡ true → callsOf n ts gs ≤ length gs * TURNS ^ DEPTH) →
+          timesAt ps ts g + callsOf n ts gs ≤ suc (length gs) * TURNS ^ DEPTH
+      go r rest = omega (arith, times-most g (r .below), rest (r .rest), suc-mul (length gs) (TURNS ^ DEPTH))
+
+-- 02, job 11: the calls of a placement are at most 255 · 16⁸, so no sum wraps
+pub calls-fit :
+    (n : Nest) (ts gs : List ℕ) → isValid n ≡ true → turnsFit n ts ≡ true → areGaps n gs ≡ true →
+    callsOf n ts gs ≤ CALLS
+calls-fit n ts gs h fit gaps =
+    let v = valid-is n h in
+    let short = rising-short 0 (length (n .points)) gs gaps (omega (arith, outermost (n .points) (v .shape))) in
+    let few : length gs ≤ POINTS - 1 = omega (arith, v .few-points) in
+    let m : length gs * TURNS ^ DEPTH ≤ CALLS = mul-le-mul-right (TURNS ^ DEPTH) few in
+    omega (arith, calls-most n (v .shape) ts fit 0 gs gaps)
