@@ -1,6 +1,6 @@
 // A sweep over one loop: how many barriers of its own it takes, and how far left the leftmost one can lie.
 ghost use mathlib.Core.Path.{_≡_};
-ghost use Prim.Native.Nat.{ℕ, _+_, _<_, _≤_};
+ghost use Prim.Native.Nat.{ℕ, _+_, _<_, _≤_, min};
 ghost use lib.ListN.{length, getD};
 ghost use Rattle.laws.specs.Choice.{firstOf};
 ghost use Rattle.planner.specs.Sweep.{seek};
@@ -106,6 +106,13 @@ pub fn first_or(first: usize, other: usize) -> usize
     if first == 0 { other } else { first }
 }
 
+// The smaller of two numbers.
+pub fn smaller(a: usize, b: usize) -> usize
+    ensures { λ r. ⌜ r ≡ min a b ⌝ }
+{
+    if b < a { b } else { a }
+}
+
 // The last gap of low + 1 to p at which a line starts that ends before f, 0 for none. Eight gaps at a time.
 pub fn last_need(need: &[usize], f: usize, low: usize, p: usize) -> usize
     requires { ⌜ p < length (now need) ⌝ }
@@ -124,7 +131,7 @@ pub fn last_need(need: &[usize], f: usize, low: usize, p: usize) -> usize
 }
 
 // The same, one gap at a time.
-fn last_near(need: &[usize], f: usize, low: usize, p: usize) -> usize
+pub fn last_near(need: &[usize], f: usize, low: usize, p: usize) -> usize
     requires { ⌜ p < length (now need) ⌝ }
     ensures { λ r. ⌜ r ≡ seek (at (now (need .entry))) f low p ⌝ }
 {
