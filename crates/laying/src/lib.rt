@@ -41,7 +41,7 @@ pub fn lay(
     let last = choice[base + q];
     let mut need = [0; ROW];
     rows::copy_row(reach, base, d, e, &mut need);
-    need[last] = rows::smaller(need[last], e);
+    need[last] = sweeps::smaller(need[last], e);
     let mut k = key;
     let mut c = 0;
     let mut f = e + 1;

@@ -14,7 +14,8 @@ use Rattle.laws.proofs.Tests.{lt-by}
 use Rattle.laws.proofs.Stores.{stored}
 use Rattle.planner.specs.Sweep.{State, Front, front, better, best}
 use Rattle.sweeps.specs.Listed.{at}
-use Rattle.rows.specs.Made.{Kept, BetterSays, Chosen}
+use Rattle.starts.specs.Grounds.{Kept}
+use Rattle.rows.specs.Made.{BetterSays, Chosen}
 
 -- the better of two fronts, by cases
 pub better-other : (f at m q c here : ℕ) → (c ≡ m → ⊥) → BetterSays f at m q c here f at

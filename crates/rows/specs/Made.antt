@@ -1,5 +1,5 @@
 -- The row of one loop, made from the values of its suffixes: what is written, and that nothing else is.
--- Main definitions: `Kept`, `Copied`, `Cleared`, `Chosen`, `RowRoom`, `RowMade`.
+-- Main definitions: `Copied`, `Cleared`, `Chosen`, `RowRoom`, `RowMade`.
 use mathlib.Core.Path.{_≡_}
 use mathlib.Core.Bool.{Bool}
 use mathlib.Core.List.{List}
@@ -8,11 +8,8 @@ use lib.Dec.{ltb}
 use lib.ListN.{length}
 use Rattle.planner.specs.Sweep.{State, front, better, best, someOf, leftOf, choiceOf}
 use Rattle.sweeps.specs.Listed.{at, row, listed, tabled, Low}
+use Rattle.starts.specs.Grounds.{Within, Ground, Kept}
 use Rattle.rows.specs.Valued.{lined}
-
--- every entry is as before, but for those from low + 1 to high
-abbrev pub Kept : List ℕ → List ℕ → ℕ → ℕ → Type 0
-Kept xs xs′ low high = (i : ℕ) → (low < i → high < i) → at xs′ i ≡ at xs i
 
 -- the entries from low + 1 to high of the row that starts at base stand in a list
 abbrev pub Copied : List ℕ → ℕ → ℕ → ℕ → List ℕ → Type 0
@@ -52,6 +49,7 @@ pub record RowRoom (ps own reach limit left choice : List ℕ) (base d e : ℕ) 
   pub long : d < e
   pub short : e < 256
   pub inner : 256 ≤ base
+  pub ground : Ground ps own left (base - 256) d e
 
 -- the row of the loop d with its ENDDO e, by some list of needs that agrees with its row of reach on its range
 pub record RowMade (ps own reach limit left choice left′ choice′ : List ℕ) (base d e some : ℕ) : Type 0 where
@@ -71,5 +69,6 @@ pub record RowMade (ps own reach limit left choice left′ choice′ : List ℕ)
       → d < q
       → q ≤ e
       → row choice′ base q ≡ choiceOf (listed ps own e) (lined has need limit base) (tabled left (base - 256) lay) d q
+  pub within : (q : ℕ) → d < q → q ≤ e → Within d e (row left′ base q)
   pub left-kept : Kept left left′ (base + d) (base + e)
   pub choice-kept : Kept choice choice′ (base + d) (base + e)

@@ -1,14 +1,15 @@
 // The row of one loop: its values for each suffix, and from them the fronts and choices.
-use sweeps::Front;
+use starts::Front;
 ghost use mathlib.Core.Path.{_≡_};
-ghost use Prim.Native.Nat.{ℕ, _+_, _<_, _≤_, min};
+ghost use Prim.Native.Nat.{_+_, _<_};
 ghost use mathlib.Core.Bool.{_||_};
 ghost use lib.Dec.{leb};
 ghost use lib.ListN.{length};
 ghost use Rattle.laws.specs.Choice.{pick};
-ghost use Rattle.sweeps.specs.Listed.{SweepRoom};
-ghost use Rattle.rows.specs.Valued.{ValueSays, ValuesSay};
-ghost use Rattle.rows.specs.Made.{Kept, Copied, Cleared, BetterSays, ChooseSays, RowRoom, RowMade};
+ghost use Rattle.starts.specs.Grounds.{Kept};
+ghost use Rattle.starts.specs.Started.{later};
+ghost use Rattle.rows.specs.Valued.{CloseSays, ClosedSays, FrontsIn, ValuesRoom};
+ghost use Rattle.rows.specs.Made.{Copied, Cleared, BetterSays, ChooseSays, RowRoom, RowMade};
 
 // The places of a row, one for each point.
 pub const ROW: usize = 256;
@@ -39,20 +40,10 @@ pub fn make_row(
     let mut need = [0; ROW];
     let mut cs = [0; ROW];
     let mut fs = [0; ROW];
-    copy_row(reach, base, d, e, &mut need);
-    let m = values(
-        points,
-        own,
-        &mut need,
-        left,
-        kids,
-        limit,
-        base,
-        d,
-        e,
-        &mut cs,
-        &mut fs,
-    );
+    let mut link = [0; ROW];
+    starts::mark(points, own, reach, base, left, kids, d, e, &mut need);
+    let first = starts::follow_all(points, own, &need, left, kids, d, e, &mut cs, &mut fs, &mut link);
+    let m = values(limit, base, d, e, first, &mut cs, &mut fs);
     choose(&cs, &fs, m, left, choice, base, d, e);
 }
 
@@ -140,34 +131,28 @@ fn better(f: usize, at: usize, m: usize, q: usize, c: usize, here: usize) -> Lef
     Leftmost { f: f, at: at }
 }
 
-// The values of all suffixes, d + 1 to e, into two lists; gives the least number of barriers among them.
-pub fn values(
-    points: &[u8],
-    own: &[usize],
-    need: &mut [usize],
-    left: &[usize],
-    kids: usize,
+// The values of all suffixes, d + 1 to e, in place of what is made from each start on; gives the least number of
+// barriers among them. The sweep for q starts at q, or at `first` if that lies further right.
+fn values(
     limit: &[usize],
     base: usize,
     d: usize,
     e: usize,
+    first: usize,
     cs: &mut [usize],
     fs: &mut [usize],
 ) -> usize
-    requires { ⌜ SweepRoom (now points) (now own) (now need) (now left) kids e ⌝ }
-    requires { ⌜ base + e < length (now limit) ⌝ }
-    requires { ⌜ d < e ⌝ }
-    requires { ⌜ e < length (now cs) ⌝ }
-    requires { ⌜ e < length (now fs) ⌝ }
-    ensures { λ r. ⌜ ValuesSay (now (points .entry)) (now (own .entry)) (now (need .entry)) (now (left .entry)) kids
-        (now (limit .entry)) base d e e (now (cs .exit)) (now (fs .exit)) r ⌝ }
-    ensures { λ r. ⌜ now (need .exit) ≡ now (need .entry) ⌝ }
+    requires { ⌜ ValuesRoom (now limit) base d e first (now cs) (now fs) ⌝ }
+    ensures { λ r. ⌜ ClosedSays (now (limit .entry)) base d e first (now (cs .entry)) (now (fs .entry))
+        (now (cs .exit)) (now (fs .exit)) e r ⌝ }
+    ensures { λ r. ⌜ FrontsIn d e (now (fs .exit)) e ⌝ }
 {
     let mut m = 0;
     let mut p = d;
     while p < e {
         let q = p + 1;
-        let v = value(points, own, need, left, kids, limit, base, d, e, q);
+        let x = later(q, first);
+        let v = closed(cs[x], fs[x], limit[base + q], d);
         cs[q] = v.c;
         fs[q] = v.f;
         m = lesser(p, d, v.c, m);
@@ -176,46 +161,23 @@ pub fn values(
     m
 }
 
-// The value for the suffix that starts at q. The suffix is one more line, from q to e; its place in `need` is put back.
-pub fn value(
-    points: &[u8],
-    own: &[usize],
-    need: &mut [usize],
-    left: &[usize],
-    kids: usize,
-    limit: &[usize],
-    base: usize,
-    d: usize,
-    e: usize,
-    q: usize,
-) -> Front
-    requires { ⌜ SweepRoom (now points) (now own) (now need) (now left) kids e ⌝ }
-    requires { ⌜ base + e < length (now limit) ⌝ }
-    requires { ⌜ d < e ⌝ }
-    requires { ⌜ q ≤ e ⌝ }
-    ensures { λ r. ⌜ ValueSays (now (points .entry)) (now (own .entry)) (now (need .entry)) (now (left .entry)) kids
-        (now (limit .entry)) base d e q (r .c) (r .f) ⌝ }
-    ensures { λ r. ⌜ now (need .exit) ≡ now (need .entry) ⌝ }
+// The greater of two numbers.
+fn later(a: usize, b: usize) -> usize
+    ensures { λ r. ⌜ r ≡ later a b ⌝ }
 {
-    let old = need[q];
-    need[q] = smaller(old, e);
-    let s = sweeps::sweep(points, own, need, left, kids, d, e);
-    need[q] = old;
-    let t = limit[base + q];
-    if s.f <= t {
-        return Front { c: s.c, f: s.f };
-    }
-    Front {
-        c: s.c + 1,
-        f: d + 1,
-    }
+    if a < b { b } else { a }
 }
 
-// The smaller of two numbers.
-pub fn smaller(a: usize, b: usize) -> usize
-    ensures { λ r. ⌜ r ≡ min a b ⌝ }
+// A sweep's barriers and front, with a barrier right after the DO where the front lies beyond the limit.
+fn closed(c: usize, f: usize, limit: usize, d: usize) -> Front
+    requires { ⌜ c < 256 ⌝ }
+    requires { ⌜ d < 256 ⌝ }
+    ensures { λ r. ⌜ CloseSays d limit c f (r .c) (r .f) ⌝ }
 {
-    if b < a { b } else { a }
+    if f <= limit {
+        return Front { c: c, f: f };
+    }
+    Front { c: c + 1, f: d + 1 }
 }
 
 // The least number of barriers with one more value, that of p + 1.

@@ -13,7 +13,7 @@ use Rattle.nests.specs.Valid.{isShape}
 use Rattle.nests.proofs.Levels.{lev, lev-depth, lev-up, lev-deep, point-in}
 use Rattle.nests.proofs.Loops.{range-above, owner-lower}
 use Rattle.sweeps.specs.Listed.{row}
-use Rattle.rows.specs.Made.{Kept}
+use Rattle.starts.specs.Grounds.{Kept}
 use Rattle.settling.specs.Settled.{HasHeight, KeptColumns}
 
 module _ (ps : List ℕ) where

@@ -3,4 +3,5 @@ pub mod Heights
 pub mod Some
 pub mod Turns
 pub mod Own
+pub mod Grounded
 pub mod Sizes

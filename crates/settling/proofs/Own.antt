@@ -19,6 +19,7 @@ use Rattle.planner.proofs.Instance.{loop-laws}
 use Rattle.planner.proofs.Alike.{Alike}
 use Rattle.planner.proofs.AlikeRows.{some-alike, left-alike, choice-alike}
 use Rattle.sweeps.specs.Listed.{at, row, listed, tabled}
+use Rattle.starts.specs.Grounds.{Within}
 use Rattle.rows.specs.Valued.{lined}
 use Rattle.rows.specs.Made.{Copied, RowMade}
 use Rattle.settling.specs.Settled.{HasHeight, Charts, LinesAt, Rows, SettleSays}
@@ -112,6 +113,14 @@ module _ (ps own ends reach limit has left₀ choice₀ : List ℕ) (w : Charts 
   done =
       record {
         rows = rows;
+        fronts = λ l k q j a b c u v. ⊎-elim
+            (λ (y : l ≤ d).
+            let z : l ≡ d = omega arith in
+            own-front l k q z c u v)
+            (λ (y : d < l). rw (kept-row left left′ d e h short (m .left-kept) k q
+            (inner-height ps (w .shape) d l h k is-do y (omega arith) height c) (narrow l q j v))
+            (s .fronts l k q j y (omega (arith, at-end)) c u v))
+            (le-or l d);
         left-kept = λ r q a b. rw e-is at (kept-columns left left′ d e h short (m .left-kept)) r q a b ∙
             s .left-kept r q a b;
         choice-kept = λ r q a b. rw e-is at (kept-columns choice choice′ d e h short (m .choice-kept)) r q a b ∙
@@ -120,6 +129,15 @@ module _ (ps own ends reach limit has left₀ choice₀ : List ℕ) (w : Charts 
     where
       short : e < 256
       short = omega (arith, end-there ps (w .shape) d is-do, w .few)
+
+      own-front : (l k q : ℕ) → l ≡ d → HasHeight ps l k → l < q → q ≤ endOf ps l →
+          Within l (endOf ps l) (row left′ (k * 256) q)
+      own-front l k q z c u v =
+          let x : HasHeight ps d k = rw z at c in
+          let y : k ≡ h = omega arith in
+          let p : d < q = rw z at u in
+          let b : q ≤ endOf ps d = rw z at v in
+          rw (z, y, ← e-is) (m .within q p (omega arith))
 
       rows : (N : Lines) (T : Tables) → IsTable (loopsIn ps) N T → LinesAt ps N reach limit has →
           Rows ps T left′ choice′ d (endOf ps d)

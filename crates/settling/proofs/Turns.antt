@@ -21,7 +21,7 @@ use Rattle.nests.proofs.Gaps.{Child, owner-after-do, owner-after-plain, owner-a
 use Rattle.planner.specs.Sweep.{Lines, Tables, childSome, IsTable}
 use Rattle.planner.specs.Home.{loopsIn}
 use Rattle.sweeps.specs.Listed.{at, row}
-use Rattle.settling.specs.Settled.{HasHeight, Charts, LinesAt, Rows, KeptColumns, SettleSays}
+use Rattle.settling.specs.Settled.{HasHeight, Charts, LinesAt, Rows, Fronts, KeptColumns, SettleSays}
 use Rattle.settling.proofs.Heights.{height-low, child-height}
 use Rattle.settling.proofs.Some.{some-none, some-plain, some-child}
 
@@ -39,6 +39,7 @@ pub record Settling (ps reach limit has left₀ choice₀ : List ℕ) (d : ℕ) 
   pub choice-length : length choice ≡ length choice₀
   pub left-kept : KeptColumns left₀ left d (endOf ps d)
   pub choice-kept : KeptColumns choice₀ choice d (endOf ps d)
+  pub fronts : Fronts ps left (suc d) i
   pub sofar
       : (N : Lines) (T : Tables)
       → IsTable (loopsIn ps) N T
@@ -72,6 +73,7 @@ module _ (ps own ends reach limit has left₀ choice₀ : List ℕ) (w : Charts 
         choice-length = refl;
         left-kept = λ r q a b. refl;
         choice-kept = λ r q a b. refl;
+        fronts = λ l k q i a b c e f. absurd (omega arith);
         sofar = sofar;
       }
     where
@@ -115,6 +117,7 @@ module _ (ps own ends reach limit has left₀ choice₀ : List ℕ) (w : Charts 
           choice-length = s .choice-length;
           left-kept = s .left-kept;
           choice-kept = s .choice-kept;
+          fronts = λ l k q j a b c e f. s .fronts l k q j a (earlier l j b) c e f;
           sofar = λ N T t m.
               let r : Sofar ps N T left choice d some i = s .sofar N T t m in
               record {
@@ -158,6 +161,11 @@ module _ (ps own ends reach limit has left₀ choice₀ : List ℕ) (w : Charts 
               (omega (arith, inside)) (s .left-kept) (z .left-kept);
           choice-kept = columns-join choice₀ choice choice′ d (endOf ps d) i (endOf ps i) (omega (arith, s .from))
               (omega (arith, inside)) (s .choice-kept) (z .choice-kept);
+          fronts = λ l k q j a b c e u. ⊎-elim
+              (λ (y : i ≤ l). z .fronts l k q j y (later l j b) c e u)
+              (λ (y : l < i). rw (z .left-kept k q (narrow l q j u)
+              (λ v. absurd (omega (arith, ends-before l j a y)))) (s .fronts l k q j a y c e u))
+              (le-or i l);
           sofar = sofar;
         }
       where

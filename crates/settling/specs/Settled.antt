@@ -1,6 +1,6 @@
 -- The planner's tables as the code's arrays: at one height the ranges of the loops are disjoint, so that they share a
 -- row of 256 places; row h starts at h * 256, and row 0 is spare.
--- Main definitions: `HasHeight`, `Charts`, `LinesAt`, `Rows`, `KeptColumns`, `SettleSays`.
+-- Main definitions: `HasHeight`, `Charts`, `LinesAt`, `Rows`, `Fronts`, `KeptColumns`, `SettleSays`.
 use mathlib.Core.Path.{_≡_}
 use mathlib.Core.Bool.{true}
 use mathlib.Core.List.{List}
@@ -13,6 +13,7 @@ use Rattle.nests.specs.Valid.{isShape}
 use Rattle.planner.specs.Sweep.{Lines, Tables, IsTable}
 use Rattle.planner.specs.Home.{loopsIn}
 use Rattle.sweeps.specs.Listed.{at, row, Low}
+use Rattle.starts.specs.Grounds.{Within}
 
 -- the height of a loop: 8 less the depth around it
 abbrev pub HasHeight : List ℕ → ℕ → ℕ → Type 0
@@ -67,6 +68,18 @@ pub record Rows (ps : List ℕ) (T : Tables) (left choice : List ℕ) (low high 
       → q ≤ endOf ps l
       → row choice (h * 256) q ≡ T .choice l q
 
+-- the fronts of the loops from low up to high lie in the ranges of their loops
+abbrev pub Fronts : List ℕ → List ℕ → ℕ → ℕ → Type 0
+Fronts ps left low high =
+    (l h q : ℕ) →
+    isDo ps l ≡ true →
+    low ≤ l →
+    l < high →
+    HasHeight ps l h →
+    l < q →
+    q ≤ endOf ps l →
+    Within l (endOf ps l) (row left (h * 256) q)
+
 -- in each row the places outside d + 1 … e are as before
 abbrev pub KeptColumns : List ℕ → List ℕ → ℕ → ℕ → Type 0
 KeptColumns xs xs′ d e = (r q : ℕ) → q < POINTS → (d < q → e < q) → row xs′ (r * 256) q ≡ row xs (r * 256) q
@@ -78,5 +91,6 @@ pub record SettleSays (ps reach limit has left choice left′ choice′ : List �
       → IsTable (loopsIn ps) N T
       → LinesAt ps N reach limit has
       → Rows ps T left′ choice′ d (endOf ps d)
+  pub fronts : Fronts ps left′ d (endOf ps d)
   pub left-kept : KeptColumns left left′ d (endOf ps d)
   pub choice-kept : KeptColumns choice choice′ d (endOf ps d)

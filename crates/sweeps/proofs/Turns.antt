@@ -1,6 +1,6 @@
 -- The turns of a sweep: what is left to do from a boundary p gives the whole sweep.
 -- Main definition: `Turn`. Main statements: `begin`, `on-put`, `on-skip`, `on-child`, `done`.
-use mathlib.Core.Path.{_≡_, refl, sym, _∙_, ap}
+use mathlib.Core.Path.{_≡_, refl, sym, _∙_}
 use mathlib.Core.Bool.{Bool, true, false}
 use mathlib.Core.List.{List}
 use Prim.Native.Nat.{ℕ, zero, suc, _+_, _-_, _≤_, _<_}
@@ -10,7 +10,7 @@ use lib.Dec.{eqb, ltb}
 use lib.ListN.{getD}
 use borrow.Author.Tests.{lt-ltb, le-ltb, eq-eqb, ne-eqb}
 use Rattle.planner.specs.Sweep.{State, st, bare, only, also, put, stepPlain, stepChild, next, step, walk, sweep}
-use Rattle.sweeps.specs.Listed.{at, row, listed, tabled, laid, Stepped, sweepOf, Swept}
+use Rattle.sweeps.specs.Listed.{at, row, listed, tabled, laid, Stepped, sweepOf}
 
 -- the rest of the walk from the boundary p gives the whole sweep; w are the gaps laid so far
 pub record Turn
@@ -151,7 +151,3 @@ module _ (ps own need left : List ℕ) (kids d e : ℕ) (lay : ℕ → ℕ → �
       go zero (suc k) h a r = r
       go (suc p) zero h a r = absurd (omega arith)
       go (suc p) (suc k) h a r = rw (lt-ltb p d (omega arith)) at r
-
-  pub swept : (c f : ℕ) (w : ℕ → Bool) → st c f w ≡ sweepOf ps own need left kids lay d e →
-      Swept ps own need left kids d e c f lay
-  swept c f w r = record { c-is = ap (λ (s : State). s .c) r; f-is = ap (λ (s : State). s .f) r }

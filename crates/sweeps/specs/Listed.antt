@@ -47,14 +47,6 @@ pub record Stepped (need left : List ℕ) (kids l p c f c′ f′ ask : ℕ) : T
 abbrev pub sweepOf : List ℕ → List ℕ → List ℕ → List ℕ → ℕ → (ℕ → ℕ → ℕ → Bool) → ℕ → ℕ → State
 sweepOf ps own need left kids lay d e = sweep (listed ps own e) (tabled left kids lay) (at need) d
 
-pub record Swept (ps own need left : List ℕ) (kids d e c f : ℕ) (lay : ℕ → ℕ → ℕ → Bool) : Type 0 where
-  pub c-is : c ≡ sweepOf ps own need left kids lay d e .c
-  pub f-is : f ≡ sweepOf ps own need left kids lay d e .f
-
-abbrev pub SweepSays : List ℕ → List ℕ → List ℕ → List ℕ → ℕ → ℕ → ℕ → ℕ → ℕ → Type 0
-SweepSays ps own need left kids d e c f =
-    (c ≤ e) × ((lay : ℕ → ℕ → ℕ → Bool) → Swept ps own need left kids d e c f lay)
-
 -- no loop starts after its ENDDO
 abbrev pub Low : List ℕ → Type 0
 Low own = (i : ℕ) → at own i ≤ i

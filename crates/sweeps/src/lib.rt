@@ -1,58 +1,16 @@
-// A sweep over one loop: how many barriers of its own it takes, and how far left the leftmost one can lie.
+// The steps of a sweep over one loop: how many barriers of its own it takes, and how far left the leftmost one can lie.
 ghost use mathlib.Core.Path.{_≡_};
 ghost use Prim.Native.Nat.{ℕ, _+_, _<_, _≤_, min};
 ghost use lib.ListN.{length, getD};
 ghost use Rattle.laws.specs.Choice.{firstOf};
 ghost use Rattle.planner.specs.Sweep.{seek};
-ghost use Rattle.sweeps.specs.Listed.{at, Passes, Stepped, SweepRoom, SweepSays};
-
-// Own barriers so far, and the leftmost barrier so far.
-pub struct Front {
-    pub c: usize,
-    pub f: usize,
-}
+ghost use Rattle.sweeps.specs.Listed.{at, Passes, Stepped};
 
 // The front after a step over a child, and the bound that the child was asked with.
 pub struct Step {
     pub c: usize,
     pub f: usize,
     pub ask: usize,
-}
-
-// From e down to d: a barrier at each line that is not cut yet, as far right as can be, the children's as far left.
-pub fn sweep(
-    points: &[u8],
-    own: &[usize],
-    need: &[usize],
-    left: &[usize],
-    kids: usize,
-    d: usize,
-    e: usize,
-) -> Front
-    requires { ⌜ SweepRoom (now points) (now own) (now need) (now left) kids e ⌝ }
-    ensures { λ r. ⌜ SweepSays (now (points .entry)) (now (own .entry)) (now (need .entry)) (now (left .entry)) kids
-        d e (r .c) (r .f) ⌝ }
-{
-    let mut c = 0;
-    let mut f = e + 1;
-    let mut p = e;
-    while d < p {
-        let before = p - 1;
-        if points[before] == nests::ENDDO {
-            let l = own[before];
-            let s = step_child(need, left, kids, l, before, c, f);
-            c = s.c;
-            f = s.f;
-            p = l;
-        } else {
-            if need[p] < f {
-                c += 1;
-                f = p;
-            }
-            p = before;
-        }
-    }
-    Front { c: c, f: f }
 }
 
 // Over the child l with its ENDDO p and the gap after it.

@@ -18,7 +18,7 @@ use Rattle.laying.proofs.+lay.Lts-lay as lay-lts
 use Rattle.laying.proofs.put_where.Reads as put-where-reads
 use Rattle.placements.proofs.Placement.put.Reads as put-reads
 use Rattle.rows.proofs.copy_row.Reads as copy-row-reads
-use Rattle.rows.proofs.smaller.Reads as smaller-reads
+use Rattle.sweeps.proofs.smaller.Reads as smaller-reads
 use Rattle.sweeps.proofs.step_child.Reads as step-child-reads
 use Rattle.laying.proofs.+lay.{statement}
 use Rattle.laying.proofs.+lay.Tie.{close}

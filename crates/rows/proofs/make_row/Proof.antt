@@ -1,9 +1,11 @@
--- `make_row` meets its contract: the values, then the choice among them; or zeros where nothing is to cut (Making).
+use borrow.Author.Needs.{needs}
 use Prim.Native.Nat.{_-_}
 use native.Mathlib.Omega.{arith}
+use lib.ListN.{drop}
+use lib.Seq.{getD-drop}
 use Rattle.sweeps.specs.Listed.{SweepRoom}
-use Rattle.rows.proofs.Making.{made-some, made-none}
-use borrow.Author.Needs.{needs}
+use Rattle.starts.specs.Started.{StartsRoom}
+use Rattle.rows.proofs.Making.{values-are, made-some, made-none}
 use Rattle.rows.proofs.make_row.Statement.{statement}
 use Rattle.rows.proofs.make_row.Tie as tie
 
@@ -33,11 +35,38 @@ returns c =
 sub-kids : tie.Need-sub-kids
 sub-kids c = search needs
 
-slice-aggregate-copy-row : tie.Need-slice-aggregate-copy-row
-slice-aggregate-copy-row c = search needs
+slice-aggregate-mark : tie.Need-slice-aggregate-mark
+slice-aggregate-mark c = search needs
 
-copy-row-requires : tie.Need-copy-row-requires
-copy-row-requires c κs = search needs
+mark-requires : tie.Need-mark-requires
+mark-requires c κs = search needs
+
+slice-aggregate-follow-all : tie.Need-slice-aggregate-follow-all
+slice-aggregate-follow-all c = search needs
+
+slice-aggregate-follow-all-2 : tie.Need-slice-aggregate-follow-all-2
+slice-aggregate-follow-all-2 c = search needs
+
+slice-aggregate-follow-all-3 : tie.Need-slice-aggregate-follow-all-3
+slice-aggregate-follow-all-3 c = search needs
+
+slice-aggregate-follow-all-4 : tie.Need-slice-aggregate-follow-all-4
+slice-aggregate-follow-all-4 c = search needs
+
+follow-all-requires : tie.Need-follow-all-requires
+follow-all-requires c κs =
+    let p = c .before .before .before .before .before .before .before .before .before .before .before .before .before .before .before .before .pre in
+    let i = c .before .before .before .before .before .before .before .before .before .before .before .before .before .before .before .before .args in
+    let m = c .before .before .before .before .before .before .mark in
+    let room : SweepRoom (i .points .now) (i .own .now) (m .last .1 .1 .1 .1 .1 .1 .1 .1 .0) (i .left .now) (i .base - 256) (i .e) =
+    record {
+      points-room = p .points-room;
+      own-room = p .own-room;
+      own-low = p .own-low;
+      need-room = omega (arith, p .short, m .kept);
+      left-room = omega (arith, p);
+    } in
+    (record { sweep-room = room; long = p .long; cs-room = p .short; fs-room = p .short; link-room = p .short }, p .ground)
 
 slice-aggregate-values : tie.Need-slice-aggregate-values
 slice-aggregate-values c = search needs
@@ -45,24 +74,19 @@ slice-aggregate-values c = search needs
 slice-aggregate-values-2 : tie.Need-slice-aggregate-values-2
 slice-aggregate-values-2 c = search needs
 
-slice-aggregate-values-3 : tie.Need-slice-aggregate-values-3
-slice-aggregate-values-3 c = search needs
-
 values-requires : tie.Need-values-requires
 values-requires c κs =
-    let b5 = c .before .before .before .before .before in
-    let b14 = b5 .before .before .before .before .before .before .before .before .before in
-    let p = b14 .pre in
-    let room : SweepRoom (b14 .args .points .now) (b14 .args .own .now) (b5 .copy-row .last .1 .1 .1 .1 .0)
-    (b14 .args .left .now) (b14 .args .base - 256) (b14 .args .e) =
+    let p = c .before .before .before .before .before .before .before .before .before .before .before .before .before .before .before .before .before .before .before .before .before .before .pre in
+    let v = c .before .before .before .before .before .follow-all in
     record {
-      points-room = p .points-room;
-      own-room = p .own-room;
-      own-low = p .own-low;
-      need-room = omega (arith, b5 .copy-row .kept);
-      left-room = omega (arith, p);
-    } in
-    (room, (p .limit-room, (p .long, (p .short, p .short))))
+      limit-room = p .limit-room;
+      cs-room = omega (arith, p .short, v .kept);
+      fs-room = omega (arith, p .short, v .kept);
+      long = p .long;
+      short = p .short;
+      first-high = v .ensures .first-high;
+      ranged = v .ensures .ranged;
+    }
 
 slice-aggregate-choose : tie.Need-slice-aggregate-choose
 slice-aggregate-choose c = search needs
@@ -72,12 +96,11 @@ slice-aggregate-choose-2 c = search needs
 
 choose-requires : tie.Need-choose-requires
 choose-requires c κs =
-    let b7 = c .before .before .before .before .before .before .before in
-    let b19 = b7 .before .before .before .before .before .before .before .before .before .before .before .before in
-    let b22 = b19 .before .before .before in
-    let p = b22 .pre in (
-      omega (arith, p, b7 .values .kept),
-      (omega (arith, p, b7 .values .kept), (omega (arith, p), (omega (arith, p), omega (arith, p)))),
+    let p = c .before .before .before .before .before .before .before .before .before .before .before .before .before .before .before .before .before .before .before .before .before .before .before .before .before .before .before .before .before .pre in
+    let v = c .before .before .before .before .before .before .values in
+    let w = c .before .before .before .before .before .before .before .before .before .before .before .before .follow-all in (
+      omega (arith, p .short, v .kept, w .kept),
+      (omega (arith, p .short, v .kept, w .kept), (p .left-room, (p .choice-room, p .long))),
     )
 
 same-length-3 : tie.Need-same-length-3
@@ -88,20 +111,21 @@ same-length-4 c = search needs
 
 returns-2 : tie.Need-returns-2
 returns-2 c =
-    let b4 = c .before .before .before .before in
-    let b12 = b4 .before .before .before .before .before .before .before .before in
-    let b18 = b12 .before .before .before .before .before .before in
-    let b20 = b18 .before .before in
-    let b27 = b20 .before .before .before .before .before .before .before in
-    let i = b27 .args in
-    let v = b12 .values in
-    let r = b4 .choose in
-    let n = b18 .copy-row in
+    let i = c .before .before .before .before .before .before .before .before .before .before .before .before .before .before .before .before .before .before .before .before .before .before .before .before .before .before .before .before .before .before .before .before .before .before .args in
+    let p = c .before .before .before .before .before .before .before .before .before .before .before .before .before .before .before .before .before .before .before .before .before .before .before .before .before .before .before .before .before .before .before .before .before .before .pre in
+    let m = c .before .before .before .before .before .before .before .before .before .before .before .before .before .before .before .before .before .before .before .before .before .before .before .before .mark in
+    let s = c .before .before .before .before .before .before .before .before .before .before .before .before .before .before .before .before .before .follow-all in
+    let v = c .before .before .before .before .before .before .before .before .before .before .before .values in
+    let r = c .before .before .before .before .choose in
+    let cs = v .last .1 .1 .1 .1 .1 .0 in
+    let fs = v .last .1 .1 .1 .1 .1 .1 .0 in
+    let values = values-are (i .points .now) (i .own .now) (i .reach .now) (i .limit .now) (i .left .now) (i .base - 256) (i .base)
+    (i .d) (i .e) (s .result) (m .last .1 .1 .1 .1 .1 .1 .1 .1 .0) (s .last .1 .1 .1 .1 .1 .1 .1 .0)
+    (s .last .1 .1 .1 .1 .1 .1 .1 .1 .0) cs fs (v .result) (m .ensures) (s .ensures) (v .ensures .0) in
     made-some (i .points .now) (i .own .now) (i .reach .now) (i .limit .now) (i .left .now) (i .choice .now)
-    (r .last .1 .1 .1 .0) (r .last .1 .1 .1 .1 .0) (i .base) (i .d) (i .e) (i .some) (omega (arith, b27 .pre))
-    (n .last .1 .1 .1 .1 .0) (v .last .1 .1 .1 .1 .1 .1 .1 .1 .1 .0) (v .last .1 .1 .1 .1 .1 .1 .1 .1 .1 .1 .0)
-    (v .result) (omega (arith, b20 .if1 .left)) (n .ensures) (v .ensures .0) (r .ensures .0) (r .ensures .1 .0)
-    (r .ensures .1 .1)
+    (r .last .1 .1 .1 .0) (r .last .1 .1 .1 .1 .0) (i .base) (i .d) (i .e) (i .some) (p .long)
+    (drop (i .base) (i .reach .now)) cs fs (v .result) (omega (arith, c .before .before .before .before .before .before .before .before .before .before .before .before .before .before .before .before .before .before .before .before .before .before .before .before .before .before .before .if1 .left))
+    (λ a x y. getD-drop (i .base) (i .reach .now) a 0) (v .ensures .1) values (r .ensures .0) (r .ensures .1 .0) (r .ensures .1 .1)
 
 pub make-row-spec : {M : Type 1} → statement M
 make-row-spec =
@@ -113,11 +137,15 @@ make-row-spec =
     same-length-2
     returns
     sub-kids
-    slice-aggregate-copy-row
-    copy-row-requires
+    slice-aggregate-mark
+    mark-requires
+    slice-aggregate-follow-all
+    slice-aggregate-follow-all-2
+    slice-aggregate-follow-all-3
+    slice-aggregate-follow-all-4
+    follow-all-requires
     slice-aggregate-values
     slice-aggregate-values-2
-    slice-aggregate-values-3
     values-requires
     slice-aggregate-choose
     slice-aggregate-choose-2

@@ -14,6 +14,7 @@ use Rattle.settling.specs.Settled.{Room}
 use Rattle.settling.proofs.Heights.{child-height}
 use Rattle.settling.proofs.Turns.{Settling, begin, on-plain, on-child}
 use Rattle.settling.proofs.Own.{done}
+use Rattle.settling.proofs.Grounded.{grounded}
 use Rattle.settling.proofs.Sizes.{Sizes, sizes}
 use borrow.Fn.Kinds.{In}
 use borrow.Fn.PlainCycle.{Measures, is, falls, and}
@@ -307,6 +308,8 @@ settle-make-row-requires t c κs =
     let z = facts t b14 in
     let k = l .inv .left-length in
     let m = l .inv .choice-length in
+    let all : l .i ≡ at (i .ends .now) (i .d) = omega (arith, l .inv .high, z .e-is) in
+    let fronts = rw all at (l .inv .fronts) in
     record {
       points-room = z .short;
       own-room = omega arith;
@@ -318,6 +321,8 @@ settle-make-row-requires t c κs =
       long = z .long;
       short = omega arith;
       inner = omega arith;
+      ground = grounded (i .points .now) (i .own .now) (i .ends .now) (l .left) (p .0) (i .d) (i .h)
+          (at (i .ends .now) (i .d)) (p .1 .1 .0) (p .1 .1 .1) (z .e-is) fronts;
     }
 
 settle-same-length : (t : ℕ) → settle-lts.Need-same-length (callees t) (settle-at t) settle.Post settle-Inv-loop
