@@ -1,4 +1,4 @@
-//! A plain Rust planner by the same sweeps, for the comparison of speed only. Reads a nest text that is in order on
+//! A plain Rust planner by one sweep for each suffix, for the comparison of speed only. Reads a nest text that is in order on
 //! standard input and writes the key's frames.
 use std::io::Read;
 

@@ -17,12 +17,14 @@ pub fn plan(nest: Nest) -> Placement
     requires { ⌜ isValid (nestIn nest) ≡ true ⌝ }
     ensures { λ r. ⌜ PlanSays (nestIn nest) (r .words) ⌝ }
 {
+    // Every entry is written before it is read. A filling with a variable is no call of memset.
+    let n = nest.count;
     let mut own = [0; ROW];
     let mut ends = [0; ROW];
     let mut heights = [0; ROW];
     let mut has = [0; ROW];
-    let mut reach = [0; TABLE];
-    let mut limit = [0; TABLE];
+    let mut reach = [n; TABLE];
+    let mut limit = [n; TABLE];
     tables::prepare(
         nest,
         &mut own,
@@ -32,10 +34,9 @@ pub fn plan(nest: Nest) -> Placement
         &mut limit,
         &mut has,
     );
-    let n = nest.count;
     let points = nest.points;
-    let mut left = [0; TABLE];
-    let mut choice = [0; TABLE];
+    let mut left = [n; TABLE];
+    let mut choice = [n; TABLE];
     settling::settle(
         &points[..n],
         &own,

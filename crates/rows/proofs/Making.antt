@@ -75,7 +75,8 @@ unfolding value
 values-are ps own reach limit left kids base d e first marks cs₀ fs₀ cs fs m mark starts closed has lay =
     let same : row reach base ≡ at (drop base reach) = fun-ext (λ a. sym (getD-drop base reach a 0)) in
     let s = starts .started (at (drop base reach)) lay (rw same at mark) in
-    closed (λ q. sweep (listed ps own e) (tabled left kids lay) (needOf (at (drop base reach)) q e) d) (s .c-is) (s .f-is)
+    closed (λ q. sweep (listed ps own e) (tabled left kids lay) (needOf (at (drop base reach)) q e) d) (s .c-is)
+    (s .f-is)
 
 module _ (ps own reach limit left choice left′ choice′ : List ℕ) (base d e some : ℕ) (long : d < e) where
   pub made-some

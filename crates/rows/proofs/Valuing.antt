@@ -5,11 +5,11 @@ use mathlib.Core.Path.{_≡_, refl, sym, _∙_, ap}
 use mathlib.Core.Bool.{Bool, true, false, _||_}
 use mathlib.Core.List.{List}
 use mathlib.Core.Logic.{_⊎_, ⊎-elim}
-use Prim.Native.Nat.{ℕ, _+_, _≤_, _<_}
+use Prim.Native.Nat.{ℕ, _+_, _≤_, _<_, min}
 use native.Mathlib.Omega.{arith}
 use lib.Dec.{leb}
 use lib.ListN.{length, set, length-set}
-use borrow.Author.Tests.{lt-ltb, le-ltb}
+use borrow.Author.Tests.{lt-ltb, le-ltb, leb-true, leb-false}
 use lib.Seq.{getD-set-same, getD-set-other}
 use Rattle.laws.specs.Choice.{pick}
 use Rattle.laws.proofs.Tests.{eq-or}
@@ -29,9 +29,19 @@ pub record Valuing (limit : List ℕ) (base d e first : ℕ) (cs₀ fs₀ cs fs 
   pub f-rest : (x : ℕ) → p < x → at fs x ≡ at fs₀ x
   pub closed : ClosedSays limit base d e first cs₀ fs₀ cs fs p m
   pub fronts : FrontsIn d e fs p
+  pub most : p ≤ d → m ≡ e + 1
+
+-- the least so far, where it starts above every count
+least-pick : (p d c m : ℕ) → (p ≤ d → c ≤ m) → min c m ≡ pick (leb p d || leb c m) c m
+least-pick p d c m h = go (leb p d) (leb c m) refl refl
+  where
+    go : (t u : Bool) → leb p d ≡ t → leb c m ≡ u → min c m ≡ pick (t || u) c m
+    go true u i j = omega (arith, h (leb-true p d i))
+    go false true i j = omega (arith, leb-true c m j)
+    go false false i j = omega (arith, leb-false c m j)
 
 module _ (limit : List ℕ) (base d e first : ℕ) (cs₀ fs₀ : List ℕ) (room : ValuesRoom limit base d e first cs₀ fs₀) where
-  pub valuing-none : Valuing limit base d e first cs₀ fs₀ cs₀ fs₀ 0 d
+  pub valuing-none : Valuing limit base d e first cs₀ fs₀ cs₀ fs₀ (e + 1) d
   valuing-none =
       record {
         low = omega arith;
@@ -40,8 +50,9 @@ module _ (limit : List ℕ) (base d e first : ℕ) (cs₀ fs₀ : List ℕ) (roo
         fs-length = refl;
         c-rest = λ x h. refl;
         f-rest = λ x h. refl;
-        closed = λ s c f. listing-none (λ q. close d (row limit base q) (s q)) cs₀ fs₀ d 0;
+        closed = λ s c f. listing-none (λ q. close d (row limit base q) (s q)) cs₀ fs₀ d (e + 1);
         fronts = record { low = λ q i j. absurd (omega arith); high = λ q i j. absurd (omega arith) };
+        most = λ h. refl;
       }
 
   module _ (cs fs : List ℕ) (m p : ℕ) (v : Valuing limit base d e first cs₀ fs₀ cs fs m p) (before : p < e) where
@@ -58,12 +69,11 @@ module _ (limit : List ℕ) (base d e first : ℕ) (cs₀ fs₀ : List ℕ) (roo
     pub f-read : at fs (later (p + 1) first) ≡ at fs₀ (later (p + 1) first)
     f-read = v .f-rest (later (p + 1) first) (omega (arith, read-low))
 
-    pub c-small : at cs (later (p + 1) first) < 256
+    pub c-small : at cs (later (p + 1) first) ≤ e
     c-small = omega (
       arith,
       c-read,
       read-high,
-      room .short,
       room .ranged .small (later (p + 1) first) (omega (arith, read-low, v .low)) read-high,
     )
 
@@ -81,9 +91,10 @@ module _ (limit : List ℕ) (base d e first : ℕ) (cs₀ fs₀ : List ℕ) (roo
         → x ≡ later (p + 1) first
         → CloseSays d (row limit base (p + 1)) (at cs x) (at fs x) c f
         → ((d < f) × (f ≤ e))
-        → m′ ≡ pick (leb p d || leb c m) c m
+        → c ≤ at cs x + 1
+        → m′ ≡ min c m
         → Valuing limit base d e first cs₀ fs₀ (set cs (p + 1) c) (set fs (p + 1) f) m′ (p + 1)
-    valuing-more x c f m′ h k xi says w n =
+    valuing-more x c f m′ h k xi says w small n =
         record {
           low = omega (arith, v .low);
           high = omega arith;
@@ -93,7 +104,8 @@ module _ (limit : List ℕ) (base d e first : ℕ) (cs₀ fs₀ : List ℕ) (roo
           f-rest = λ y i. getD-set-other fs (p + 1) y f 0 (λ (z : y ≡ p + 1). omega arith) ∙ v .f-rest y (omega arith);
           closed = λ s sc sf. listing-more (λ q. close d (row limit base q) (s q)) cs fs d p m c f m′ h k
               (says (s (p + 1)) (ap (at cs) xi ∙ c-read ∙ sc (p + 1) (omega (arith, v .low)) (omega arith))
-              (ap (at fs) xi ∙ f-read ∙ sf (p + 1) (omega (arith, v .low)) (omega arith))) n (v .closed s sc sf);
+              (ap (at fs) xi ∙ f-read ∙ sf (p + 1) (omega (arith, v .low)) (omega arith)))
+              (n ∙ least-pick p d c m first-least) (v .closed s sc sf);
           fronts =
               record {
                 low = λ q i j. ⊎-elim
@@ -107,7 +119,11 @@ module _ (limit : List ℕ) (base d e first : ℕ) (cs₀ fs₀ : List ℕ) (roo
                     (v .fronts .high q i (omega (arith, z))))
                     (eq-or q (p + 1));
               };
+          most = λ h. absurd (omega (arith, v .low));
         }
+      where
+        first-least : p ≤ d → c ≤ m
+        first-least h = omega (arith, v .most h, small, ap (at cs) xi, c-small)
 
 -- the later of two gaps
 pub later-second : (a b : ℕ) → a < b → b ≡ later a b
@@ -127,3 +143,12 @@ close-within d e limit c f c′ f′ h i j says = go (leb f limit) (says (st c f
     go : (t : Bool) → f′ ≡ pick t (st c f bare) (put d (st c f bare)) .f → (d < f′) × (f′ ≤ e)
     go true z = (omega arith, omega arith)
     go false z = (omega arith, omega arith)
+
+-- with at most one barrier more
+pub close-count : (d limit c f c′ f′ : ℕ) → CloseSays d limit c f c′ f′ → c′ ≤ c + 1
+unfolding close put
+close-count d limit c f c′ f′ says = go (leb f limit) (says (st c f bare) refl refl .c-is)
+  where
+    go : (t : Bool) → c′ ≡ pick t (st c f bare) (put d (st c f bare)) .c → c′ ≤ c + 1
+    go true z = omega arith
+    go false z = omega arith

@@ -2,10 +2,7 @@
 use starts::Front;
 ghost use mathlib.Core.Path.{_≡_};
 ghost use Prim.Native.Nat.{_+_, _<_};
-ghost use mathlib.Core.Bool.{_||_};
-ghost use lib.Dec.{leb};
 ghost use lib.ListN.{length};
-ghost use Rattle.laws.specs.Choice.{pick};
 ghost use Rattle.starts.specs.Grounds.{Kept};
 ghost use Rattle.starts.specs.Started.{later};
 ghost use Rattle.rows.specs.Valued.{CloseSays, ClosedSays, FrontsIn, ValuesRoom};
@@ -42,7 +39,18 @@ pub fn make_row(
     let mut fs = [0; ROW];
     let mut link = [0; ROW];
     starts::mark(points, own, reach, base, left, kids, d, e, &mut need);
-    let first = starts::follow_all(points, own, &need, left, kids, d, e, &mut cs, &mut fs, &mut link);
+    let first = starts::follow_all(
+        points,
+        own,
+        &need,
+        left,
+        kids,
+        d,
+        e,
+        &mut cs,
+        &mut fs,
+        &mut link,
+    );
     let m = values(limit, base, d, e, first, &mut cs, &mut fs);
     choose(&cs, &fs, m, left, choice, base, d, e);
 }
@@ -147,7 +155,7 @@ fn values(
         (now (cs .exit)) (now (fs .exit)) e r ⌝ }
     ensures { λ r. ⌜ FrontsIn d e (now (fs .exit)) e ⌝ }
 {
-    let mut m = 0;
+    let mut m = e + 1;
     let mut p = d;
     while p < e {
         let q = p + 1;
@@ -155,7 +163,7 @@ fn values(
         let v = closed(cs[x], fs[x], limit[base + q], d);
         cs[q] = v.c;
         fs[q] = v.f;
-        m = lesser(p, d, v.c, m);
+        m = sweeps::smaller(v.c, m);
         p = q;
     }
     m
@@ -178,17 +186,4 @@ fn closed(c: usize, f: usize, limit: usize, d: usize) -> Front
         return Front { c: c, f: f };
     }
     Front { c: c + 1, f: d + 1 }
-}
-
-// The least number of barriers with one more value, that of p + 1.
-fn lesser(p: usize, d: usize, here: usize, m: usize) -> usize
-    ensures { λ r. ⌜ r ≡ pick (leb p d || leb here m) here m ⌝ }
-{
-    if p <= d {
-        return here;
-    }
-    if here <= m {
-        return here;
-    }
-    m
 }

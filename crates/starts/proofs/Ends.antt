@@ -1,4 +1,5 @@
--- What a sweep makes from a boundary on is what is made from the last open start on: its event, and so on from its link.
+-- What a sweep makes from a boundary on is what is made from the last open start on: its event, and so on from its
+-- link.
 -- Main definitions: `Total`, `Ends`. Main statement: `ends`.
 use mathlib.Core.Path.{_≡_, refl, sym, _∙_, ap}
 use mathlib.Core.Bool.{Bool, true, false}
@@ -71,7 +72,8 @@ module _ (ps own left : List ℕ) (kids d e : ℕ) (ground : Ground ps own left 
   goes-none (suc k) zero s h = refl
   goes-none (suc k) (suc p) s h = rw (lt-ltb p d h)
 
-  goes-plain : (k p : ℕ) (s : State) → d ≤ p → isEnd ps p ≡ false → goes (suc k) (suc p) s ≡ goes k p (stepPlain need p s)
+  goes-plain : (k p : ℕ) (s : State) → d ≤ p → isEnd ps p ≡ false → goes (suc k) (suc p) s ≡ goes k p
+      (stepPlain need p s)
   unfolding walk next step
   goes-plain k p s h i = rw (le-ltb p d h, i)
 
@@ -152,7 +154,8 @@ module _ (ps own left : List ℕ) (kids d e : ℕ) (ground : Ground ps own left 
             (λ y i j o. later y (omega arith) j (above y (omega arith) j o)))
             (event-then C F s u (goes k l u) x (seek m f d l) c f uc uf (w .low) (w .c-is) (w .f-is) z)
 
-        free′ : Free need (s .f) l p → Comes C F s (goes k l (free (row left kids) (lay l) l s)) (seek m (s .f) d (suc p))
+        free′ : Free need (s .f) l p → Comes C F s (goes k l (free (row left kids) (lay l) l s))
+            (seek m (s .f) d (suc p))
         free′ z = ⊎-elim
             (λ (y : row left kids (suc l) ≤ 0).
             let o : row left kids (suc l) ≡ 0 = omega arith in
@@ -175,8 +178,12 @@ module _ (ps own left : List ℕ) (kids d e : ℕ) (ground : Ground ps own left 
             closed o y a j = ⊎-elim
                 (λ (v : y ≤ suc l).
                 let w : y ≡ suc l = omega arith in
-                rw w (omega (arith, mark-none ps own left kids d need p l kid o, z .above (suc l) (omega arith)
-                (omega (arith, kid .short)))))
+                rw w (omega (
+                  arith,
+                  mark-none ps own left kids d need p l kid o,
+                  z .above (suc l) (omega arith)
+                      (omega (arith, kid .short)),
+                )))
                 (λ (v : suc l < y). later y v j (z .above y a j))
                 (le-or y (suc l))
 
@@ -184,14 +191,16 @@ module _ (ps own left : List ℕ) (kids d e : ℕ) (ground : Ground ps own left 
             Comes C F s (goes k l (inner (row left kids) (lay l) x s)) (seek m (s .f) d (suc p))
         inner′ x z = found x 0 (row left kids x) (inner (row left kids) (lay l) x s) (z .low) (omega (arith, z .high))
             (omega (arith, z .uncut, mark-le ps own left kids d need x)) (z .above)
-            (cost-inner (row left kids) l p x (z .high) (z .there)) (front-inner (row left kids) l p x (z .high) (z .there))
+            (cost-inner (row left kids) l p x (z .high) (z .there))
+            (front-inner (row left kids) l p x (z .high) (z .there))
             (omega arith) refl
 
         outer′ : (x : ℕ) → Outer need (row left kids) (s .f) l p x →
             Comes C F s (goes k l (outer (row left kids) (lay l) l p s)) (seek m (s .f) d (suc p))
         outer′ x z = found x 1 (firstOf (row left kids (suc l)) (suc p)) (outer (row left kids) (lay l) l p s) (z .low)
             (z .high) (omega (arith, z .uncut, mark-le ps own left kids d need x)) (z .above)
-            (cost-outer (row left kids) l p x (z .lacks)) (front-outer (row left kids) l p x (z .lacks)) (omega arith) refl
+            (cost-outer (row left kids) l p x (z .lacks)) (front-outer (row left kids) l p x (z .lacks)) (omega arith)
+            refl
 
   -- from a boundary to the ENDDO, where the sweep starts
   pub ends : (p : ℕ) → Passed ps own left kids d e (Total m d e C F) p → Ends p → Ends e

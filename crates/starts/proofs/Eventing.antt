@@ -12,7 +12,8 @@ use Rattle.nests.specs.Loops.{isEnd}
 use Rattle.planner.specs.Sweep.{seek}
 use Rattle.sweeps.specs.Listed.{at, row, Low}
 use Rattle.starts.specs.Grounds.{Bound, Kid, Plain, Ground, Kept}
-use Rattle.starts.specs.Started.{costAt, frontAt, Passed, top, plain, child, Event, Late, ChildSays, ChildRoom, StartsRoom}
+use Rattle.starts.specs.Started.{costAt, frontAt, Passed, top, plain, child, Event, Late}
+use Rattle.starts.specs.Started.{ChildRoom, ChildSays, StartsRoom}
 use Rattle.starts.proofs.Seeks.{seek-skip, seek-late}
 use Rattle.starts.proofs.Passes.{passed-map}
 

@@ -23,9 +23,9 @@ end-marked owner d p first end a b c = rw (lt-ltb d p a, eq-eqb owner d b, lt-lt
 pub end-plain : (owner d p first end : ℕ) → (d < p → owner ≡ d → first ≤ 0) → end ≡ endAfter owner d p first end
 end-plain owner d p first end h =
     let z : (ltb d p && (eqb owner d && ltb 0 first)) ≡ false = false-by λ e.
-        let x = and-true (ltb d p) (eqb owner d && ltb 0 first) e in
-        let y = and-true (eqb owner d) (ltb 0 first) (x .1) in
-        omega (arith, h (ltb-true d p (x .0)) (eqb-true owner d (y .0)), ltb-true 0 first (y .1)) in
+    let x = and-true (ltb d p) (eqb owner d && ltb 0 first) e in
+    let y = and-true (eqb owner d) (ltb 0 first) (x .1) in
+    omega (arith, h (ltb-true d p (x .0)) (eqb-true owner d (y .0)), ltb-true 0 first (y .1)) in
     rw z refl
 
 module _ (ps own : List ℕ) (reach : ℕ → ℕ) (left : List ℕ) (kids d : ℕ) where

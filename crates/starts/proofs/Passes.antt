@@ -44,7 +44,8 @@ module _ (ps own left : List ℕ) (kids d e : ℕ) (own-low : Low own) where
       (λ (z : suc p < x). passed-all E P (suc p) (λ b x c f l m n. h b x c f (omega arith) m n) k x z c)
       (le-or x (suc p))
   passed-all E P q h (child p low b i t k) x a c = ⊎-elim
-      (λ (z : x ≤ suc p). h (at own p) x (costAt (row left kids) p x) (frontAt (row left kids) (at own p) p x) (omega arith) a c
+      (λ (z : x ≤ suc p). h (at own p) x (costAt (row left kids) p x) (frontAt (row left kids) (at own p) p x)
+      (omega arith) a c
       (t x a z))
       (λ (z : suc p < x). passed-all E P (suc p) (λ b x c f l m n. h b x c f (omega (arith, own-low p)) m n) k x z c)
       (le-or x (suc p))

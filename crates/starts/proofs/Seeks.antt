@@ -1,4 +1,5 @@
--- The search for the last open line is determined by what it says, so that a search may go on where an earlier one ended.
+-- The search for the last open line is determined by what it says, so that a search may go on where an earlier one
+-- ended.
 -- Main statements: `sought-one`, `seek-found`, `seek-skip`, `seek-late`, `seek-alike`.
 use mathlib.Core.Path.{_≡_, refl, sym, _∙_}
 use mathlib.Core.Logic.{_⊎_, ⊎-elim}

@@ -123,7 +123,8 @@ module _ (ps own left : List ℕ) (kids d e : ℕ) (reach : ℕ → ℕ) (q : �
       go true z =
           let h : q < first = ltb-true q first z in
           let s = seek-is plain (suc e) d e in
-          seek-found lowered (suc e) d e first (omega arith) (s .high) (omega (arith, lower first, s .uncut (omega arith)))
+          seek-found lowered (suc e) d e first (omega arith) (s .high)
+          (omega (arith, lower first, s .uncut (omega arith)))
           (λ y i j k. other y (omega arith) k i j)
       go false z =
           let h : first ≤ q = ltb-false q first z in
@@ -131,7 +132,8 @@ module _ (ps own left : List ℕ) (kids d e : ℕ) (reach : ℕ → ℕ) (q : �
 
 module _ (ps own left : List ℕ) (kids d e : ℕ) (ground : Ground ps own left kids d e) (own-low : Low own)
     (need : List ℕ) (link cs fs cs′ fs′ : List ℕ)
-    (passed : Passed ps own left kids d e (Event (at need) d e cs fs link) d) (followed : Followed link cs fs cs′ fs′ d e e)
+    (passed : Passed ps own left kids d e (Event (at need) d e cs fs link) d)
+    (followed : Followed link cs fs cs′ fs′ d e e)
     (reach : ℕ → ℕ) (are-marked : Marked ps own reach left kids d e need) where
   -- the list of marks and the marks are searched alike
   seek-list : (f b : ℕ) → b ≤ e → seek (at need) f d b ≡ seek (plain ps own left kids d e reach 0) f d b
@@ -175,9 +177,11 @@ module _ (ps own left : List ℕ) (kids d e : ℕ) (ground : Ground ps own left 
           (sweep (listed ps own e) (tabled left kids lay) (needOf reach q e) d)
           (seek (lowered ps own left kids d e reach q) (suc e) d e) (later q (seek (at need) (suc e) d e))
           (first-open ps own left kids d e reach q a b ∙ ap (later q) (sym (seek-list (suc e) e (omega arith))))
-          (ends ps own left kids d e ground (needOf reach q e) (at cs′) (at fs′) (followed .c-none) (followed .f-none) lay
+          (ends ps own left kids d e ground (needOf reach q e) (at cs′) (at fs′) (followed .c-none) (followed .f-none)
+          lay
           d
           (passed-map ps own left kids d e own-low (Event (at need) d e cs fs link)
           (Total (lowered ps own left kids d e reach q) d e (at cs′) (at fs′)) d (total q) passed)
-          (at-do ps own left kids d e ground (needOf reach q e) (at cs′) (at fs′) (followed .c-none) (followed .f-none) lay)
+          (at-do ps own left kids d e ground (needOf reach q e) (at cs′) (at fs′) (followed .c-none)
+          (followed .f-none) lay)
           e (start e) (omega arith) (omega arith))

@@ -14,7 +14,8 @@ use Rattle.planner.specs.Sweep.{seek, needOf, sweep}
 use Rattle.sweeps.specs.Listed.{at, row, listed, tabled, SweepRoom}
 use Rattle.starts.specs.Grounds.{Bound, Within, Kept}
 
--- the ends of lines, and 0 at the first gap of a loop directly inside d that holds barriers: nothing above it cuts there
+-- the ends of lines, and 0 at the first gap of a loop directly inside d that holds barriers: nothing above it cuts
+-- there
 unfoldable pub marked : List ℕ → List ℕ → (ℕ → ℕ) → (ℕ → ℕ) → ℕ → ℕ → ℕ
 marked ps own need left d zero = need 0
 marked ps own need left d (suc p) =

@@ -1,6 +1,7 @@
 // The starts of one loop: what a sweep makes from each of them on, for all of them at once.
-// Between two barriers a sweep changes nothing, and what follows a barrier depends on the start that made it alone: each
-// start has one event, a number of own barriers and a front, and each front a link, the start at which the sweep goes on.
+// Between two barriers a sweep changes nothing, and what follows a barrier depends on the start that made it alone. So
+// each start has one event, a number of own barriers and a front, and each front a link, the start at which the sweep
+// goes on.
 ghost use mathlib.Core.Path.{_≡_};
 ghost use Prim.Native.Nat.{_+_, _<_};
 ghost use lib.ListN.{length};

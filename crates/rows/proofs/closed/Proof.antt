@@ -1,3 +1,4 @@
+-- `closed` meets its contract, by its test (Suffix).
 use borrow.Author.Needs.{needs}
 use native.Mathlib.Omega.{arith}
 use Rattle.rows.proofs.Suffix.{close-low, close-high}

@@ -1,3 +1,4 @@
+-- `later` meets its contract, by its test (Valuing).
 use native.Mathlib.Omega.{arith}
 use Rattle.rows.proofs.Valuing.{later-second, later-first}
 use Rattle.rows.proofs.later.Statement.{statement}

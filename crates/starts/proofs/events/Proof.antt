@@ -1,3 +1,4 @@
+-- `events` meets its contract. The invariant: the events above the boundary p are there (`Eventing`).
 use mathlib.Core.Path.{_≡_}
 use Prim.Native.Nat.{ℕ, suc, _+_, _-_, _≤_, _<_}
 use native.Mathlib.Omega.{arith}
@@ -15,9 +16,11 @@ abbrev μ-loop : tie.MeasureT-loop
 
 loop-holds : tie.Need-loop-holds Inv-loop μ-loop
 loop-holds c =
-    let i = c .before .before .before .before .before .before .before .args in
-    let r = c .before .before .before .before .before .before .before .pre in
-    eventing-none (i .points .now) (i .own .now) (i .need .now) (i .left .now) (i .kids) (i .d) (i .e) (r .1 .0) (r .0 .sweep-room .own-low)
+    let b7 = c .before .before .before .before .before .before .before in
+    let i = b7 .args in
+    let r = b7 .pre in
+    eventing-none (i .points .now) (i .own .now) (i .need .now) (i .left .now) (i .kids) (i .d) (i .e) (r .1 .0)
+    (r .0 .sweep-room .own-low)
     (i .cs .now) (i .fs .now) (i .link .now) (i .first) (r .0 .long) (r .1 .1)
 
 sub-before : tie.Need-sub-before Inv-loop μ-loop
@@ -34,27 +37,44 @@ shared-slice-read-l c = omega arith
 
 events-child-requires : tie.Need-events-child-requires Inv-loop μ-loop
 events-child-requires c κs =
-    let i = c .before .before .before .before .before .before .before .before .before .before .before .before .before .before .before .args in
-    let r = c .before .before .before .before .before .before .before .before .before .before .before .before .before .before .before .pre in
-    let l = c .before .before .before .before .before .before .before .loop in
-    child-room (i .points .now) (i .own .now) (i .need .now) (i .left .now) (i .kids) (i .d) (i .e) (r .1 .0) (r .0 .sweep-room .own-low)
+    let b4 = c .before .before .before .before in
+    let b6 = b4 .before .before in
+    let b7 = b6 .before in
+    let b15 = b7 .before .before .before .before .before .before .before .before in
+    let i = b15 .args in
+    let r = b15 .pre in
+    let l = b7 .loop in
+    child-room (i .points .now) (i .own .now) (i .need .now) (i .left .now) (i .kids) (i .d) (i .e) (r .1 .0)
+    (r .0 .sweep-room .own-low)
     (i .cs .now) (i .fs .now) (i .link .now) (l .cs) (l .fs) (l .link) (l .a) (l .p)
-    (omega (arith, c .before .before .before .before .before .before .loop-test)) (c .before .before .before .before .if1 .taken) (r .0) (l .inv)
+    (omega (arith, b6 .loop-test)) (b4 .if1 .taken) (r .0) (l .inv)
 
 loop-less : tie.Need-loop-less Inv-loop μ-loop
 loop-less c =
-    omega (arith, c .before .before .before .before .before .before .before .before .before .before .before .before .before .before .before .before .before .before .before .before .before .before .pre .0 .sweep-room .own-low (c .before .before .before .before .before .before .before .before .before .before .before .before .before .before .loop .p - 1), c .before .before .before .before .before .before .before .before .before .before .before .before .before .loop-test)
+    let b12 = c .before .before .before .before .before .before .before .before .before .before .before .before in
+    let b13 = b12 .before in
+    let b14 = b13 .before in
+    let b22 = b14 .before .before .before .before .before .before .before .before in
+    omega (arith, b22 .pre .0 .sweep-room .own-low (b14 .loop .p - 1), b13 .loop-test)
 
 loop-again : tie.Need-loop-again Inv-loop μ-loop
 loop-again c =
-    let i = c .before .before .before .before .before .before .before .before .before .before .before .before .before .before .before .before .before .before .before .before .before .before .args in
-    let r = c .before .before .before .before .before .before .before .before .before .before .before .before .before .before .before .before .before .before .before .before .before .before .pre in
-    let l = c .before .before .before .before .before .before .before .before .before .before .before .before .before .before .loop in
-    let v = c .before .before .before .before .before .before .events-child in
-    eventing-child (i .points .now) (i .own .now) (i .need .now) (i .left .now) (i .kids) (i .d) (i .e) (r .1 .0) (r .0 .sweep-room .own-low)
+    let b6 = c .before .before .before .before .before .before in
+    let b11 = b6 .before .before .before .before .before in
+    let b13 = b11 .before .before in
+    let b14 = b13 .before in
+    let b22 = b14 .before .before .before .before .before .before .before .before in
+    let i = b22 .args in
+    let r = b22 .pre in
+    let l = b14 .loop in
+    let v = b6 .events-child in
+    eventing-child (i .points .now) (i .own .now) (i .need .now) (i .left .now) (i .kids) (i .d) (i .e) (r .1 .0)
+    (r .0 .sweep-room .own-low)
     (i .cs .now) (i .fs .now) (i .link .now) (l .cs) (l .fs) (l .link) (l .a) (l .p)
-    (v .last .1 .1 .1 .1 .1 .1 .1 .0) (v .last .1 .1 .1 .1 .1 .1 .1 .1 .0) (v .last .1 .1 .1 .1 .1 .1 .1 .1 .1 .0) (v .result)
-    (omega (arith, c .before .before .before .before .before .before .before .before .before .before .before .before .before .loop-test)) (c .before .before .before .before .before .before .before .before .before .before .before .if1 .taken) (v .kept .1 .1 .1 .1 .1 .1 .1 .0) (v .kept .1 .1 .1 .1 .1 .1 .1 .1 .0)
+    (v .last .1 .1 .1 .1 .1 .1 .1 .0) (v .last .1 .1 .1 .1 .1 .1 .1 .1 .0) (v .last .1 .1 .1 .1 .1 .1 .1 .1 .1 .0)
+    (v .result)
+    (omega (arith, b13 .loop-test)) (b11 .if1 .taken) (v .kept .1 .1 .1 .1 .1 .1 .1 .0)
+    (v .kept .1 .1 .1 .1 .1 .1 .1 .1 .0)
     (v .kept .1 .1 .1 .1 .1 .1 .1 .1 .1 .0) (v .ensures) (l .inv)
 
 smaller-requires : tie.Need-smaller-requires Inv-loop μ-loop
@@ -62,7 +82,9 @@ smaller-requires c κs = search needs
 
 last-near-requires : tie.Need-last-near-requires Inv-loop μ-loop
 last-near-requires c κs =
-    omega (arith, c .smaller .ensures, c .before .before .before .before .before .before .before .before .before .before .before .before .pre .0 .sweep-room .need-room, c .before .before .before .before .loop .inv .bound)
+    let b4 = c .before .before .before .before in
+    let b12 = b4 .before .before .before .before .before .before .before .before in
+    omega (arith, c .smaller .ensures, b12 .pre .0 .sweep-room .need-room, b4 .loop .inv .bound)
 
 mul-cs : tie.Need-mul-cs Inv-loop μ-loop
 mul-cs c = omega arith
@@ -87,12 +109,17 @@ loop-less-2 c = omega arith
 
 loop-again-2 : tie.Need-loop-again-2 Inv-loop μ-loop
 loop-again-2 c =
-    let i = c .before .before .before .before .before .before .before .before .before .before .before .before .before .args in
-    let r = c .before .before .before .before .before .before .before .before .before .before .before .before .before .pre in
-    let l = c .before .before .before .before .before .loop in
-    eventing-plain (i .points .now) (i .own .now) (i .need .now) (i .left .now) (i .kids) (i .d) (i .e) (r .1 .0) (r .0 .sweep-room .own-low)
+    let b4 = c .before .before .before .before in
+    let b5 = b4 .before in
+    let b13 = b5 .before .before .before .before .before .before .before .before in
+    let i = b13 .args in
+    let r = b13 .pre in
+    let l = b5 .loop in
+    eventing-plain (i .points .now) (i .own .now) (i .need .now) (i .left .now) (i .kids) (i .d) (i .e) (r .1 .0)
+    (r .0 .sweep-room .own-low)
     (i .cs .now) (i .fs .now) (i .link .now) (l .cs) (l .fs) (l .link) (l .a) (l .p) (c .last-near .result)
-    (omega (arith, c .before .before .before .before .loop-test)) (omega (arith, r .0 .cs-room)) (omega (arith, r .0 .fs-room)) (omega (arith, r .0 .link-room))
+    (omega (arith, b4 .loop-test)) (omega (arith, r .0 .cs-room)) (omega (arith, r .0 .fs-room))
+    (omega (arith, r .0 .link-room))
     (c .before .before .if1 .left) (rw (c .before .smaller .ensures) at (c .last-near .ensures)) (l .inv)
 
 same-length : tie.Need-same-length Inv-loop μ-loop
@@ -106,7 +133,8 @@ same-length-3 c = c .before .loop .inv .link-length
 
 returns : tie.Need-returns Inv-loop μ-loop
 returns c =
-    let i = c .before .before .before .before .before .before .before .before .before .args in
+    let b9 = c .before .before .before .before .before .before .before .before .before in
+    let i = b9 .args in
     let l = c .before .loop in
     let z : l .p ≡ i .d = omega (arith, l .inv .bound .low) in
     rw z at (l .inv .passed)

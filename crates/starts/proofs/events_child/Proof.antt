@@ -1,3 +1,5 @@
+-- `events_child` meets its contract. The invariant: the gaps after x are filled (`Filling`), and `outer` is the
+-- front of a barrier after the loop.
 use Prim.Native.Nat.{ℕ, suc, _+_, _-_, _≤_, _<_}
 use native.Mathlib.Omega.{arith}
 use borrow.Author.Needs.{needs}
@@ -40,9 +42,11 @@ add-x c = omega arith
 
 loop-holds : tie.Need-loop-holds Inv-loop μ-loop
 loop-holds c =
-    let i = c .before .before .before .before .before .before .before .args in
-    let r = filling-none (i .need .now) (i .left .now) (i .kids) (i .d) (i .l) (i .p) (i .cs .now) (i .fs .now) (i .link .now) (i .last)
-    (c .before .before .before .before .before .before .before .pre) in
+    let b7 = c .before .before .before .before .before .before .before in
+    let i = b7 .args in
+    let r = filling-none (i .need .now) (i .left .now) (i .kids) (i .d) (i .l) (i .p) (i .cs .now) (i .fs .now)
+    (i .link .now) (i .last)
+    (b7 .pre) in
     (c .first-or .ensures ∙ rw (add-one (i .l), add-one (i .p)) refl, rw (add-one (i .p)) r)
 
 event-requires : tie.Need-event-requires Inv-loop μ-loop
@@ -52,7 +56,9 @@ smaller-requires : tie.Need-smaller-requires Inv-loop μ-loop
 smaller-requires c κs = search needs
 
 last-near-requires : tie.Need-last-near-requires Inv-loop μ-loop
-last-near-requires c κs = omega (arith, c .smaller .ensures, c .before .before .before .before .before .before .before .before .before .before .before .pre)
+last-near-requires c κs =
+    let b11 = c .before .before .before .before .before .before .before .before .before .before .before in
+    omega (arith, c .smaller .ensures, b11 .pre)
 
 mul-cs : tie.Need-mul-cs Inv-loop μ-loop
 mul-cs c = omega arith
@@ -80,13 +86,17 @@ loop-less c = omega arith
 
 loop-again : tie.Need-loop-again Inv-loop μ-loop
 loop-again c =
-    let i = c .before .before .before .before .before .before .before .before .before .before .before .before .args in
-    let l = c .before .before .before .before .loop in
-    let v = c .before .before .event in
-    (l .inv .0, filling-more (i .need .now) (i .left .now) (i .kids) (i .d) (i .l) (i .p) (i .cs .now) (i .fs .now) (i .link .now)
-    (i .last) (c .before .before .before .before .before .before .before .before .before .before .before .before .pre) (l .cs) (l .fs) (l .link) (l .a) (l .x) (l .inv .1) (v .result .c) (v .result .f)
-    (c .last-near .result) (omega arith) (v .ensures .0) (rw (l .inv .0) at (v .ensures .1))
-    (rw (c .before .smaller .ensures) at (c .last-near .ensures)))
+    let b4 = c .before .before .before .before in
+    let b12 = b4 .before .before .before .before .before .before .before .before in
+    let i = b12 .args in
+    let l = b4 .loop in
+    let v = c .before .before .event in (
+      l .inv .0,
+      filling-more (i .need .now) (i .left .now) (i .kids) (i .d) (i .l) (i .p) (i .cs .now) (i .fs .now) (i .link .now)
+          (i .last) (b12 .pre) (l .cs) (l .fs) (l .link) (l .a) (l .x) (l .inv .1) (v .result .c) (v .result .f)
+          (c .last-near .result) (omega arith) (v .ensures .0) (rw (l .inv .0) at (v .ensures .1))
+          (rw (c .before .smaller .ensures) at (c .last-near .ensures)),
+    )
 
 same-length : tie.Need-same-length Inv-loop μ-loop
 same-length c = c .before .loop .inv .1 .cs-length
@@ -99,10 +109,12 @@ same-length-3 c = c .before .loop .inv .1 .link-length
 
 returns : tie.Need-returns Inv-loop μ-loop
 returns c =
-    let i = c .before .before .before .before .before .before .before .before .before .args in
+    let b9 = c .before .before .before .before .before .before .before .before .before in
+    let i = b9 .args in
     let l = c .before .loop in
-    filled (i .need .now) (i .left .now) (i .kids) (i .d) (i .l) (i .p) (i .cs .now) (i .fs .now) (i .link .now) (i .last)
-    (c .before .before .before .before .before .before .before .before .before .pre) (l .cs) (l .fs) (l .link) (l .a) (l .x) (l .inv .1) (omega arith)
+    filled (i .need .now) (i .left .now) (i .kids) (i .d) (i .l) (i .p) (i .cs .now) (i .fs .now) (i .link .now)
+    (i .last)
+    (b9 .pre) (l .cs) (l .fs) (l .link) (l .a) (l .x) (l .inv .1) (omega arith)
 
 pub events-child-spec : {M : Type 1} → statement M
 events-child-spec =

@@ -1,3 +1,4 @@
+-- `follow_all` meets its contract: the events, followed from left to right, are what the sweeps make (Whole).
 use borrow.Author.Needs.{needs}
 use mathlib.Core.Path.{_∙_}
 use native.Mathlib.Omega.{arith}
@@ -25,53 +26,70 @@ slice-write-fs c = search needs
 
 follow-requires : tie.Need-follow-requires
 follow-requires c κs =
-    let i = c .before .before .before .before .before .before .before .before .before .before .before .before .before .before .before .before .before .before .before .before .before .args in
-    let r = c .before .before .before .before .before .before .before .before .before .before .before .before .before .before .before .before .before .before .before .before .before .pre in
-    let v = c .before .before .before .before .before .before .before .before .before .events in
+    let b9 = c .before .before .before .before .before .before .before .before .before in
+    let b21 = b9 .before .before .before .before .before .before .before .before .before .before .before .before in
+    let i = b21 .args in
+    let r = b21 .pre in
+    let v = b9 .events in
     let cs = v .last .1 .1 .1 .1 .1 .1 .1 .1 .0 in
     let fs = v .last .1 .1 .1 .1 .1 .1 .1 .1 .1 .0 in
     let link = v .last .1 .1 .1 .1 .1 .1 .1 .1 .1 .1 .0 in
     let cl = v .kept .1 .1 .1 .1 .1 .1 .1 .1 .0 in
     let fl = v .kept .1 .1 .1 .1 .1 .1 .1 .1 .1 .0 in
     let ll = v .kept .1 .1 .1 .1 .1 .1 .1 .1 .1 .1 .0 in
-    let passed = passed-zero (i .points .now) (i .own .now) (i .need .now) (i .left .now) (i .kids) (i .d) (i .e) (r .0 .sweep-room .own-low) link cs fs (v .ensures) in
+    let passed = passed-zero (i .points .now) (i .own .now) (i .need .now) (i .left .now) (i .kids) (i .d) (i .e)
+    (r .0 .sweep-room .own-low) link cs fs (v .ensures) in
     record {
       long = r .0 .long;
       cs-room = omega (arith, r .0 .cs-room, length-set cs 0 0, cl);
       fs-room = omega (arith, r .0 .fs-room, length-set fs 0 0, fl);
       link-room = omega (arith, r .0 .link-room, ll);
-      fits = fits (i .points .now) (i .own .now) (i .need .now) (i .left .now) (i .kids) (i .d) (i .e) (r .0 .sweep-room .own-low) link (set cs 0 0) (set fs 0 0) passed;
+      fits = fits (i .points .now) (i .own .now) (i .need .now) (i .left .now) (i .kids) (i .d) (i .e)
+          (r .0 .sweep-room .own-low) link (set cs 0 0) (set fs 0 0) passed;
       c-none = getD-set-same cs 0 0 0 (omega (arith, r .0 .cs-room, cl));
       f-none = getD-set-same fs 0 0 0 (omega (arith, r .0 .fs-room, fl));
     }
 
 same-length : tie.Need-same-length
 same-length c =
-    let v = c .before .before .before .before .before .before .before .before .before .before .before .before .before .before .events in
-    c .before .before .before .before .follow .kept .1 .1 .1 .0 ∙ length-set (v .last .1 .1 .1 .1 .1 .1 .1 .1 .0) 0 0 ∙ v .kept .1 .1 .1 .1 .1 .1 .1 .1 .0
+    let b4 = c .before .before .before .before in
+    let b14 = b4 .before .before .before .before .before .before .before .before .before .before in
+    let v = b14 .events in
+    b4 .follow .kept .1 .1 .1 .0 ∙ length-set (v .last .1 .1 .1 .1 .1 .1 .1 .1 .0) 0 0 ∙ v .kept .1 .1 .1 .1 .1 .1 .1
+    .1 .0
 
 same-length-2 : tie.Need-same-length-2
 same-length-2 c =
-    let v = c .before .before .before .before .before .before .before .before .before .before .before .before .before .before .events in
-    c .before .before .before .before .follow .kept .1 .1 .1 .1 .0 ∙ length-set (v .last .1 .1 .1 .1 .1 .1 .1 .1 .1 .0) 0 0 ∙ v .kept .1 .1 .1 .1 .1 .1 .1 .1 .1 .0
+    let b4 = c .before .before .before .before in
+    let b14 = b4 .before .before .before .before .before .before .before .before .before .before in
+    let v = b14 .events in
+    b4 .follow .kept .1 .1 .1 .1 .0 ∙ length-set (v .last .1 .1 .1 .1 .1 .1 .1 .1 .1 .0) 0 0 ∙ v .kept .1 .1 .1 .1 .1
+    .1 .1 .1 .1 .0
 
 same-length-3 : tie.Need-same-length-3
 same-length-3 c = search needs
 
 returns : tie.Need-returns
 returns c =
-    let i = c .before .before .before .before .before .before .before .before .before .before .before .before .before .before .before .before .before .before .before .before .before .before .before .before .before .before .args in
-    let r = c .before .before .before .before .before .before .before .before .before .before .before .before .before .before .before .before .before .before .before .before .before .before .before .before .before .before .pre in
-    let v = c .before .before .before .before .before .before .before .before .before .before .before .before .before .before .events in
+    let b4 = c .before .before .before .before in
+    let b14 = b4 .before .before .before .before .before .before .before .before .before .before in
+    let b18 = b14 .before .before .before .before in
+    let b26 = b18 .before .before .before .before .before .before .before .before in
+    let i = b26 .args in
+    let r = b26 .pre in
+    let v = b14 .events in
     let cs = v .last .1 .1 .1 .1 .1 .1 .1 .1 .0 in
     let fs = v .last .1 .1 .1 .1 .1 .1 .1 .1 .1 .0 in
     let link = v .last .1 .1 .1 .1 .1 .1 .1 .1 .1 .1 .0 in
     let cl = v .kept .1 .1 .1 .1 .1 .1 .1 .1 .0 in
     let fl = v .kept .1 .1 .1 .1 .1 .1 .1 .1 .1 .0 in
     let ll = v .kept .1 .1 .1 .1 .1 .1 .1 .1 .1 .1 .0 in
-    let w = c .before .before .before .before .follow in
-    joined (i .points .now) (i .own .now) (i .need .now) (i .left .now) (i .kids) (i .d) (i .e) (r .0 .sweep-room .own-low) link (r .1) (set cs 0 0) (set fs 0 0) (w .last .1 .1 .1 .0) (w .last .1 .1 .1 .1 .0) (c .before .before .before .before .before .before .before .before .before .before .before .before .before .before .before .before .before .before .last-need .result)
-    (c .before .before .before .before .before .before .before .before .before .before .before .before .before .before .before .before .before .before .last-need .ensures) (passed-zero (i .points .now) (i .own .now) (i .need .now) (i .left .now) (i .kids) (i .d) (i .e) (r .0 .sweep-room .own-low) link cs fs (v .ensures)) (w .ensures)
+    let w = b4 .follow in
+    joined (i .points .now) (i .own .now) (i .need .now) (i .left .now) (i .kids) (i .d) (i .e)
+    (r .0 .sweep-room .own-low) link (r .1) (set cs 0 0) (set fs 0 0) (w .last .1 .1 .1 .0) (w .last .1 .1 .1 .1 .0)
+    (b18 .last-need .result)
+    (b18 .last-need .ensures) (passed-zero (i .points .now) (i .own .now) (i .need .now) (i .left .now) (i .kids)
+    (i .d) (i .e) (r .0 .sweep-room .own-low) link cs fs (v .ensures)) (w .ensures)
 
 pub follow-all-spec : {M : Type 1} → statement M
 follow-all-spec =

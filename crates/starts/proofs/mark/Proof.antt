@@ -1,3 +1,4 @@
+-- `mark` meets its contract. The invariant: the gaps up to p are marked.
 use Prim.Native.Nat.{ℕ, suc, _+_, _-_, _≤_, _<_}
 use native.Mathlib.Omega.{arith}
 use borrow.Author.Needs.{needs}
@@ -18,8 +19,14 @@ abbrev μ-loop : tie.MeasureT-loop
 
 loop-holds : tie.Need-loop-holds Inv-loop μ-loop
 loop-holds c =
-    let i = c .before .before .before .before .before .args in
-    (omega arith, omega arith, refl, marked-none (i .points .now) (i .own .now) (row (i .reach .now) (i .base)) (i .left .now) (i .kids) (i .d) (i .need .now))
+    let b5 = c .before .before .before .before .before in
+    let i = b5 .args in (
+      omega arith,
+      omega arith,
+      refl,
+      marked-none (i .points .now) (i .own .now) (row (i .reach .now) (i .base))
+          (i .left .now) (i .kids) (i .d) (i .need .now),
+    )
 
 add-q : tie.Need-add-q Inv-loop μ-loop
 add-q c = omega arith
@@ -80,13 +87,17 @@ loop-less c = omega arith
 
 loop-again : tie.Need-loop-again Inv-loop μ-loop
 loop-again c =
-    let i = c .before .before .before .before .before .before .before .before .before .before .before .before .before .args in
-    let l = c .before .before .before .before .before .before .before .loop in (
+    let b4 = c .before .before .before .before in
+    let b7 = b4 .before .before .before in
+    let b13 = b7 .before .before .before .before .before .before in
+    let i = b13 .args in
+    let l = b7 .loop in (
       omega arith,
       omega arith,
       length-set (l .need) (l .p + 1) (c .end-after .result) ∙ l .inv .2,
-      marked-do (i .points .now) (i .own .now) (row (i .reach .now) (i .base)) (i .left .now) (i .kids) (i .d) (l .need) (l .p)
-          (c .end-after .result) (omega arith) (c .before .before .before .before .if1 .taken) (c .end-after .ensures) (l .inv .3),
+      marked-do (i .points .now) (i .own .now) (row (i .reach .now) (i .base)) (i .left .now) (i .kids) (i .d)
+          (l .need) (l .p)
+          (c .end-after .result) (omega arith) (b4 .if1 .taken) (c .end-after .ensures) (l .inv .3),
     )
 
 loop-less-2 : tie.Need-loop-less-2 Inv-loop μ-loop
@@ -94,13 +105,16 @@ loop-less-2 c = omega arith
 
 loop-again-2 : tie.Need-loop-again-2 Inv-loop μ-loop
 loop-again-2 c =
-    let i = c .before .before .before .before .before .before .before .before .before .before .args in
-    let l = c .before .before .before .before .loop in
+    let b4 = c .before .before .before .before in
+    let b10 = b4 .before .before .before .before .before .before in
+    let i = b10 .args in
+    let l = b4 .loop in
     let x = row (i .reach .now) (i .base) (l .p + 1) in (
       omega arith,
       omega arith,
       length-set (l .need) (l .p + 1) x ∙ l .inv .2,
-      marked-other (i .points .now) (i .own .now) (row (i .reach .now) (i .base)) (i .left .now) (i .kids) (i .d) (l .need)
+      marked-other (i .points .now) (i .own .now) (row (i .reach .now) (i .base)) (i .left .now) (i .kids) (i .d)
+          (l .need)
           (l .p) x (omega arith) (c .before .if1 .left) refl (l .inv .3),
     )
 
@@ -109,7 +123,8 @@ same-length c = c .before .loop .inv .2
 
 returns : tie.Need-returns Inv-loop μ-loop
 returns c =
-    let i = c .before .before .before .before .before .before .before .args in
+    let b7 = c .before .before .before .before .before .before .before in
+    let i = b7 .args in
     let l = c .before .loop in
     let z : l .p ≡ i .e = omega arith in
     λ a h j. l .inv .3 a h (omega arith)
