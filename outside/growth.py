@@ -1,10 +1,10 @@
 #!/usr/bin/env python3
 """The picture of growth: growth.py BEFORE NOW writes an SVG to standard output.
 
-BEFORE and NOW are tables as `outside/measure` prints them, one line for each paper: kind, points, Load, Plan, program and
-twin, all instructions. BEFORE is the planner that made one sweep for each suffix. Each kind has a panel with three lines:
-Plan before, Plan now, and the planning function of the twin; both axes grow by factors, so that a straight line is a power
-of the points and its slope the exponent.
+BEFORE and NOW are tables as `outside/measure` prints them, one line for each paper: kind, points, the instructions of Load,
+Plan, program and twin, and glpsol's milliseconds if it was there. BEFORE is the planner that made one sweep for each suffix.
+Each kind has a panel with three lines: Plan before, Plan now, and the planning function of the twin; both axes grow by
+factors, so that a straight line is a power of the points and its slope the exponent.
 """
 import math
 import sys
@@ -28,6 +28,7 @@ class Figure:
     points: int
     plan: int
     twin: int
+    glpsol: str
 
 
 def figures(path: str) -> list[Figure]:
@@ -40,9 +41,9 @@ def figures(path: str) -> list[Figure]:
         raise Fault(f'{path}: {fault}') from None
     for line in lines:
         words = line.split()
-        if len(words) == 6 and words[1] != 'points':
+        if len(words) in (6, 7) and words[1] != 'points':
             try:
-                rows.append(Figure(words[0], int(words[1]), int(words[3]), int(words[5])))
+                rows.append(Figure(words[0], int(words[1]), int(words[3]), int(words[5]), ''.join(words[6:])))
             except ValueError:
                 raise Fault(f'{path}: not a line of figures: {line}') from None
     if not rows:
@@ -54,8 +55,9 @@ def text(x: float, y: float, words: str, anchor: str = 'start', size: int = 11, 
     return f'<text x="{x:.1f}" y="{y:.1f}" text-anchor="{anchor}" font-size="{size}" font-weight="{weight}">{words}</text>'
 
 
-def panel(kind: str, x0: float, y0: float, lines: dict[str, list[tuple[int, int]]], labels: bool) -> list[str]:
-    """One kind of paper: a frame, the powers of ten, the sizes, and its lines."""
+def panel(kind: str, beside: str, x0: float, y0: float, lines: dict[str, list[tuple[int, int]]],
+          labels: bool) -> list[str]:
+    """One kind of paper: a frame, the powers of ten, the sizes, its lines, and words beside its name."""
     sizes = sorted({points for line in lines.values() for points, _ in line})
     least, most = math.log2(sizes[0]) - 0.25, math.log2(sizes[-1]) + 0.25
 
@@ -66,7 +68,7 @@ def panel(kind: str, x0: float, y0: float, lines: dict[str, list[tuple[int, int]
         return y0 + PANEL_H * (1 - math.log10(cost / LOW) / math.log10(HIGH / LOW))
 
     out = [f'<rect x="{x0}" y="{y0}" width="{PANEL_W}" height="{PANEL_H}" fill="none" stroke="#b9bec6"/>',
-           text(x0, y0 - 7, kind, weight='bold')]
+           text(x0, y0 - 7, kind, weight='bold'), text(x0 + PANEL_W, y0 - 7, beside, 'end', 10)]
     power = LOW
     while power <= HIGH:
         y = up(power)
@@ -106,7 +108,9 @@ def picture(before: list[Figure], now: list[Figure]) -> str:
             if any(not LOW <= cost <= HIGH for _, cost in line):
                 raise Fault(f'{kind}: a figure of {name} lies outside {LOW} to {HIGH}')
         column, row = i % COLUMNS, i // COLUMNS
-        out += panel(kind, LEFT + column * (PANEL_W + GAP_X), TOP + row * (PANEL_H + GAP_Y), lines, column == 0)
+        last = [figure for figure in now if figure.kind == kind][-1]
+        beside = f'glpsol: {int(last.glpsol):,} ms at {last.points}' if last.glpsol.isdigit() else ''
+        out += panel(kind, beside, LEFT + column * (PANEL_W + GAP_X), TOP + row * (PANEL_H + GAP_Y), lines, column == 0)
     return '\n'.join(out + ['</svg>', ''])
 
 

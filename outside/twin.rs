@@ -1,5 +1,5 @@
-//! A plain Rust planner by one sweep for each suffix, for the comparison of speed only. Reads a nest text that is in order on
-//! standard input and writes the key's frames.
+//! A plain Rust planner by one sweep for each suffix, for the comparison of speed only. Reads a nest text that is in
+//! order on standard input and writes the key's frames.
 use std::io::Read;
 
 const NONE: usize = 999;

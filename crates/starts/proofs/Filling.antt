@@ -1,15 +1,18 @@
 -- The events of a loop inside, gap by gap from the right. The fronts lie further left than the gaps, so that the links
 -- are joined to the events at the end.
--- Main definition: `Filling`. Main statements: `filling-none`, `filling-more`, `filled`.
+-- Main definition: `Filling`. Main statements: `outer-is`, `filling-none`, `filling-more`, `filled`.
 use mathlib.Core.Path.{_≡_, refl, sym, _∙_, ap}
 use mathlib.Core.List.{List}
 use Prim.Native.Nat.{ℕ, suc, _+_, _-_, _≤_, _<_, min}
+use native.Mathlib.Numerals.{add-one}
 use native.Mathlib.Omega.{arith}
 use lib.ListN.{length, set, length-set}
 use lib.Seq.{getD-set-other}
+use Rattle.laws.specs.Choice.{firstOf}
 use Rattle.laws.proofs.Tests.{lt-by}
 use Rattle.laws.proofs.Stores.{stored}
 use Rattle.planner.specs.Sweep.{seek}
+use Rattle.planner.proofs.Walk.{seek-is}
 use Rattle.sweeps.specs.Listed.{at, row}
 use Rattle.starts.specs.Grounds.{Within, Kept}
 use Rattle.starts.specs.Started.{costAt, frontAt, Late, ChildRoom, ChildSays}
@@ -21,6 +24,11 @@ pub kept-down : (xs ys : List ℕ) (x high v : ℕ) → 0 < x → x ≤ high →
     Kept xs (set ys x v) (x - 1) high
 kept-down xs ys x high v a b k i h =
     getD-set-other ys x i v 0 (λ (z : i ≡ x). absurd (omega (arith, h (omega arith)))) ∙ k i (λ l. h (omega arith))
+
+-- the front of a barrier after the loop
+pub outer-is : (left : List ℕ) (kids l p f : ℕ) → f ≡ firstOf (row left kids (l + 1)) (p + 1) → f ≡
+    firstOf (row left kids (suc l)) (suc p)
+outer-is left kids l p f h = h ∙ rw (add-one l, add-one p) refl
 
 -- the gaps after x are done
 pub record Filling (need left : List ℕ) (kids d l p : ℕ) (cs₀ fs₀ link₀ cs fs link : List ℕ) (a x : ℕ) : Type 0 where
@@ -36,11 +44,12 @@ pub record Filling (need left : List ℕ) (kids d l p : ℕ) (cs₀ fs₀ link�
   pub fs-kept : Kept fs₀ fs x (suc p)
   pub link-kept : Kept link₀ link x (suc p)
   pub late : Late (at need) d l x a
+  pub last-high : a ≤ l
 
 module _ (need left : List ℕ) (kids d l p : ℕ) (cs₀ fs₀ link₀ : List ℕ) (a₀ : ℕ)
     (room : ChildRoom need left kids d l p cs₀ fs₀ link₀ a₀) where
-  pub filling-none : Filling need left kids d l p cs₀ fs₀ link₀ cs₀ fs₀ link₀ a₀ (suc p)
-  filling-none =
+  pub filling-none : (a : ℕ) → a ≡ min a₀ l → Filling need left kids d l p cs₀ fs₀ link₀ cs₀ fs₀ link₀ a (suc p)
+  filling-none a ai =
       record {
         low = omega (arith, room .short);
         high = omega arith;
@@ -53,7 +62,8 @@ module _ (need left : List ℕ) (kids d l p : ℕ) (cs₀ fs₀ link₀ : List �
         cs-kept = λ i h. refl;
         fs-kept = λ i h. refl;
         link-kept = λ i h. refl;
-        late = λ y i j k. room .late y i j (omega (arith, room .short));
+        late = λ y i j k. room .late y i (omega arith) (omega (arith, room .short));
+        last-high = omega arith;
       }
 
   module _ (cs fs link : List ℕ) (a x : ℕ) (s : Filling need left kids d l p cs₀ fs₀ link₀ cs fs link a x) where
@@ -62,7 +72,7 @@ module _ (need left : List ℕ) (kids d l p : ℕ) (cs₀ fs₀ link₀ : List �
         → l < x
         → c ≡ costAt (row left kids) p x
         → f ≡ frontAt (row left kids) l p x
-        → b ≡ seek (at need) x d (min a l)
+        → b ≡ seek (at need) x d a
         → Filling need left kids d l p cs₀ fs₀ link₀ (set cs x c) (set fs x f) (set link x b) b (x - 1)
     filling-more c f b h ci fi bi =
         record {
@@ -82,10 +92,13 @@ module _ (need left : List ℕ) (kids d l p : ℕ) (cs₀ fs₀ link₀ : List �
           fs-kept = kept-down fs₀ fs x (suc p) f (omega arith) (s .high) (s .fs-kept);
           link-kept = kept-down link₀ link x (suc p) b (omega arith) (s .high) (s .link-kept);
           late = λ y i j k. omega (arith, seek-late (at need) x d l y i (rw found at j) k);
+          last-high = omega (arith, found, seek-is (at need) x d l .high);
         }
       where
         found : b ≡ seek (at need) x d l
-        found = bi ∙ seek-skip (at need) x d l x a (omega arith) (s .late)
+        found =
+            let z : min a l ≡ a = omega (arith, s .last-high) in
+            bi ∙ rw z at (seek-skip (at need) x d l x a (omega arith) (s .late))
 
         above : (y : ℕ) → x - 1 < y → (y ≡ x → ⊥) → x < y
         above y i z = lt-by λ j. z (omega arith)

@@ -142,11 +142,11 @@ fn events_child(
         (now (link .entry)) (now (cs .exit)) (now (fs .exit)) (now (link .exit)) r ⌝ }
 {
     let outer = sweeps::first_or(left[kids + (l + 1)], p + 1);
-    let mut a = last;
+    let mut a = sweeps::smaller(last, l);
     let mut x = p + 1;
     while l < x {
         let v = event(left, kids, p, x, outer);
-        a = sweeps::last_near(need, x, d, sweeps::smaller(a, l));
+        a = sweeps::last_near(need, x, d, a);
         cs[x] = v.c;
         fs[x] = v.f;
         link[x] = a;

@@ -94,7 +94,7 @@ values-requires c κs =
       fs-room = omega (arith, p .short, v .kept);
       long = p .long;
       short = p .short;
-      first-high = v .ensures .first-high;
+      first-high = omega (arith, v .ensures .first-high, p .long);
       ranged = v .ensures .ranged;
     }
 

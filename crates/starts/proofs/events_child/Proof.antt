@@ -7,7 +7,7 @@ use mathlib.Core.Path.{_≡_, refl, sym, _∙_}
 use lib.ListN.{length, length-set}
 use Rattle.sweeps.specs.Listed.{at, row}
 use Rattle.laws.specs.Choice.{firstOf}
-use Rattle.starts.proofs.Filling.{Filling, filling-none, filling-more, filled}
+use Rattle.starts.proofs.Filling.{Filling, outer-is, filling-none, filling-more, filled}
 use native.Mathlib.Numerals.{add-one}
 use Rattle.starts.proofs.events_child.Statement.{statement}
 use Rattle.starts.proofs.events_child.Tie as tie
@@ -37,28 +37,29 @@ add-first-or-3 c = omega arith
 first-or-requires : tie.Need-first-or-requires Inv-loop μ-loop
 first-or-requires c κs = search needs
 
+smaller-requires : tie.Need-smaller-requires Inv-loop μ-loop
+smaller-requires c κs = search needs
+
 add-x : tie.Need-add-x Inv-loop μ-loop
 add-x c = omega arith
 
 loop-holds : tie.Need-loop-holds Inv-loop μ-loop
 loop-holds c =
-    let b7 = c .before .before .before .before .before .before .before in
-    let i = b7 .args in
+    let b8 = c .before .before .before .before .before .before .before .before in
+    let i = b8 .args in
     let r = filling-none (i .need .now) (i .left .now) (i .kids) (i .d) (i .l) (i .p) (i .cs .now) (i .fs .now)
-    (i .link .now) (i .last)
-    (b7 .pre) in
-    (c .first-or .ensures ∙ rw (add-one (i .l), add-one (i .p)) refl, rw (add-one (i .p)) r)
+    (i .link .now) (i .last) (b8 .pre) (c .smaller .result) (c .smaller .ensures) in (
+      outer-is (i .left .now) (i .kids) (i .l) (i .p) (c .before .first-or .result) (c .before .first-or .ensures),
+      rw (add-one (i .p)) r,
+    )
 
 event-requires : tie.Need-event-requires Inv-loop μ-loop
 event-requires c κs = omega arith
 
-smaller-requires : tie.Need-smaller-requires Inv-loop μ-loop
-smaller-requires c κs = search needs
-
 last-near-requires : tie.Need-last-near-requires Inv-loop μ-loop
 last-near-requires c κs =
     let b11 = c .before .before .before .before .before .before .before .before .before .before .before in
-    omega (arith, c .smaller .ensures, b11 .pre)
+    omega (arith, c .before .before .loop .inv .1 .last-high, b11 .pre)
 
 mul-cs : tie.Need-mul-cs Inv-loop μ-loop
 mul-cs c = omega arith
@@ -86,16 +87,16 @@ loop-less c = omega arith
 
 loop-again : tie.Need-loop-again Inv-loop μ-loop
 loop-again c =
-    let b4 = c .before .before .before .before in
-    let b12 = b4 .before .before .before .before .before .before .before .before in
+    let b3 = c .before .before .before in
+    let b12 = b3 .before .before .before .before .before .before .before .before .before in
     let i = b12 .args in
-    let l = b4 .loop in
-    let v = c .before .before .event in (
+    let l = b3 .loop in
+    let v = c .before .event in (
       l .inv .0,
       filling-more (i .need .now) (i .left .now) (i .kids) (i .d) (i .l) (i .p) (i .cs .now) (i .fs .now) (i .link .now)
           (i .last) (b12 .pre) (l .cs) (l .fs) (l .link) (l .a) (l .x) (l .inv .1) (v .result .c) (v .result .f)
           (c .last-near .result) (omega arith) (v .ensures .0) (rw (l .inv .0) at (v .ensures .1))
-          (rw (c .before .smaller .ensures) at (c .last-near .ensures)),
+          (c .last-near .ensures),
     )
 
 same-length : tie.Need-same-length Inv-loop μ-loop
@@ -109,12 +110,11 @@ same-length-3 c = c .before .loop .inv .1 .link-length
 
 returns : tie.Need-returns Inv-loop μ-loop
 returns c =
-    let b9 = c .before .before .before .before .before .before .before .before .before in
-    let i = b9 .args in
+    let b10 = c .before .before .before .before .before .before .before .before .before .before in
+    let i = b10 .args in
     let l = c .before .loop in
     filled (i .need .now) (i .left .now) (i .kids) (i .d) (i .l) (i .p) (i .cs .now) (i .fs .now) (i .link .now)
-    (i .last)
-    (b9 .pre) (l .cs) (l .fs) (l .link) (l .a) (l .x) (l .inv .1) (omega arith)
+    (i .last) (b10 .pre) (l .cs) (l .fs) (l .link) (l .a) (l .x) (l .inv .1) (omega arith)
 
 pub events-child-spec : {M : Type 1} → statement M
 events-child-spec =
@@ -128,10 +128,10 @@ events-child-spec =
     shared-slice-read-first-or
     add-first-or-3
     first-or-requires
+    smaller-requires
     add-x
     loop-holds
     event-requires
-    smaller-requires
     last-near-requires
     mul-cs
     slice-write-cs
