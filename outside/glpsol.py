@@ -2,9 +2,9 @@
 """The least counts of a paper by integer programs: glpsol.py PAPER ANSWER prints glpsol's milliseconds.
 
 PAPER is a nest text that is in order, ANSWER what the program key writes for it. The loops of each depth, from the
-innermost out, are one integer program: a gap is 0 or 1, every dependence has a barrier among its gaps, the loops further
-inside have the counts found before, and the barriers of the depth's own gaps are as few as can be. Needs glpsol, of the
-package glpk-utils. Exit status 1 where a count is not the one that the answer gives.
+innermost out, are one integer program: a gap is 0 or 1, every dependence has a barrier among its gaps, the loops
+further inside have the counts found before, and the barriers of the depth's own gaps are as few as can be. Needs
+glpsol, of the package glpk-utils. Exit status 1 where a count is not the one that the answer gives.
 """
 import os
 import subprocess

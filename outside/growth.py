@@ -1,10 +1,10 @@
 #!/usr/bin/env python3
 """The picture of growth: growth.py BEFORE NOW writes an SVG to standard output.
 
-BEFORE and NOW are tables as `outside/measure` prints them, one line for each paper: kind, points, the instructions of Load,
-Plan, program and twin, and glpsol's milliseconds if it was there. BEFORE is the planner that made one sweep for each suffix.
-Each kind has a panel with three lines: Plan before, Plan now, and the planning function of the twin; both axes grow by
-factors, so that a straight line is a power of the points and its slope the exponent.
+BEFORE and NOW are tables as `outside/measure` prints them, one line for each paper: kind, points, the instructions of
+Load, Plan, program and twin, and glpsol's milliseconds if it was there. BEFORE is the planner that made one sweep for
+each suffix. Each kind has a panel with three lines: Plan before, Plan now, and the planning function of the twin; both
+axes grow by factors, so that a straight line is a power of the points and its slope the exponent.
 """
 import math
 import sys
@@ -52,7 +52,8 @@ def figures(path: str) -> list[Figure]:
 
 
 def text(x: float, y: float, words: str, anchor: str = 'start', size: int = 11, weight: str = 'normal') -> str:
-    return f'<text x="{x:.1f}" y="{y:.1f}" text-anchor="{anchor}" font-size="{size}" font-weight="{weight}">{words}</text>'
+    look = f'text-anchor="{anchor}" font-size="{size}" font-weight="{weight}"'
+    return f'<text x="{x:.1f}" y="{y:.1f}" {look}>{words}</text>'
 
 
 def panel(kind: str, beside: str, x0: float, y0: float, lines: dict[str, list[tuple[int, int]]],
@@ -98,7 +99,8 @@ def picture(before: list[Figure], now: list[Figure]) -> str:
            f'<rect width="{width}" height="{height}" fill="#ffffff"/>']
     x = LEFT
     for name, colour, words in reversed(SERIES):
-        out += [f'<line x1="{x}" y1="18" x2="{x + 22}" y2="18" stroke="{colour}" stroke-width="2"/>', text(x + 28, 22, words)]
+        out += [f'<line x1="{x}" y1="18" x2="{x + 22}" y2="18" stroke="{colour}" stroke-width="2"/>',
+                text(x + 28, 22, words)]
         x += 48 + 6 * len(words)
     for i, kind in enumerate(kinds):
         lines = {'now': [(row.points, row.plan) for row in now if row.kind == kind],
@@ -111,7 +113,9 @@ def picture(before: list[Figure], now: list[Figure]) -> str:
         last = [figure for figure in now if figure.kind == kind][-1]
         beside = f'glpsol: {int(last.glpsol):,} ms at {last.points}' if last.glpsol.isdigit() else ''
         out += panel(kind, beside, LEFT + column * (PANEL_W + GAP_X), TOP + row * (PANEL_H + GAP_Y), lines, column == 0)
-    return '\n'.join(out + ['</svg>', ''])
+    caption = ('Instructions of Plan by the points of the paper. Both axes grow by factors. '
+               'glpsol: the least counts of all loops.')
+    return '\n'.join(out + [text(LEFT, height - 10, caption), '</svg>', ''])
 
 
 def main() -> int:
