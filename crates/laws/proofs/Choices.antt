@@ -1,5 +1,5 @@
 -- Choices: by cases of the test; the first of some numbers is 0 where all are; a choice is bounded as its parts are.
--- Main statements: `pick-by`, `pick-same`, `first-zero`, `zero-first`, `first-set`, `first-none`, `when-zero`,
+-- Main statements: `pick-by`, `pick-same`, `first-zero`, `first-set`, `first-none`, `when-zero`,
 -- `unless-zero`, `first-le`, `when-le`, `pick-le`.
 use mathlib.Core.Path.{_≡_, refl, sym}
 use mathlib.Core.Bool.{Bool, true, false, not}
@@ -32,9 +32,6 @@ pick-same {A} R {t} {u} {a} {b} {c} {d} = go t u
 pub first-zero : (a b : ℕ) → firstOf a b ≡ 0 → (a ≡ 0) × (b ≡ 0)
 first-zero zero b h = (refl, h)
 first-zero (suc a) b h = absurd (omega arith)
-
-pub zero-first : {a b : ℕ} → a ≡ 0 → b ≡ 0 → firstOf a b ≡ 0
-zero-first {a} {b} p q = rw (p, q)
 
 -- the first where it is not 0, the second where it is
 pub first-set : (a b : ℕ) → (a ≡ 0 → ⊥) → firstOf a b ≡ a

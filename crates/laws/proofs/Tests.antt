@@ -1,12 +1,12 @@
 -- Tests as facts: how a proof goes by cases on a test, and turns tests into statements and back.
 -- Main statements: `test`, `le-or`, `eq-or`, `lt-by`, `le-by`, `bool-by`, `and-true`, `and-intro`, `or-true`, `never`.
 use mathlib.Core.Path.{_≡_, refl, sym, _∙_}
-use mathlib.Core.Bool.{Bool, true, false, _&&_, _||_, not}
+use mathlib.Core.Bool.{Bool, true, false, _&&_, _||_}
 use mathlib.Core.Logic.{_⊎_, inl, inr, ⊎-elim}
-use Prim.Native.Nat.{ℕ, zero, suc, _+_, _≤_, _<_}
+use Prim.Native.Nat.{ℕ, _≤_, _<_}
 use native.Mathlib.Omega.{arith}
-use lib.Dec.{eqb, ltb, leb}
-use borrow.Author.Tests.{ltb-true, ltb-false, leb-true, leb-false, eqb-true, eqb-false}
+use lib.Dec.{eqb, leb}
+use borrow.Author.Tests.{leb-true, leb-false, eqb-true, eqb-false}
 
 -- a test holds or fails
 pub test : (b : Bool) → (b ≡ true) ⊎ (b ≡ false)
@@ -94,6 +94,3 @@ or-left {a} false p = rw p
 pub or-right : (a : Bool) {b : Bool} → b ≡ true → (a || b) ≡ true
 or-right true p = refl
 or-right false p = p
-
-pub not-by : {b : Bool} → b ≡ false → not b ≡ true
-not-by p = rw p

@@ -2,3 +2,4 @@
 pub mod Choice
 pub mod Members
 pub mod Bits
+pub mod Entries

@@ -6,10 +6,11 @@ use mathlib.Core.List.{List}
 use Prim.Native.Nat.{ℕ, _*_, _≤_, _<_}
 use native.Mathlib.Omega.{arith}
 use lib.ListN.{length}
+use Rattle.laws.specs.Entries.{at}
 use Rattle.nests.specs.Kinds.{POINTS, DEPTH}
 use Rattle.nests.specs.Loops.{isDo, endOf}
 use Rattle.nests.proofs.Loops.{end-after, end-there}
-use Rattle.sweeps.specs.Listed.{at, row}
+use Rattle.sweeps.specs.Listed.{row}
 use Rattle.settling.specs.Settled.{HasHeight, Charts}
 use Rattle.settling.proofs.Heights.{height-low, height-high}
 use Rattle.laying.specs.Laid.{LayRoom, Choices}

@@ -10,6 +10,7 @@ use lib.Dec.{eqb, ltb}
 use lib.ListN.{length, getD}
 use borrow.Author.Tests.{eq-eqb, ne-eqb}
 use Rattle.laws.specs.Choice.{pick}
+use Rattle.laws.specs.Entries.{at}
 use Rattle.laws.proofs.Ors.{or-assoc}
 use Rattle.nests.specs.Loops.{isDo, endOf, ownerOf}
 use Rattle.nests.proofs.Loops.{end-after, end-there, owner-of-end}
@@ -17,7 +18,7 @@ use Rattle.nests.proofs.Gaps.{Child, child-law, plain-law}
 use Rattle.placements.specs.Words.{holds}
 use Rattle.planner.specs.Sweep.{Lines, Tables, bare, only, also, IsTable}
 use Rattle.planner.specs.Home.{loopsIn}
-use Rattle.sweeps.specs.Listed.{at, laid, Stepped}
+use Rattle.sweeps.specs.Listed.{laid, Stepped}
 use Rattle.sweeps.proofs.Turns as sweep
 use Rattle.settling.specs.Settled.{HasHeight, Charts, LinesAt, Rows}
 use Rattle.settling.proofs.Heights.{child-height}

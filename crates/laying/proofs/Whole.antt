@@ -12,6 +12,7 @@ use lib.Dec.{eqb, leb}
 use lib.ListN.{length, set}
 use borrow.Author.Tests.{lt-ltb, le-ltb, le-leb, lt-leb}
 use Rattle.laws.specs.Choice.{pick}
+use Rattle.laws.specs.Entries.{at}
 use Rattle.laws.proofs.Ors.{or-assoc}
 use Rattle.laws.proofs.Tests.{le-or}
 use Rattle.nests.specs.Loops.{isDo, endOf}
@@ -22,7 +23,7 @@ use Rattle.planner.specs.Home.{loopsIn}
 use Rattle.planner.proofs.Instance.{loop-laws}
 use Rattle.planner.proofs.Alike.{Alike, value-alike}
 use Rattle.planner.proofs.Rows.{row-lay, row-blank}
-use Rattle.sweeps.specs.Listed.{at, row, listed, tabled, sweepOf}
+use Rattle.sweeps.specs.Listed.{row, listed, tabled, sweepOf}
 use Rattle.sweeps.proofs.Turns as sweeps
 use Rattle.rows.specs.Valued.{lined}
 use Rattle.rows.specs.Made.{Copied}

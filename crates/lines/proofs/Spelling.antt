@@ -1,7 +1,7 @@
 -- Lines and frames spell each other: a frame's line is read back as that frame, and a good line is the spelling of its
 -- frame. Digits and their values are inverse to each other, so are bytes and their two digits; the rest is recursion.
--- Main statements: `line-first`, `digits-good`, `frame-digits`; `good-line`, `lines-text`, `good-text`, `frames-back`.
-use mathlib.Core.Path.{_≡_, refl, sym, ap, _∙_}
+-- Main statements: `line-first`, `digits-good`, `frame-digits`; `good-line`, `lines-text`, `frames-back`.
+use mathlib.Core.Path.{_≡_, refl, ap}
 use mathlib.Core.Bool.{Bool, true, false, _&&_}
 use mathlib.Core.Logic.{⊎-elim}
 use mathlib.Core.List.{List, [], _∷_, _++_, append-assoc}
@@ -254,10 +254,6 @@ good-lines (l ∷ ls) h =
       cc (good-bytes l (z .0), r .0),
       and-intro (and-intro (le-leb 1 (length (frameOf (l .bytes))) (g .some)) (g .bytes)) (r .1),
     )
-
--- a text whose lines are all good is the spelling of its frames
-pub good-text : (s : List ℕ) → allGood (linesOf s) ≡ true → s ≡ framesText (framesOf (linesOf s))
-good-text s h = sym (lines-text s) ∙ good-lines (linesOf s) h .0
 
 -- frames that are spelled are read back, each from a good line
 pub frames-back

@@ -1,7 +1,7 @@
 -- The gaps of a loop: its own and those of the loops directly inside it; the walk over them from right to left; the
 -- home of an independent dependence.
--- Main statements: `child-law`, `plain-law`, `own-or-child`, `loop-in-child`, `children-apart`, `home-law`,
--- `home-passes`, and, from left to right, `owner-after-do`, `owner-after-end`, `owner-after-plain`.
+-- Main statements: `child-law`, `plain-law`, `own-or-child`, `loop-in-child`, `home-law`,
+-- and, from left to right, `owner-after-do`, `owner-after-end`, `owner-after-plain`.
 use mathlib.Core.Path.{_≡_, refl, sym, ap, _∙_}
 use mathlib.Core.Bool.{true, false}
 use mathlib.Core.List.{List}
@@ -51,15 +51,6 @@ module _ (ps : List ℕ) (shape : isShape ps ≡ true) where
   child-ends-there d L c =
       let o = owner-law ps shape L (omega (arith, c .inside)) (point-in ps L 0 (c .loop)) in
       omega (arith, parent-around L (c .loop) (omega (arith, c .inside)), end-there ps shape (ownerOf ps L) (o .loop))
-
-  -- a gap in the range of a loop inside d is not d's own
-  pub not-own-in-loop : (d L g : ℕ) → isDo ps L ≡ true → d < L → L < g → g ≤ endOf ps L → (ownerOf ps g ≡ d) → ⊥
-  not-own-in-loop d L g h l a b e = omega (arith, owner-inside ps shape L g h a b)
-
-  -- two loops directly inside one loop are apart
-  pub children-apart :
-      (d L M : ℕ) → Child ps d (endOf ps L) L → Child ps d (endOf ps M) M → L < M → endOf ps L < M
-  children-apart d L M a b l = lt-by λ z. not-own-in-loop d L M (a .loop) (a .inside) l z (b .owned)
 
   -- the walk from right to left: before the gap after an ENDDO lies the loop that ends there
   pub child-law :
@@ -215,8 +206,3 @@ module _ (ps : List ℕ) (shape : isShape ps ≡ true) where
   -- the home of an independent dependence from s to t: the innermost loop whose range holds all its gaps
   pub home-law : (s t : ℕ) → t < length ps → Owner ps (suc s) t (ownerFrom (suc s) t ps)
   home-law s t l = owner-search ps shape (suc s) t (omega arith) l
-
-  -- a loop inside the home that holds the dependence's first gap ends before its last
-  pub home-passes :
-      (s t L : ℕ) → t < length ps → isDo ps L ≡ true → ownerFrom (suc s) t ps < L → L ≤ s → endOf ps L < t
-  home-passes s t L l h a b = lt-by λ z. omega (arith, home-law s t l .most L h (omega arith) z)

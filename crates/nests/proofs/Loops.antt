@@ -317,10 +317,6 @@ module _ (ps : List ℕ) (shape : isShape ps ≡ true) where
   pub owner-holds : (g : ℕ) → 0 < g → g < length ps → g ≤ endOf ps (ownerOf ps g)
   owner-holds g a b = owner-law g a b .holds
 
-  -- the DO of an ENDDO
-  pub end-owner-is-do : (e : ℕ) → isEnd ps e ≡ true → isDo ps (ownerOf ps e) ≡ true
-  end-owner-is-do e h = owner-is-do e (end-not-first ps shape e h) (point-in ps e 1 h)
-
   pub end-owner-before : (e : ℕ) → isEnd ps e ≡ true → ownerOf ps e < e
   end-owner-before e h = owner-below e (end-not-first ps shape e h) (point-in ps e 1 h)
 

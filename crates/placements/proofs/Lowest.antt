@@ -1,11 +1,11 @@
 -- The search for the lowest gap at or above a place: the rest of its word, then the words after it.
 -- Main statements: `Passed`, what a turn keeps; `low-beyond`, `low-first`, `pass-first`, `low-later`, `pass-later`,
--- `low-none`; the list of the gaps one by one, `gaps-above-next`, `gaps-above-none`, `gaps-above-split`.
-use mathlib.Core.Path.{_≡_, refl, sym, _∙_}
+-- `low-none`.
+use mathlib.Core.Path.{_≡_, sym, _∙_}
 use mathlib.Core.Bool.{true, false}
-use mathlib.Core.List.{List, [], _∷_, _++_}
+use mathlib.Core.List.{List}
 use mathlib.Core.Logic.{⊎-elim}
-use Prim.Native.Nat.{ℕ, suc, _+_, _-_, _*_, _/_, _%_, _^_, _≤_, _<_}
+use Prim.Native.Nat.{ℕ, _+_, _-_, _*_, _/_, _%_, _^_, _≤_, _<_}
 use native.Mathlib.Omega.{arith}
 use lib.Count.{trailingZeros}
 use lib.ListN.{getD}
@@ -13,8 +13,7 @@ use lib.Pow.{shr-le}
 use Rattle.laws.specs.Bits.{bit}
 use Rattle.laws.proofs.Tests.{le-or, never}
 use Rattle.laws.proofs.Bits.{bit-zero, bit-high, bit-shifted, lowest-set}
-use Rattle.placements.specs.Words.{GAPS, holds, gapsOf, gapsIn, LowestFrom}
-use Rattle.placements.proofs.Words.{gapsOf-step, gapsOf-add, gapsOf-none}
+use Rattle.placements.specs.Words.{GAPS, holds, LowestFrom}
 
 pub low-beyond : (ws : List ℕ) (lo : ℕ) → GAPS ≤ lo → LowestFrom ws lo GAPS
 low-beyond ws lo h =
@@ -154,47 +153,3 @@ module _ (ws : List ℕ) (fit : (i : ℕ) → getD ws i 0 < 2 ^ 64) (lo : ℕ) w
         held = λ l. absurd (omega arith);
         none = λ i a b c. p .none i b (omega arith);
       }
-
--- ---- the list of the gaps from lo on, one by one
-
-abbrev pub gapsAbove : List ℕ → ℕ → List ℕ
-gapsAbove ws lo = gapsOf (holds ws) (GAPS - lo) lo
-
-pub gaps-above-start : (ws : List ℕ) → gapsIn ws ≡ gapsAbove ws 0
-unfolding gapsIn
-gaps-above-start ws = refl
-
--- those passed, and the rest
-pub gaps-above-split : (ws : List ℕ) (lo : ℕ) → lo ≤ GAPS → gapsIn ws ≡ gapsOf (holds ws) lo 0 ++ gapsAbove ws lo
-unfolding gapsIn
-gaps-above-split ws lo h =
-    let a : lo + (GAPS - lo) ≡ GAPS = omega arith in
-    let b : 0 + lo ≡ lo = omega arith in
-    let z : gapsOf (holds ws) (lo + (GAPS - lo)) 0 ≡ gapsOf (holds ws) lo 0 ++ gapsOf (holds ws) (GAPS - lo) (0 + lo) =
-    gapsOf-add (holds ws) lo (GAPS - lo) 0 in
-    rw (a, b) at z
-
-pub gaps-above-none : (ws : List ℕ) (lo : ℕ) → LowestFrom ws lo GAPS → lo ≤ GAPS → gapsAbove ws lo ≡ []
-gaps-above-none ws lo p h = gapsOf-none (holds ws) (GAPS - lo) lo (λ i a b. p .none i (omega arith) a (omega arith))
-
-pub gaps-above-next
-    : (ws : List ℕ) (lo r : ℕ)
-    → LowestFrom ws lo r
-    → r < GAPS
-    → gapsAbove ws lo ≡ r ∷ gapsAbove ws (r + 1)
-gaps-above-next ws lo r p h =
-    let u = p .held h in
-    let a : r - lo + (GAPS - r) ≡ GAPS - lo = omega (arith, u .0) in
-    let b : lo + (r - lo) ≡ r = omega (arith, u .0) in
-    let z : gapsOf (holds ws) (r - lo + (GAPS - r)) lo
-    ≡ gapsOf (holds ws) (r - lo) lo ++ gapsOf (holds ws) (GAPS - r) (lo + (r - lo)) =
-    gapsOf-add (holds ws) (r - lo) (GAPS - r) lo in
-    let y : gapsOf (holds ws) (r - lo) lo ≡ [] =
-    gapsOf-none (holds ws) (r - lo) lo (λ i c d. p .none i (omega (arith, u .0)) c (omega (arith, u .0))) in
-    rw (a, b, y) at z ∙ first
-  where
-    first : gapsOf (holds ws) (GAPS - r) r ≡ r ∷ gapsOf (holds ws) (GAPS - (r + 1)) (r + 1)
-    first =
-        let e : GAPS - r ≡ suc (GAPS - (r + 1)) = omega arith in
-        let f : r + 1 ≡ suc r = omega arith in
-        rw e (gapsOf-step (holds ws) (GAPS - (r + 1)) r ∙ rw (p .held h .1, f))

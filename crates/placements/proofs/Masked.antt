@@ -1,5 +1,5 @@
 -- A loop's count as the ones of the placement under the loop's mask.
--- Main statements: `words-tally`, `count-tally`, `count-masked`, `gaps-size`.
+-- Main statements: `words-tally`, `count-tally`, `count-masked`.
 use mathlib.Core.Path.{_≡_, refl, sym, _∙_}
 use mathlib.Core.Bool.{Bool, true, false, _&&_}
 use mathlib.Core.List.{List}
@@ -103,13 +103,3 @@ size-of x (suc k) g = go (x g) (size-of x k (suc g))
         → length (kept t g (gapsOf x k (suc g))) ≡ one t + tally x k (suc g)
     go true r = omega arith
     go false r = omega arith
-
-pub gaps-size : (ws : List ℕ) → tally (λ (g : ℕ). holds ws g && holds ws g) GAPS 0 ≡ length (gapsIn ws)
-unfolding gapsIn
-gaps-size ws =
-    tally-same (λ (g : ℕ). holds ws g && holds ws g) (holds ws) GAPS 0 (λ j a b. twice (holds ws j)) ∙
-    sym (size-of (holds ws) GAPS 0)
-  where
-    twice : (t : Bool) → (t && t) ≡ t
-    twice true = refl
-    twice false = refl

@@ -1,19 +1,19 @@
 -- Rising lists of gaps: they are sets, and each is the list of some words.
--- Main statements: `rising-in`, `rising-equal`, `wordsOf`, `words-of-gaps`.
+-- Main statements: `rising-in`, `rising-equal`, `wordsOf`, `words-hold`.
 use mathlib.Core.Path.{_≡_, refl, sym, ap, _∙_}
 use mathlib.Core.Bool.{Bool, true, false, _&&_, _||_}
 use mathlib.Core.List.{List, [], _∷_}
 use mathlib.Core.Logic.{_⊎_, inl, inr, ⊎-elim}
-use Prim.Native.Nat.{ℕ, suc, _≤_, _<_}
+use Prim.Native.Nat.{ℕ, _≤_, _<_}
 use native.Mathlib.Omega.{arith}
 use lib.Dec.{eqb, ltb}
 use lib.ListN.{length, length-set}
 use borrow.Author.Tests.{eqb-true, eq-eqb, ne-eqb, lt-ltb, ltb-true}
 use Rattle.laws.specs.Choice.{isIn}
-use Rattle.laws.proofs.Tests.{le-or, eq-or, or-true, and-true, false-by, never}
+use Rattle.laws.proofs.Tests.{eq-or, or-true, and-true, false-by, never}
 use Rattle.placements.specs.Placements.{areGapsFrom}
-use Rattle.placements.specs.Words.{GAPS, holds, gapsIn}
-use Rattle.placements.proofs.Words.{holds-empty, holds-put, putIn, in-gaps, in-gaps-beyond, gaps-rising}
+use Rattle.placements.specs.Words.{GAPS, holds}
+use Rattle.placements.proofs.Words.{holds-empty, holds-put, putIn}
 
 -- the parts of a rising list
 pub record Rises (last n g : ℕ) (gs : List ℕ) : Type 0 where
@@ -47,10 +47,6 @@ rising-in last n (g ∷ gs) i h p = go (rises last n g gs h) (or-true (eqb i g) 
 -- not before its first gap
 pub rising-out : (last n : ℕ) (gs : List ℕ) (i : ℕ) → areGapsFrom last n gs ≡ true → i ≤ last → isIn i gs ≡ false
 rising-out last n gs i h l = false-by (λ z. omega (arith, rising-in last n gs i h z .0))
-
--- not at or above its bound
-pub rising-over : (last n : ℕ) (gs : List ℕ) (i : ℕ) → areGapsFrom last n gs ≡ true → n ≤ i → isIn i gs ≡ false
-rising-over last n gs i h l = false-by (λ z. omega (arith, rising-in last n gs i h z .1))
 
 -- the first of a rising list is at most any other of it
 first-least : (n u v : ℕ) (vs : List ℕ) → areGapsFrom v n vs ≡ true → isIn u (v ∷ vs) ≡ true → v ≤ u
@@ -134,29 +130,3 @@ rising-wider last m n (g ∷ gs) l h = go (rises last m g gs h) (rising-wider g 
         → (areGapsFrom g m gs ≡ true → areGapsFrom g n gs ≡ true)
         → areGapsFrom last n (g ∷ gs) ≡ true
     go r rest = rw (lt-ltb last g (r .above), lt-ltb g n (omega (arith, r .below))) (rest (r .rest))
-
--- every rising list of gaps is the list of some words
-pub words-of-gaps : (n : ℕ) (gs : List ℕ) → n ≤ GAPS → areGapsFrom 0 n gs ≡ true → gapsIn (wordsOf gs) ≡ gs
-words-of-gaps n gs l h =
-    rising-equal
-    0
-    n
-    (gapsIn (wordsOf gs))
-    gs
-    (gaps-rising (wordsOf gs) n (out 0 (inl (omega arith))) (λ i a b. out i (inr b)))
-    h
-    same
-  where
-    hold : (i : ℕ) → holds (wordsOf gs) i ≡ isIn i gs
-    hold = words-hold 0 gs (rising-wider 0 n GAPS gs l h)
-
-    out : (i : ℕ) → (i ≤ 0) ⊎ (n ≤ i) → holds (wordsOf gs) i ≡ false
-    out i (inl a) = hold i ∙ rising-out 0 n gs i h a
-    out i (inr a) = hold i ∙ rising-over 0 n gs i h a
-
-    same : (i : ℕ) → isIn i (gapsIn (wordsOf gs)) ≡ isIn i gs
-    same i =
-        ⊎-elim
-        (λ (z : suc i ≤ GAPS). in-gaps (wordsOf gs) i z ∙ hold i)
-        (λ (z : GAPS < suc i). in-gaps-beyond (wordsOf gs) i (omega arith) ∙ sym (rising-over 0 n gs i h (omega arith)))
-        (le-or (suc i) GAPS)

@@ -1,5 +1,5 @@
 -- Laws of a placement's words and of the rising list of their gaps.
--- Main statements: `holds-put`, `holds-empty`, `in-gaps`, `gaps-same`, `gaps-none`, `gaps-put-last`, `gaps-rising`.
+-- Main statements: `holds-put`, `holds-empty`, `in-gaps`, `gaps-none`, `gaps-put-last`, `gaps-rising`.
 use mathlib.Core.Path.{_≡_, refl, sym, ap, _∙_}
 use mathlib.Core.Bool.{Bool, true, false, _||_}
 use mathlib.Core.List.{List, [], _∷_, _++_, append-nil}
@@ -8,7 +8,7 @@ use Prim.Native.Nat.{ℕ, zero, suc, _+_, _-_, _/_, _%_, _^_, _≤_, _<_}
 use native.Mathlib.Omega.{arith}
 use lib.Bits.{bitOr}
 use lib.Dec.{eqb}
-use lib.ListN.{length, getD, set, List·getD-eq-default}
+use lib.ListN.{length, getD, set}
 use lib.Seq.{getD-set-same, getD-set-other}
 use borrow.Author.Tests.{eqb-true, eq-eqb, ne-eqb, lt-ltb}
 use Rattle.laws.specs.Choice.{isIn}
@@ -19,11 +19,6 @@ use Rattle.placements.specs.Placements.{areGapsFrom}
 use Rattle.placements.specs.Words.{GAPS, holds, kept, gapsOf, gapsIn}
 
 -- ---- gaps held
-
--- no word, no gap
-pub holds-beyond : (ws : List ℕ) (i : ℕ) → length ws ≤ i / 64 → holds ws i ≡ false
-unfolding holds
-holds-beyond ws i h = rw (List·getD-eq-default ws 0 h) (bit-zero (i % 64))
 
 pub holds-empty : (i : ℕ) → holds (0 ∷ (0 ∷ (0 ∷ (0 ∷ [])))) i ≡ false
 unfolding holds
@@ -77,10 +72,6 @@ holds-put ws g i h = go (eq-or (i / 64) (g / 64))
         rw (getD-set-other ws (g / 64) (i / 64) word 0 n, ne-eqb i g (λ z. n (rw z)))
 
 -- ---- the list of the gaps at which a test holds
-
-pub gapsOf-step : (x : ℕ → Bool) (k g : ℕ) → gapsOf x (suc k) g ≡ kept (x g) g (gapsOf x k (suc g))
-unfolding gapsOf
-gapsOf-step x k g = refl
 
 -- the same test, the same list
 pub gapsOf-same : (x y : ℕ → Bool) (k g : ℕ) → ((i : ℕ) → g ≤ i → i < g + k → x i ≡ y i) → gapsOf x k g ≡ gapsOf y k g
@@ -189,10 +180,6 @@ in-gaps ws i h = gapsOf-in (holds ws) GAPS 0 i (omega arith) (omega arith)
 pub in-gaps-beyond : (ws : List ℕ) (i : ℕ) → GAPS ≤ i → isIn i (gapsIn ws) ≡ false
 unfolding gapsIn
 in-gaps-beyond ws i h = gapsOf-to (holds ws) GAPS 0 i (omega arith)
-
-pub gaps-same : (ws vs : List ℕ) → ((i : ℕ) → i < GAPS → holds ws i ≡ holds vs i) → gapsIn ws ≡ gapsIn vs
-unfolding gapsIn
-gaps-same ws vs h = gapsOf-same (holds ws) (holds vs) GAPS 0 (λ i a b. h i (omega arith))
 
 pub gaps-none : (ws : List ℕ) → ((i : ℕ) → i < GAPS → holds ws i ≡ false) → gapsIn ws ≡ []
 unfolding gapsIn

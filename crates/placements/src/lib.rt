@@ -215,13 +215,6 @@ pub fn loop_count(p: Placement, mask: Placement) -> usize
     shared(a[0], m[0]) + shared(a[1], m[1]) + shared(a[2], m[2]) + shared(a[3], m[3])
 }
 
-// How many gaps the placement has: all of them lie under itself as a mask.
-pub fn size(p: Placement) -> usize
-    ensures { λ r. ⌜ r ≡ length (gapsIn (p .words)) ⌝ }
-{
-    loop_count(p, p)
-}
-
 // The count of loop d in the placement.
 pub fn count_of(points: &[u8], d: usize, p: Placement) -> usize
     requires { ⌜ (isShape (now points) ≡ true) × (length (now points) ≤ GAPS) ⌝ }

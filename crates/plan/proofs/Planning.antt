@@ -7,6 +7,7 @@ use mathlib.Core.Logic.{_⊎_, ⊎-elim}
 use Prim.Native.Nat.{ℕ, _-_, _≤_, _<_}
 use native.Mathlib.Omega.{arith}
 use lib.ListN.{length}
+use Rattle.laws.specs.Entries.{at}
 use Rattle.laws.proofs.Ors.{or-none}
 use Rattle.laws.proofs.Tests.{test}
 use Rattle.nests.specs.Kinds.{POINTS}
@@ -23,7 +24,6 @@ use Rattle.planner.proofs.Rows.{row-fronts, row-idle}
 use Rattle.planner.proofs.Tables.{table-is}
 use Rattle.tables.specs.Charts.{Points}
 use Rattle.tables.specs.Prepared.{Prepared}
-use Rattle.sweeps.specs.Listed.{at}
 use Rattle.settling.specs.Settled.{HasHeight, Charts, LinesAt, Rows}
 use Rattle.laying.specs.Laid.{Choices, LaySays}
 

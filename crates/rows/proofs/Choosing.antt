@@ -10,10 +10,10 @@ use lib.ListN.{length, set, length-set}
 use lib.Seq.{getD-set-other}
 use borrow.Author.Tests.{lt-ltb, le-ltb, le-leb, lt-leb, eq-eqb, ne-eqb}
 use Rattle.laws.specs.Choice.{pick}
+use Rattle.laws.specs.Entries.{at}
 use Rattle.laws.proofs.Tests.{lt-by}
 use Rattle.laws.proofs.Stores.{stored}
 use Rattle.planner.specs.Sweep.{State, Front, front, better, best}
-use Rattle.sweeps.specs.Listed.{at}
 use Rattle.starts.specs.Grounds.{Kept}
 use Rattle.rows.specs.Made.{BetterSays, Chosen}
 

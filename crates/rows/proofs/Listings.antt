@@ -11,10 +11,10 @@ use lib.Dec.{leb}
 use lib.ListN.{length, set}
 use borrow.Author.Tests.{le-leb}
 use Rattle.laws.specs.Choice.{pick}
+use Rattle.laws.specs.Entries.{at}
 use Rattle.laws.proofs.Tests.{le-or}
 use Rattle.laws.proofs.Stores.{stored}
 use Rattle.planner.specs.Sweep.{State, least}
-use Rattle.sweeps.specs.Listed.{at}
 use Rattle.rows.specs.Valued.{Valued, Listing}
 
 pub listing-none : (v : ℕ → State) (cs fs : List ℕ) (d m : ℕ) → Listing v cs fs d d m

@@ -10,10 +10,11 @@ use lib.ListN.{drop}
 use lib.Seq.{getD-drop}
 use borrow.Author.Tests.{lt-ltb, le-ltb, ltb-false}
 use Rattle.laws.specs.Choice.{pick}
+use Rattle.laws.specs.Entries.{at}
 use Rattle.planner.specs.Sweep.{Loops, Lines, Tables, State, Front, bare, front, better, best, needOf, sweep, value}
 use Rattle.planner.specs.Sweep.{least, someOf, costOf}
 use Rattle.planner.specs.Sweep.{frontOf, leftOf, choiceOf}
-use Rattle.sweeps.specs.Listed.{at, row, listed, tabled}
+use Rattle.sweeps.specs.Listed.{row, listed, tabled}
 use Rattle.starts.specs.Started.{Marked, StartsSay}
 use Rattle.rows.specs.Valued.{lined, valueOf, ValuesSay, ClosedSays, FrontsIn}
 use Rattle.starts.specs.Grounds.{Within, Kept}

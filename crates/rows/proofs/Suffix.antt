@@ -11,9 +11,9 @@ use lib.ListN.{length, getD, set}
 use lib.Seq.{getD-set-same, getD-set-other}
 use borrow.Author.Tests.{ltb-true, ltb-false, eq-eqb, ne-eqb, le-leb, lt-leb}
 use Rattle.laws.specs.Choice.{pick}
+use Rattle.laws.specs.Entries.{at}
 use Rattle.laws.proofs.Tests.{eq-or}
 use Rattle.planner.specs.Sweep.{State, needOf, put, close}
-use Rattle.sweeps.specs.Listed.{at}
 use Rattle.rows.specs.Valued.{CloseSays}
 
 lower : (need : List ℕ) (q e a : ℕ) → q < length need → getD (set need q (min (at need q) e)) a 0 ≡

@@ -12,9 +12,10 @@ use lib.ListN.{length, set, length-set}
 use borrow.Author.Tests.{lt-ltb, le-ltb, leb-true, leb-false}
 use lib.Seq.{getD-set-same, getD-set-other}
 use Rattle.laws.specs.Choice.{pick}
+use Rattle.laws.specs.Entries.{at}
 use Rattle.laws.proofs.Tests.{eq-or}
 use Rattle.planner.specs.Sweep.{State, st, bare, put, close}
-use Rattle.sweeps.specs.Listed.{at, row}
+use Rattle.sweeps.specs.Listed.{row}
 use Rattle.starts.specs.Started.{later}
 use Rattle.starts.proofs.Suffixes.{later-low, later-high}
 use Rattle.rows.specs.Valued.{CloseSays, ClosedSays, FrontsIn, ValuesRoom}

@@ -6,8 +6,9 @@ use mathlib.Core.List.{List}
 use Prim.Native.Nat.{ℕ, suc, _+_, _-_, _≤_, _<_}
 use lib.Dec.{ltb}
 use lib.ListN.{length}
+use Rattle.laws.specs.Entries.{at}
 use Rattle.planner.specs.Sweep.{State, front, better, best, someOf, leftOf, choiceOf}
-use Rattle.sweeps.specs.Listed.{at, row, listed, tabled, Low}
+use Rattle.sweeps.specs.Listed.{row, listed, tabled, Low}
 use Rattle.starts.specs.Grounds.{Within, Ground, Kept}
 use Rattle.rows.specs.Valued.{lined}
 

@@ -5,8 +5,9 @@ use mathlib.Core.Bool.{Bool}
 use mathlib.Core.List.{List}
 use Prim.Native.Nat.{ℕ, _+_, _≤_, _<_}
 use lib.ListN.{length}
+use Rattle.laws.specs.Entries.{at}
 use Rattle.planner.specs.Sweep.{Lines, State, close, value, least}
-use Rattle.sweeps.specs.Listed.{at, row, listed, tabled}
+use Rattle.sweeps.specs.Listed.{row, listed, tabled}
 use Rattle.starts.specs.Started.{later, Ranged}
 
 -- the lines of one loop: whether there are any, where they end, and its row of limits, which starts at `base`

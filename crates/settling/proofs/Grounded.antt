@@ -8,12 +8,13 @@ use mathlib.Core.Logic.{_⊎_, ⊎-elim}
 use Prim.Native.Nat.{ℕ, suc, _-_, _*_, _≤_, _<_}
 use native.Mathlib.Omega.{arith}
 use lib.ListN.{length}
+use Rattle.laws.specs.Entries.{at}
 use Rattle.nests.specs.Loops.{isDo, isEnd, endOf, ownerOf}
 use Rattle.nests.proofs.Loops.{end-there}
 use Rattle.planner.specs.Home.{loopsIn}
 use Rattle.planner.proofs.World as world
 use Rattle.planner.proofs.Instance.{loop-laws}
-use Rattle.sweeps.specs.Listed.{at, row}
+use Rattle.sweeps.specs.Listed.{row}
 use Rattle.starts.specs.Grounds.{Bound, Within, Kid, Plain, Ground}
 use Rattle.settling.specs.Settled.{HasHeight, Charts, Fronts}
 use Rattle.settling.proofs.Heights.{height-low, child-height}

@@ -8,6 +8,7 @@ use mathlib.Core.Logic.{_⊎_, ⊎-elim}
 use Prim.Native.Nat.{ℕ, suc, _-_, _*_, _≤_, _<_}
 use native.Mathlib.Omega.{arith}
 use lib.Dec.{ltb}
+use Rattle.laws.specs.Entries.{at}
 use Rattle.laws.proofs.Tests.{le-or}
 use Rattle.nests.specs.Kinds.{POINTS}
 use Rattle.nests.specs.Loops.{isDo, endOf}
@@ -18,7 +19,7 @@ use Rattle.planner.proofs.World.{Child, LoopLaws}
 use Rattle.planner.proofs.Instance.{loop-laws}
 use Rattle.planner.proofs.Alike.{Alike}
 use Rattle.planner.proofs.AlikeRows.{some-alike, left-alike, choice-alike}
-use Rattle.sweeps.specs.Listed.{at, row, listed, tabled}
+use Rattle.sweeps.specs.Listed.{row, listed, tabled}
 use Rattle.starts.specs.Grounds.{Within}
 use Rattle.rows.specs.Valued.{lined}
 use Rattle.rows.specs.Made.{Copied, RowMade}

@@ -6,10 +6,10 @@ use mathlib.Core.List.{List}
 use Prim.Native.Nat.{ℕ, _≤_, _<_}
 use native.Mathlib.Omega.{arith}
 use lib.ListN.{length}
+use Rattle.laws.specs.Entries.{at}
 use Rattle.nests.specs.Kinds.{POINTS, DEPTH}
 use Rattle.nests.specs.Loops.{isDo, endOf}
 use Rattle.nests.proofs.Loops.{end-after, end-there}
-use Rattle.sweeps.specs.Listed.{at}
 use Rattle.settling.specs.Settled.{HasHeight, Charts, Room}
 use Rattle.settling.proofs.Heights.{height-low, height-high}
 

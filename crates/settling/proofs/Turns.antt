@@ -12,6 +12,7 @@ use lib.ListN.{length, getD}
 use borrow.Author.Tests.{lt-ltb, eqb-true, ne-eqb}
 use Rattle.laws.specs.Bits.{one}
 use Rattle.laws.specs.Choice.{firstOf}
+use Rattle.laws.specs.Entries.{at}
 use Rattle.laws.proofs.Ors.{or-swap, or-none}
 use Rattle.laws.proofs.Tests.{le-or, lt-by, never-both, test}
 use Rattle.nests.specs.Kinds.{POINTS}
@@ -20,7 +21,7 @@ use Rattle.nests.proofs.Loops.{end-after, end-there, end-is-end, owner-inside, 
 use Rattle.nests.proofs.Gaps.{Child, owner-after-do, owner-after-plain, owner-after-child, child-ends-inside}
 use Rattle.planner.specs.Sweep.{Lines, Tables, childSome, IsTable}
 use Rattle.planner.specs.Home.{loopsIn}
-use Rattle.sweeps.specs.Listed.{at, row}
+use Rattle.sweeps.specs.Listed.{row}
 use Rattle.settling.specs.Settled.{HasHeight, Charts, LinesAt, Rows, Fronts, KeptColumns, SettleSays}
 use Rattle.settling.proofs.Heights.{height-low, child-height}
 use Rattle.settling.proofs.Some.{some-none, some-plain, some-child}

@@ -7,12 +7,13 @@ use mathlib.Core.List.{List}
 use Prim.Native.Nat.{ℕ, _+_, _*_, _≤_, _<_}
 use lib.ListN.{length, take}
 use Rattle.laws.specs.Bits.{one}
+use Rattle.laws.specs.Entries.{at}
 use Rattle.nests.specs.Kinds.{POINTS, DEPTH}
 use Rattle.nests.specs.Loops.{isDo, depth, endOf, ownerOf}
 use Rattle.nests.specs.Valid.{isShape}
 use Rattle.planner.specs.Sweep.{Lines, Tables, IsTable}
 use Rattle.planner.specs.Home.{loopsIn}
-use Rattle.sweeps.specs.Listed.{at, row, Low}
+use Rattle.sweeps.specs.Listed.{row, Low}
 use Rattle.starts.specs.Grounds.{Within}
 
 -- the height of a loop: 8 less the depth around it

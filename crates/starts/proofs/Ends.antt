@@ -10,12 +10,13 @@ use native.Mathlib.Omega.{arith}
 use lib.Dec.{ltb}
 use borrow.Author.Tests.{lt-ltb, le-ltb}
 use Rattle.laws.specs.Choice.{pick, firstOf}
+use Rattle.laws.specs.Entries.{at}
 use Rattle.laws.proofs.Choices.{first-set, first-none, first-zero}
 use Rattle.laws.proofs.Tests.{le-or}
 use Rattle.nests.specs.Loops.{isEnd}
 use Rattle.planner.specs.Sweep.{State, put, stepPlain, seek, free, inner, outer, stepChild, next, step, walk}
 use Rattle.planner.proofs.Walk.{plain-cases, child-cases, Free, Inner, Outer}
-use Rattle.sweeps.specs.Listed.{at, row, listed, tabled}
+use Rattle.sweeps.specs.Listed.{row, listed, tabled}
 use Rattle.sweeps.proofs.Seek.{seek-none}
 use Rattle.starts.specs.Grounds.{Bound, Kid, Plain, Ground}
 use Rattle.starts.specs.Started.{marked, costAt, frontAt, Passed, top, plain, child}

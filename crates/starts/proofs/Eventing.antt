@@ -8,9 +8,10 @@ use native.Mathlib.Omega.{arith}
 use lib.ListN.{length, getD, set, length-set}
 use lib.Seq.{getD-set-same, getD-set-other}
 use borrow.Author.Tests.{eq-eqb, ne-eqb}
+use Rattle.laws.specs.Entries.{at}
 use Rattle.nests.specs.Loops.{isEnd}
 use Rattle.planner.specs.Sweep.{seek}
-use Rattle.sweeps.specs.Listed.{at, row, Low}
+use Rattle.sweeps.specs.Listed.{row, Low}
 use Rattle.starts.specs.Grounds.{Bound, Kid, Plain, Ground, Kept}
 use Rattle.starts.specs.Started.{costAt, frontAt, Passed, top, plain, child, Event, Late}
 use Rattle.starts.specs.Started.{ChildRoom, ChildSays, StartsRoom}

@@ -9,11 +9,12 @@ use native.Mathlib.Omega.{arith}
 use lib.ListN.{length, set, length-set}
 use lib.Seq.{getD-set-other}
 use Rattle.laws.specs.Choice.{firstOf}
+use Rattle.laws.specs.Entries.{at}
 use Rattle.laws.proofs.Tests.{lt-by}
 use Rattle.laws.proofs.Stores.{stored}
 use Rattle.planner.specs.Sweep.{seek}
 use Rattle.planner.proofs.Walk.{seek-is}
-use Rattle.sweeps.specs.Listed.{at, row}
+use Rattle.sweeps.specs.Listed.{row}
 use Rattle.starts.specs.Grounds.{Within, Kept}
 use Rattle.starts.specs.Started.{costAt, frontAt, Late, ChildRoom, ChildSays}
 use Rattle.starts.proofs.Seeks.{seek-skip, seek-late}

@@ -8,9 +8,9 @@ use native.Mathlib.Omega.{arith}
 use lib.ListN.{length, set, length-set}
 use lib.Seq.{getD-set-same, getD-set-other}
 use Rattle.laws.specs.Choice.{firstOf}
+use Rattle.laws.specs.Entries.{at}
 use Rattle.laws.proofs.Tests.{le-or, eq-or}
 use Rattle.laws.proofs.Stores.{stored}
-use Rattle.sweeps.specs.Listed.{at}
 use Rattle.starts.specs.Started.{Fit, Followed}
 
 pub record Following (link cs₀ fs₀ : List ℕ) (d e : ℕ) (cs fs : List ℕ) (p : ℕ) : Type 0 where

@@ -10,10 +10,11 @@ use lib.ListN.{length, set, getD}
 use lib.Dec.{eqb, ltb}
 use borrow.Author.Tests.{lt-ltb, ltb-true, eq-eqb, eqb-true, ne-eqb}
 use Rattle.laws.specs.Choice.{pick}
+use Rattle.laws.specs.Entries.{at}
 use Rattle.laws.proofs.Tests.{and-true, false-by}
 use Rattle.laws.proofs.Stores.{stored}
 use Rattle.nests.specs.Loops.{isDo}
-use Rattle.sweeps.specs.Listed.{at, row}
+use Rattle.sweeps.specs.Listed.{row}
 use Rattle.starts.specs.Started.{marked, Marked, endAfter}
 
 -- the gap after a DO

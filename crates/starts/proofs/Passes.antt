@@ -5,8 +5,9 @@ use mathlib.Core.List.{List}
 use mathlib.Core.Logic.{_⊎_, ⊎-elim}
 use Prim.Native.Nat.{ℕ, suc, _≤_, _<_}
 use native.Mathlib.Omega.{arith}
+use Rattle.laws.specs.Entries.{at}
 use Rattle.laws.proofs.Tests.{le-or}
-use Rattle.sweeps.specs.Listed.{at, row, Low}
+use Rattle.sweeps.specs.Listed.{row, Low}
 use Rattle.starts.specs.Grounds.{Bound, Ground, Kid}
 use Rattle.starts.specs.Started.{costAt, frontAt, Passed, top, plain, child}
 

@@ -10,12 +10,13 @@ use native.Mathlib.Omega.{arith}
 use lib.Dec.{eqb, ltb}
 use borrow.Author.Tests.{lt-ltb, le-ltb, ltb-true, ltb-false, eq-eqb, ne-eqb}
 use Rattle.laws.specs.Choice.{pick, firstOf}
+use Rattle.laws.specs.Entries.{at}
 use Rattle.laws.proofs.Choices.{first-set}
 use Rattle.laws.proofs.Tests.{le-or, eq-or}
 use Rattle.nests.specs.Loops.{isDo}
 use Rattle.planner.specs.Sweep.{State, start, seek, needOf, sweep}
 use Rattle.planner.proofs.Walk.{seek-is}
-use Rattle.sweeps.specs.Listed.{at, row, listed, tabled, Low}
+use Rattle.sweeps.specs.Listed.{row, listed, tabled, Low}
 use Rattle.starts.specs.Grounds.{Ground}
 use Rattle.starts.specs.Started.{marked, Marked, Passed, Event, Followed, Started, later}
 use Rattle.starts.proofs.Seeks.{seek-found, seek-down, seek-alike}

@@ -7,9 +7,10 @@ use native.Mathlib.Numerals.{add-one}
 use native.Mathlib.Omega.{arith}
 use lib.ListN.{set}
 use lib.Seq.{getD-set-other}
+use Rattle.laws.specs.Entries.{at}
 use Rattle.planner.specs.Sweep.{seek}
 use Rattle.planner.proofs.Walk.{seek-is}
-use Rattle.sweeps.specs.Listed.{at, Low}
+use Rattle.sweeps.specs.Listed.{Low}
 use Rattle.starts.specs.Grounds.{Ground}
 use Rattle.starts.specs.Started.{Event, EventsSay, Fit, Followed, StartsSay}
 use Rattle.starts.proofs.Passes.{passed-map, passed-all}

@@ -4,8 +4,9 @@ use mathlib.Core.Path.{_≡_}
 use mathlib.Core.Bool.{true, false}
 use mathlib.Core.List.{List}
 use Prim.Native.Nat.{ℕ, suc, _≤_, _<_}
+use Rattle.laws.specs.Entries.{at}
 use Rattle.nests.specs.Loops.{isDo, isEnd}
-use Rattle.sweeps.specs.Listed.{at, row}
+use Rattle.sweeps.specs.Listed.{row}
 
 -- p is a boundary of the loop d with its ENDDO e
 pub record Bound (own : List ℕ) (d e p : ℕ) : Type 0 where

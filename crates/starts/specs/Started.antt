@@ -9,9 +9,10 @@ use Prim.Native.Nat.{ℕ, zero, suc, _+_, _≤_, _<_}
 use lib.Dec.{eqb, ltb, leb}
 use lib.ListN.{length}
 use Rattle.laws.specs.Choice.{pick, firstOf}
+use Rattle.laws.specs.Entries.{at}
 use Rattle.nests.specs.Loops.{isDo, isEnd}
 use Rattle.planner.specs.Sweep.{seek, needOf, sweep}
-use Rattle.sweeps.specs.Listed.{at, row, listed, tabled, SweepRoom}
+use Rattle.sweeps.specs.Listed.{row, listed, tabled, SweepRoom}
 use Rattle.starts.specs.Grounds.{Bound, Within, Kept}
 
 -- the ends of lines, and 0 at the first gap of a loop directly inside d that holds barriers: nothing above it cuts

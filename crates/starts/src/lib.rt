@@ -5,8 +5,9 @@
 ghost use mathlib.Core.Path.{_≡_};
 ghost use Prim.Native.Nat.{_+_, _<_};
 ghost use lib.ListN.{length};
+ghost use Rattle.laws.specs.Entries.{at};
 ghost use Rattle.planner.specs.Sweep.{seek};
-ghost use Rattle.sweeps.specs.Listed.{at, row};
+ghost use Rattle.sweeps.specs.Listed.{row};
 ghost use Rattle.starts.specs.Grounds.{Ground};
 ghost use Rattle.starts.specs.Started.{Marked, endAfter, costAt, frontOr, EventsSay, Followed, StartsSay};
 ghost use Rattle.starts.specs.Started.{MarkRoom, ChildRoom, ChildSays, FollowRoom, StartsRoom};

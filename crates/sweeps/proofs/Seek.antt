@@ -6,8 +6,9 @@ use mathlib.Core.List.{List}
 use Prim.Native.Nat.{ℕ, zero, suc, _+_, _-_, _≤_, _<_}
 use native.Mathlib.Omega.{arith}
 use borrow.Author.Tests.{lt-ltb, le-ltb}
+use Rattle.laws.specs.Entries.{at}
 use Rattle.planner.specs.Sweep.{seek}
-use Rattle.sweeps.specs.Listed.{at, Passes}
+use Rattle.sweeps.specs.Listed.{Passes}
 
 pub seek-here : (need : ℕ → ℕ) (f low a : ℕ) → low < a → need a < f → seek need f low a ≡ a
 unfolding seek

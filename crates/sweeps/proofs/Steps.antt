@@ -9,8 +9,9 @@ use native.Mathlib.Omega.{arith}
 use lib.Dec.{ltb, leb}
 use borrow.Author.Tests.{lt-ltb, le-ltb, le-leb, eq-eqb, ne-eqb}
 use Rattle.laws.specs.Choice.{pick, firstOf}
+use Rattle.laws.specs.Entries.{at}
 use Rattle.planner.specs.Sweep.{st, seek, free, inner, outer, childAt, stepChild}
-use Rattle.sweeps.specs.Listed.{at, row, laid, Stepped}
+use Rattle.sweeps.specs.Listed.{row, laid, Stepped}
 
 -- what `seek` finds lies above l and not above p
 pub seek-high : (need : ℕ → ℕ) (f l p : ℕ) → seek need f l p ≤ p

@@ -9,8 +9,9 @@ use native.Mathlib.Omega.{arith}
 use lib.Dec.{eqb, ltb}
 use lib.ListN.{getD}
 use borrow.Author.Tests.{lt-ltb, le-ltb, eq-eqb, ne-eqb}
+use Rattle.laws.specs.Entries.{at}
 use Rattle.planner.specs.Sweep.{State, st, bare, only, also, put, stepPlain, stepChild, next, step, walk, sweep}
-use Rattle.sweeps.specs.Listed.{at, row, listed, tabled, laid, Stepped, sweepOf}
+use Rattle.sweeps.specs.Listed.{row, listed, tabled, laid, Stepped, sweepOf}
 
 -- the rest of the walk from the boundary p gives the whole sweep; w are the gaps laid so far
 pub record Turn

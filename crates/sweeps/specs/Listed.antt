@@ -7,12 +7,9 @@ use Prim.Native.Nat.{ℕ, suc, _+_, _-_, _≤_, _<_}
 use lib.Dec.{ltb}
 use lib.ListN.{length, getD}
 use Rattle.laws.specs.Choice.{pick}
+use Rattle.laws.specs.Entries.{at}
 use Rattle.nests.specs.Loops.{isDo, isEnd}
 use Rattle.planner.specs.Sweep.{Loops, Tables, State, st, only, also, seek, stepChild, sweep}
-
--- an entry of a list
-abbrev pub at : List ℕ → ℕ → ℕ
-at xs a = getD xs a 0
 
 -- where r is true, no line that starts at the k gaps up to a ends before f: a search from a passes them
 abbrev pub Passes : List ℕ → ℕ → ℕ → ℕ → Bool → Type 0

@@ -3,8 +3,9 @@ ghost use mathlib.Core.Path.{_≡_};
 ghost use Prim.Native.Nat.{ℕ, _+_, _<_, _≤_, min};
 ghost use lib.ListN.{length, getD};
 ghost use Rattle.laws.specs.Choice.{firstOf};
+ghost use Rattle.laws.specs.Entries.{at};
 ghost use Rattle.planner.specs.Sweep.{seek};
-ghost use Rattle.sweeps.specs.Listed.{at, Passes, Stepped};
+ghost use Rattle.sweeps.specs.Listed.{Passes, Stepped};
 
 // The front after a step over a child, and the bound that the child was asked with.
 pub struct Step {

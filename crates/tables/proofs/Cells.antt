@@ -1,16 +1,17 @@
 -- The cells of a table with a row for each height: within the table, and one for each loop and gap of its range.
--- Main statements: `height-most`, `height-least`, `child-height`, `child-cell`, `cell-fits`, `same-cell`.
+-- Main statements: `height-most`, `child-height`, `cell-fits`, `same-cell`.
 use mathlib.Core.Path.{_≡_}
 use mathlib.Core.Bool.{true}
 use mathlib.Core.List.{List}
 use Prim.Native.Nat.{ℕ, suc, _+_, _≤_, _<_}
 use native.Mathlib.Omega.{arith}
+use Rattle.laws.specs.Entries.{at}
 use Rattle.laws.proofs.Tests.{le-by}
 use Rattle.nests.specs.Kinds.{DEPTH}
 use Rattle.nests.specs.Loops.{isDo, endOf, ownerOf}
-use Rattle.nests.proofs.Levels.{lev, lev-up, lev-deep, point-in}
+use Rattle.nests.proofs.Levels.{lev, point-in}
 use Rattle.nests.proofs.Loops.{range-above, end-there, owner-is-do, owner-lower}
-use Rattle.tables.specs.Charts.{at, ROW, TABLE, cell, Points, HeightsAre}
+use Rattle.tables.specs.Charts.{ROW, TABLE, cell, Points, HeightsAre}
 
 module _ (ps : List ℕ) (w : Points ps) (heights : List ℕ) (tall : HeightsAre ps heights) where
   height-level : (d : ℕ) → isDo ps d ≡ true → at heights d + lev ps d ≡ DEPTH
@@ -19,9 +20,6 @@ module _ (ps : List ℕ) (w : Points ps) (heights : List ℕ) (tall : HeightsAre
 
   pub height-most : (d : ℕ) → isDo ps d ≡ true → at heights d ≤ DEPTH
   height-most d h = omega (arith, height-level d h)
-
-  pub height-least : (d : ℕ) → isDo ps d ≡ true → 1 ≤ at heights d
-  height-least d h = omega (arith, height-level d h, lev-up ps d h, lev-deep ps (w .shape) (suc d))
 
   pub cell-fits : (d q : ℕ) → isDo ps d ≡ true → q < ROW → cell heights d q < TABLE
   cell-fits d q h l = omega (arith, height-most d h)
@@ -32,10 +30,6 @@ module _ (ps : List ℕ) (w : Points ps) (heights : List ℕ) (tall : HeightsAre
       let there = point-in ps x 0 h in
       let k = owner-is-do ps (w .shape) x l there in
       omega (arith, owner-lower ps (w .shape) x l there, height-level x h, height-level (ownerOf ps x) k)
-
-  pub child-cell :
-      (x q : ℕ) → isDo ps x ≡ true → 0 < x → cell heights (ownerOf ps x) q ≡ cell heights x q + ROW
-  child-cell x q h l = omega (arith, child-height x h l)
 
   -- two loops of one height are apart
   same-height :

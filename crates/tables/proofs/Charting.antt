@@ -11,6 +11,7 @@ use native.Mathlib.Numerals.{add-one}
 use native.Mathlib.Omega.{arith}
 use lib.ListN.{length, getD, set, length-set}
 use borrow.Author.Tests.{eq-eqb, ne-eqb}
+use Rattle.laws.specs.Entries.{at}
 use Rattle.laws.proofs.Tests.{never-both, eq-or, le-or}
 use Rattle.nests.specs.Kinds.{POINTS, DEPTH}
 use Rattle.nests.specs.Loops.{isDo, isEnd, endOf, ownerOf}
@@ -18,7 +19,7 @@ use Rattle.nests.proofs.Levels.{lev, lev-zero, lev-up, lev-falls, lev-same, lev
 use Rattle.nests.proofs.Loops.{owner-from-below, owner-below, end-has-do, owner-of-end, end-is-end, end-there}
 use Rattle.nests.proofs.Loops.{end-after}
 use Rattle.nests.proofs.Gaps.{owner-after-do, owner-after-end, owner-after-plain}
-use Rattle.tables.specs.Charts.{at, Points, Charted, ChartRoom}
+use Rattle.tables.specs.Charts.{Points, Charted, ChartRoom}
 use Rattle.tables.proofs.Entries.{entry-here, entry-elsewhere, entries-more}
 
 pub owner-at-most : (ps : List ℕ) (g : ℕ) → ownerOf ps g ≤ g

@@ -10,11 +10,12 @@ use Prim.Native.Nat.{ℕ, suc, _≤_, _<_}
 use native.Mathlib.Omega.{arith}
 use lib.ListN.{length, getD}
 use borrow.Author.Tests.{eq-eqb, ne-eqb}
+use Rattle.laws.specs.Entries.{at}
 use Rattle.laws.proofs.Tests.{never-both, eq-or}
 use Rattle.nests.specs.Loops.{isDo, endOf, ownerFrom, ownerOf}
 use Rattle.nests.proofs.Levels.{starts-with-do}
 use Rattle.nests.proofs.Loops.{Owner, owner-law, owner-from-is, outermost}
-use Rattle.tables.specs.Charts.{at, Points, OwnIs, EndsAre}
+use Rattle.tables.specs.Charts.{Points, OwnIs, EndsAre}
 
 -- every loop that starts up to s and reaches t starts up to l
 pub record Climbing (ps : List ℕ) (s t l : ℕ) : Type 0 where

@@ -9,6 +9,7 @@ use Prim.Native.Nat.{ℕ, zero, suc, _-_, _≤_, _<_}
 use native.Mathlib.Omega.{arith}
 use lib.ListN.{length, getD, drop, drop-of-length-le}
 use Rattle.laws.specs.Members.{Among}
+use Rattle.laws.specs.Entries.{at}
 use Rattle.nests.specs.Nests.{Dep}
 use Rattle.nests.specs.Loops.{isDo, endOf}
 use Rattle.nests.specs.declared.Dependence as DE
@@ -17,7 +18,7 @@ use Rattle.nests.proofs.Stored.{depsIn-at}
 use Rattle.nests.proofs.Deps.{Fits}
 use Rattle.planner.proofs.Instance.{AllFit}
 use Rattle.planner.specs.Home.{leastEnd, reachOf, hasAt}
-use Rattle.tables.specs.Charts.{at, TABLE, cell, Points, HeightsAre}
+use Rattle.tables.specs.Charts.{TABLE, cell, Points, HeightsAre}
 use Rattle.tables.specs.Collected.{backOf, Collected, Entered, LinesRoom}
 use Rattle.tables.proofs.Entries.{all-zero}
 use Rattle.tables.proofs.Entering.{cell-there}

@@ -11,6 +11,7 @@ use lib.ListN.{length, set}
 use borrow.Author.Tests.{eqb-true, eq-eqb, ne-eqb}
 use Rattle.laws.specs.Bits.{one}
 use Rattle.laws.specs.Choice.{pick}
+use Rattle.laws.specs.Entries.{at}
 use Rattle.laws.proofs.Tests.{never-both, eq-or, and-true, and-intro}
 use Rattle.nests.specs.Kinds.{INDEPENDENT, CARRIED, POINTS}
 use Rattle.nests.specs.Nests.{Dep}
@@ -19,7 +20,7 @@ use Rattle.nests.proofs.Loops.{Owner, end-there}
 use Rattle.nests.proofs.Deps.{Line, Back, Fits}
 use Rattle.nests.proofs.Gaps.{home-law}
 use Rattle.planner.specs.Home.{homeOf, startsAt, leastEnd, reachOf, hasAt}
-use Rattle.tables.specs.Charts.{at, ROW, TABLE, cell, Rows, Points, HeightsAre}
+use Rattle.tables.specs.Charts.{ROW, TABLE, cell, Rows, Points, HeightsAre}
 use Rattle.tables.specs.Collected.{leavesAt, backOf, Collected, LinesRoom}
 use Rattle.tables.proofs.Entries.{entry-here, entry-elsewhere}
 use Rattle.tables.proofs.Cells.{cell-fits, same-cell}

@@ -7,8 +7,8 @@ use Prim.Native.Nat.{ℕ, _+_, _≤_, _<_, min}
 use native.Mathlib.Omega.{arith}
 use lib.ListN.{length, set, List·getD-eq-default}
 use lib.Seq.{getD-set-same, getD-set-other, set-getD}
+use Rattle.laws.specs.Entries.{at}
 use Rattle.laws.proofs.Tests.{eq-or, le-or}
-use Rattle.tables.specs.Charts.{at}
 
 module _ (xs : List ℕ) (i v : ℕ) where
   pub entry-here : i < length xs → at (set xs i v) i ≡ v

@@ -13,6 +13,7 @@ use lib.ListN.{length, getD}
 use borrow.Author.Tests.{eqb-true, eq-eqb, ne-eqb, ltb-true, lt-ltb}
 use Rattle.laws.specs.Choice.{pick}
 use Rattle.laws.specs.Members.{Among}
+use Rattle.laws.specs.Entries.{at}
 use Rattle.laws.proofs.Tests.{never-both, eq-or, le-or, bool-by, false-by, and-true, or-true, or-left, or-right}
 use Rattle.nests.specs.Kinds.{INDEPENDENT}
 use Rattle.nests.specs.Nests.{Dep}
@@ -21,7 +22,7 @@ use Rattle.nests.proofs.Loops.{end-there, end-after}
 use Rattle.nests.proofs.Deps.{Fits}
 use Rattle.planner.proofs.Instance.{AllFit}
 use Rattle.planner.specs.Home.{homeOf, returnsAfter, leastEnd, limitOf}
-use Rattle.tables.specs.Charts.{at, ROW, TABLE, cell, Rows, Points, HeightsAre}
+use Rattle.tables.specs.Charts.{ROW, TABLE, cell, Rows, Points, HeightsAre}
 use Rattle.tables.specs.Collected.{leavesAt, backOf, lowestFrom, Narrowed}
 use Rattle.tables.proofs.Cells.{cell-fits, same-cell}
 

@@ -7,8 +7,8 @@ use mathlib.Core.Logic.{_⊎_, inl, inr, ⊎-elim}
 use Prim.Native.Nat.{ℕ, zero, suc, _+_, _-_, _≤_, _<_, min}
 use native.Mathlib.Omega.{arith}
 use lib.ListN.{length, set, length-set}
+use Rattle.laws.specs.Entries.{at}
 use Rattle.laws.proofs.Tests.{eq-or}
-use Rattle.tables.specs.Charts.{at}
 use Rattle.tables.specs.Collected.{lowestFrom, Narrowed}
 use Rattle.tables.proofs.Entries.{entry-here, entry-elsewhere}
 

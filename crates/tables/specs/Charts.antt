@@ -5,13 +5,10 @@ use mathlib.Core.Bool.{true}
 use mathlib.Core.List.{List}
 use Prim.Native.Nat.{ℕ, _+_, _*_, _≤_, _<_}
 use lib.ListN.{length, getD, take}
+use Rattle.laws.specs.Entries.{at}
 use Rattle.nests.specs.Kinds.{POINTS, DEPTH}
 use Rattle.nests.specs.Loops.{isDo, depth, endOf, ownerOf}
 use Rattle.nests.specs.Valid.{isShape}
-
--- an entry of a list
-abbrev pub at : List ℕ → ℕ → ℕ
-at xs i = getD xs i 0
 
 -- a table with a row of 256 entries for each height, 0 to 8
 abbrev pub ROW : ℕ

@@ -8,12 +8,13 @@ use Prim.Native.Nat.{ℕ, zero, suc, _+_, _≤_, _<_, min}
 use lib.Dec.{eqb}
 use lib.ListN.{length}
 use Rattle.laws.specs.Bits.{one}
+use Rattle.laws.specs.Entries.{at}
 use Rattle.nests.specs.Kinds.{INDEPENDENT, POINTS}
 use Rattle.nests.specs.Nests.{Dep}
 use Rattle.nests.specs.Loops.{isDo}
 use Rattle.planner.specs.Home.{homeOf, leastEnd, reachOf, limitOf, hasAt}
 use Rattle.planner.proofs.Instance.{AllFit}
-use Rattle.tables.specs.Charts.{at, Rows, TABLE}
+use Rattle.tables.specs.Charts.{Rows, TABLE}
 
 -- a dependence carried by d from the point q
 abbrev pub leavesAt : List ℕ → ℕ → ℕ → Dep → Bool

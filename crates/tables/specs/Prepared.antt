@@ -5,10 +5,11 @@ use mathlib.Core.Bool.{true}
 use mathlib.Core.List.{List}
 use Prim.Native.Nat.{ℕ}
 use Rattle.laws.specs.Bits.{one}
+use Rattle.laws.specs.Entries.{at}
 use Rattle.nests.specs.Nests.{Dep}
 use Rattle.nests.specs.Loops.{isDo}
 use Rattle.planner.specs.Home.{reachOf, limitOf, hasAt}
-use Rattle.tables.specs.Charts.{at, Rows, Charted}
+use Rattle.tables.specs.Charts.{Rows, Charted}
 
 -- the loops; in the row of each loop its reach and its limits; 1 for each loop that is some dependence's home, else 0
 pub record Prepared (ps : List ℕ) (ds : List Dep) (own ends heights reach limit has : List ℕ) : Type 0 where

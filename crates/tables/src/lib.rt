@@ -4,12 +4,13 @@ use nests::Nest;
 ghost use mathlib.Core.Path.{_≡_};
 ghost use Prim.Native.Nat.{ℕ, suc, _+_, _<_, _≤_, min};
 ghost use lib.ListN.{length, set};
+ghost use Rattle.laws.specs.Entries.{at};
 ghost use Rattle.nests.specs.Kinds.{POINTS};
 ghost use Rattle.nests.specs.Loops.{ownerFrom};
 ghost use Rattle.nests.specs.Stored.{depIn, nestIn, IsCounted};
 ghost use Rattle.nests.proofs.Deps.{Fits};
 ghost use Rattle.planner.proofs.Instance.{AllFit};
-ghost use Rattle.tables.specs.Charts.{at, TABLE, Points, OwnIs, EndsAre, HeightsAre, Charted, ChartRoom};
+ghost use Rattle.tables.specs.Charts.{TABLE, Points, OwnIs, EndsAre, HeightsAre, Charted, ChartRoom};
 ghost use Rattle.tables.specs.Collected.{Collected, Entered, LinesRoom, Narrowed, Limited};
 ghost use Rattle.tables.specs.Prepared.{Prepared};
 

@@ -10,7 +10,6 @@ use lib.Dec.{eqb, leb}
 use lib.ListN.{length}
 use borrow.Author.Tests.{eqb-false}
 use Rattle.laws.specs.Choice.{pick}
-use Rattle.laws.proofs.Tests.{eq-by}
 use Rattle.laws.proofs.Choices.{first-le, when-le}
 use Rattle.nests.specs.Kinds.{DO, POINTS, DEPTH, DEPENDENCES}
 use Rattle.nests.specs.Nests.{Dep, Nest, empty}
@@ -113,12 +112,6 @@ place-within s = omega (arith, nest-answer s .within, lines-few s)
 
 pub accepted-place : (s : List ℕ) → readNest s .number ≡ 0 → readNest s .place ≡ 0
 accepted-place s h = nest-answer s .accepted h
-
-pub place-accepted : (s : List ℕ) → readNest s .place ≡ 0 → readNest s .number ≡ 0
-place-accepted s h = eq-by (λ z. omega (arith, nest-answer s .refused z .1))
-
-pub refused-empty : (s : List ℕ) → (readNest s .number ≡ 0 → ⊥) → readNest s .nest-is ≡ empty
-refused-empty s h = nest-answer s .refused h .0
 
 -- an accepted text's answer is its nest
 pub accepted-got : (s : List ℕ) → readNest s .number ≡ 0 → readNest s ≡ got 0 0 (readNest s .nest-is)

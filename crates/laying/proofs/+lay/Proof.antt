@@ -5,7 +5,8 @@ use Prim.Native.Nat.{_+_, _-_, _*_, min, ℕ, _<_}
 use native.Mathlib.Omega.{arith}
 use lib.ListN.{length, set, length-set}
 use borrow.Author.Needs.{needs}
-use Rattle.sweeps.specs.Listed.{at, row}
+use Rattle.laws.specs.Entries.{at}
+use Rattle.sweeps.specs.Listed.{row}
 use Rattle.laying.proofs.Sizes.{Sizes, sizes, picked}
 use Rattle.laying.proofs.Turns as turns
 use Rattle.laying.proofs.Turns.{Laying}

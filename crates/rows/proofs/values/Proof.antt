@@ -4,7 +4,8 @@ use mathlib.Core.Path.{_≡_, ap}
 use Prim.Native.Nat.{_+_, _-_, _<_}
 use native.Mathlib.Omega.{arith}
 use borrow.Author.Needs.{needs}
-use Rattle.sweeps.specs.Listed.{at, row}
+use Rattle.laws.specs.Entries.{at}
+use Rattle.sweeps.specs.Listed.{row}
 use Rattle.rows.proofs.Valuing.{Valuing, valuing-none, valuing-more, read-high, read-within, c-small}
 use Rattle.rows.proofs.Valuing.{close-within, close-count}
 use Rattle.rows.proofs.values.Statement.{statement}

@@ -7,9 +7,9 @@ use native.Mathlib.Omega.{arith}
 use lib.ListN.{getD}
 use borrow.Author.Tests.{eq-eqb}
 use borrow.Author.Needs.{needs}
+use Rattle.laws.specs.Entries.{at}
 use Rattle.nests.specs.Loops.{isDo, endOf}
 use Rattle.nests.proofs.Loops.{end-after, end-there}
-use Rattle.sweeps.specs.Listed.{at}
 use Rattle.settling.specs.Settled.{Room}
 use Rattle.settling.proofs.Heights.{child-height}
 use Rattle.settling.proofs.Turns.{Settling, begin, on-plain, on-child}

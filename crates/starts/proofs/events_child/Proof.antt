@@ -5,8 +5,9 @@ use native.Mathlib.Omega.{arith}
 use borrow.Author.Needs.{needs}
 use mathlib.Core.Path.{_≡_, refl, sym, _∙_}
 use lib.ListN.{length, length-set}
-use Rattle.sweeps.specs.Listed.{at, row}
+use Rattle.sweeps.specs.Listed.{row}
 use Rattle.laws.specs.Choice.{firstOf}
+use Rattle.laws.specs.Entries.{at}
 use Rattle.starts.proofs.Filling.{Filling, outer-is, filling-none, filling-more, filled}
 use native.Mathlib.Numerals.{add-one}
 use Rattle.starts.proofs.events_child.Statement.{statement}

@@ -4,7 +4,8 @@ use native.Mathlib.Omega.{arith}
 use borrow.Author.Needs.{needs}
 use mathlib.Core.Path.{_≡_, refl, sym, _∙_}
 use lib.ListN.{length, length-set}
-use Rattle.sweeps.specs.Listed.{at, row}
+use Rattle.laws.specs.Entries.{at}
+use Rattle.sweeps.specs.Listed.{row}
 use Rattle.starts.proofs.Following.{Following, following-none, following-more, Next, next}
 use Rattle.starts.proofs.follow.Statement.{statement}
 use Rattle.starts.proofs.follow.Tie as tie

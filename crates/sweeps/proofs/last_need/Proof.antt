@@ -3,8 +3,8 @@ use mathlib.Core.Path.{_≡_, refl, _∙_}
 use Prim.Native.Nat.{_≤_}
 use native.Mathlib.Omega.{arith}
 use borrow.Author.Needs.{needs}
+use Rattle.laws.specs.Entries.{at}
 use Rattle.planner.specs.Sweep.{seek}
-use Rattle.sweeps.specs.Listed.{at}
 use Rattle.sweeps.proofs.last_need.Statement.{statement}
 use Rattle.sweeps.proofs.last_need.Tie as tie
 
