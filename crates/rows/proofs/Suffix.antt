@@ -1,9 +1,9 @@
 -- The value of a suffix: one sweep with the suffix's place in `need` lowered, then the prefix.
 -- Main statements: `lowered`, `close-low`, `close-high`.
-use mathlib.Core.Path.{_≡_, refl, _∙_, fun-ext}
+use mathlib.Core.Path.{_≡_, refl, fun-ext}
 use mathlib.Core.Bool.{Bool, true, false, _&&_}
 use mathlib.Core.List.{List}
-use mathlib.Core.Logic.{_⊎_, ⊎-elim}
+use mathlib.Core.Logic.{⊎-elim}
 use Prim.Native.Nat.{ℕ, _+_, _≤_, _<_, min}
 use native.Mathlib.Omega.{arith}
 use lib.Dec.{eqb, ltb, leb}
@@ -13,7 +13,7 @@ use borrow.Author.Tests.{ltb-true, ltb-false, eq-eqb, ne-eqb, le-leb, lt-leb}
 use Rattle.laws.specs.Choice.{pick}
 use Rattle.laws.specs.Entries.{at}
 use Rattle.laws.proofs.Tests.{eq-or}
-use Rattle.planner.specs.Sweep.{State, needOf, put, close}
+use Rattle.planner.specs.Sweep.{needOf, put, close}
 use Rattle.rows.specs.Valued.{CloseSays}
 
 lower : (need : List ℕ) (q e a : ℕ) → q < length need → getD (set need q (min (at need q) e)) a 0 ≡

@@ -1,10 +1,8 @@
 // The row of one loop: its values for each suffix, and from them the fronts and choices.
 use starts::Front;
-ghost use mathlib.Core.Path.{_≡_};
 ghost use Prim.Native.Nat.{_+_, _<_};
 ghost use lib.ListN.{length};
 ghost use Rattle.starts.specs.Grounds.{Kept};
-ghost use Rattle.starts.specs.Started.{later};
 ghost use Rattle.rows.specs.Valued.{CloseSays, ClosedSays, FrontsIn, ValuesRoom};
 ghost use Rattle.rows.specs.Made.{Copied, Cleared, BetterSays, ChooseSays, RowRoom, RowMade};
 
@@ -155,25 +153,27 @@ fn values(
         (now (cs .exit)) (now (fs .exit)) e r ⌝ }
     ensures { λ r. ⌜ FrontsIn d e (now (fs .exit)) e ⌝ }
 {
+    let c = cs[first];
+    let f = fs[first];
     let mut m = e + 1;
     let mut p = d;
-    while p < e {
+    while p + 1 < first {
         let q = p + 1;
-        let x = later(q, first);
-        let v = closed(cs[x], fs[x], limit[base + q], d);
+        let v = closed(c, f, limit[base + q], d);
         cs[q] = v.c;
         fs[q] = v.f;
         m = sweeps::smaller(v.c, m);
         p = q;
     }
+    while p < e {
+        let q = p + 1;
+        let v = closed(cs[q], fs[q], limit[base + q], d);
+        cs[q] = v.c;
+        fs[q] = v.f;
+        m = sweeps::smaller(m, v.c);
+        p = q;
+    }
     m
-}
-
-// The greater of two numbers.
-fn later(a: usize, b: usize) -> usize
-    ensures { λ r. ⌜ r ≡ later a b ⌝ }
-{
-    if a < b { b } else { a }
 }
 
 // A sweep's barriers and front, with a barrier right after the DO where the front lies beyond the limit.

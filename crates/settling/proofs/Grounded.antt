@@ -4,7 +4,7 @@
 use mathlib.Core.Path.{_≡_, sym, _∙_}
 use mathlib.Core.Bool.{true, false}
 use mathlib.Core.List.{List}
-use mathlib.Core.Logic.{_⊎_, ⊎-elim}
+use mathlib.Core.Logic.{⊎-elim}
 use Prim.Native.Nat.{ℕ, suc, _-_, _*_, _≤_, _<_}
 use native.Mathlib.Omega.{arith}
 use lib.ListN.{length}
@@ -14,8 +14,7 @@ use Rattle.nests.proofs.Loops.{end-there}
 use Rattle.planner.specs.Home.{loopsIn}
 use Rattle.planner.proofs.World as world
 use Rattle.planner.proofs.Instance.{loop-laws}
-use Rattle.sweeps.specs.Listed.{row}
-use Rattle.starts.specs.Grounds.{Bound, Within, Kid, Plain, Ground}
+use Rattle.starts.specs.Grounds.{Bound, Kid, Plain, Ground}
 use Rattle.settling.specs.Settled.{HasHeight, Charts, Fronts}
 use Rattle.settling.proofs.Heights.{height-low, child-height}
 

@@ -4,12 +4,11 @@
 use mathlib.Core.Path.{_≡_, refl, sym, _∙_, ap}
 use mathlib.Core.Bool.{Bool, true, false}
 use mathlib.Core.List.{List}
-use mathlib.Core.Logic.{_⊎_, ⊎-elim}
+use mathlib.Core.Logic.{⊎-elim}
 use Prim.Native.Nat.{ℕ, zero, suc, _+_, _≤_, _<_}
 use native.Mathlib.Omega.{arith}
-use lib.Dec.{ltb}
 use borrow.Author.Tests.{lt-ltb, le-ltb}
-use Rattle.laws.specs.Choice.{pick, firstOf}
+use Rattle.laws.specs.Choice.{firstOf}
 use Rattle.laws.specs.Entries.{at}
 use Rattle.laws.proofs.Choices.{first-set, first-none, first-zero}
 use Rattle.laws.proofs.Tests.{le-or}
@@ -18,7 +17,7 @@ use Rattle.planner.specs.Sweep.{State, put, stepPlain, seek, free, inner, outer
 use Rattle.planner.proofs.Walk.{plain-cases, child-cases, Free, Inner, Outer}
 use Rattle.sweeps.specs.Listed.{row, listed, tabled}
 use Rattle.sweeps.proofs.Seek.{seek-none}
-use Rattle.starts.specs.Grounds.{Bound, Kid, Plain, Ground}
+use Rattle.starts.specs.Grounds.{Bound, Kid, Ground}
 use Rattle.starts.specs.Started.{marked, costAt, frontAt, Passed, top, plain, child}
 use Rattle.starts.proofs.Seeks.{seek-found, seek-down}
 use Rattle.starts.proofs.Marks.{mark-plain, mark-le, mark-some, mark-none, mark-later}

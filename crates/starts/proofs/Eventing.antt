@@ -1,6 +1,6 @@
 -- The events of a loop, unit by unit from the ENDDO: those above the boundary p are there.
 -- Main definition: `Eventing`. Main statements: `eventing-none`, `eventing-plain`, `eventing-child`, `event-kept`.
-use mathlib.Core.Path.{_≡_, refl, sym, _∙_, ap}
+use mathlib.Core.Path.{_≡_, refl, _∙_}
 use mathlib.Core.Bool.{true, false}
 use mathlib.Core.List.{List}
 use Prim.Native.Nat.{ℕ, zero, suc, _+_, _-_, _≤_, _<_, min}
@@ -12,7 +12,7 @@ use Rattle.laws.specs.Entries.{at}
 use Rattle.nests.specs.Loops.{isEnd}
 use Rattle.planner.specs.Sweep.{seek}
 use Rattle.sweeps.specs.Listed.{row, Low}
-use Rattle.starts.specs.Grounds.{Bound, Kid, Plain, Ground, Kept}
+use Rattle.starts.specs.Grounds.{Bound, Kid, Plain, Ground}
 use Rattle.starts.specs.Started.{costAt, frontAt, Passed, top, plain, child, Event, Late}
 use Rattle.starts.specs.Started.{ChildRoom, ChildSays, StartsRoom}
 use Rattle.starts.proofs.Seeks.{seek-skip, seek-late}

@@ -1,7 +1,7 @@
 -- The events of a loop inside, gap by gap from the right. The fronts lie further left than the gaps, so that the links
 -- are joined to the events at the end.
 -- Main definition: `Filling`. Main statements: `outer-is`, `filling-none`, `filling-more`, `filled`.
-use mathlib.Core.Path.{_≡_, refl, sym, _∙_, ap}
+use mathlib.Core.Path.{_≡_, refl, _∙_}
 use mathlib.Core.List.{List}
 use Prim.Native.Nat.{ℕ, suc, _+_, _-_, _≤_, _<_, min}
 use native.Mathlib.Numerals.{add-one}
@@ -15,7 +15,7 @@ use Rattle.laws.proofs.Stores.{stored}
 use Rattle.planner.specs.Sweep.{seek}
 use Rattle.planner.proofs.Walk.{seek-is}
 use Rattle.sweeps.specs.Listed.{row}
-use Rattle.starts.specs.Grounds.{Within, Kept}
+use Rattle.starts.specs.Grounds.{Kept}
 use Rattle.starts.specs.Started.{costAt, frontAt, Late, ChildRoom, ChildSays}
 use Rattle.starts.proofs.Seeks.{seek-skip, seek-late}
 use Rattle.starts.proofs.Happenings.{cost-one, front-within}

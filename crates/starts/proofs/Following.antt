@@ -2,14 +2,14 @@
 -- Main definition: `Following`. Main statements: `following-none`, `following-more`.
 use mathlib.Core.Path.{_≡_, refl, sym, _∙_, ap}
 use mathlib.Core.List.{List}
-use mathlib.Core.Logic.{_⊎_, ⊎-elim}
+use mathlib.Core.Logic.{⊎-elim}
 use Prim.Native.Nat.{ℕ, zero, suc, _+_, _≤_, _<_}
 use native.Mathlib.Omega.{arith}
 use lib.ListN.{length, set, length-set}
 use lib.Seq.{getD-set-same, getD-set-other}
 use Rattle.laws.specs.Choice.{firstOf}
 use Rattle.laws.specs.Entries.{at}
-use Rattle.laws.proofs.Tests.{le-or, eq-or}
+use Rattle.laws.proofs.Tests.{eq-or}
 use Rattle.laws.proofs.Stores.{stored}
 use Rattle.starts.specs.Started.{Fit, Followed}
 

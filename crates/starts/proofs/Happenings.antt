@@ -2,11 +2,10 @@
 -- Main statements: `cost-inner`, `front-inner`, `cost-outer`, `front-outer`, `cost-one`, `front-within`.
 use mathlib.Core.Path.{_≡_, refl}
 use mathlib.Core.Bool.{Bool, true, false, _&&_}
-use mathlib.Core.Logic.{_⊎_, ⊎-elim}
 use Prim.Native.Nat.{ℕ, zero, suc, _≤_, _<_}
 use native.Mathlib.Omega.{arith}
 use lib.Dec.{ltb, leb}
-use borrow.Author.Tests.{lt-ltb, le-ltb, le-leb, leb-true, ltb-true}
+use borrow.Author.Tests.{lt-ltb, le-leb, leb-true, ltb-true}
 use Rattle.laws.specs.Choice.{pick, firstOf}
 use Rattle.laws.proofs.Tests.{false-by, and-true}
 use Rattle.starts.specs.Grounds.{Within}

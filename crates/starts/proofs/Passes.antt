@@ -2,13 +2,12 @@
 -- Main statements: `passed-map`, `passed-all`.
 use mathlib.Core.Path.{_≡_}
 use mathlib.Core.List.{List}
-use mathlib.Core.Logic.{_⊎_, ⊎-elim}
+use mathlib.Core.Logic.{⊎-elim}
 use Prim.Native.Nat.{ℕ, suc, _≤_, _<_}
 use native.Mathlib.Omega.{arith}
 use Rattle.laws.specs.Entries.{at}
 use Rattle.laws.proofs.Tests.{le-or}
 use Rattle.sweeps.specs.Listed.{row, Low}
-use Rattle.starts.specs.Grounds.{Bound, Ground, Kid}
 use Rattle.starts.specs.Started.{costAt, frontAt, Passed, top, plain, child}
 
 module _ (ps own left : List ℕ) (kids d e : ℕ) (own-low : Low own) where

@@ -1,9 +1,9 @@
 -- The search for the last open line is determined by what it says, so that a search may go on where an earlier one
 -- ended.
 -- Main statements: `sought-one`, `seek-found`, `seek-skip`, `seek-late`, `seek-alike`.
-use mathlib.Core.Path.{_≡_, refl, sym, _∙_}
-use mathlib.Core.Logic.{_⊎_, ⊎-elim}
-use Prim.Native.Nat.{ℕ, zero, suc, _≤_, _<_, min}
+use mathlib.Core.Path.{_≡_, sym}
+use mathlib.Core.Logic.{⊎-elim}
+use Prim.Native.Nat.{ℕ, _≤_, _<_, min}
 use native.Mathlib.Omega.{arith}
 use Rattle.laws.proofs.Tests.{le-or, eq-by, lt-by}
 use Rattle.planner.specs.Sweep.{seek}

@@ -4,22 +4,20 @@
 use mathlib.Core.Path.{_≡_, refl, sym, _∙_, ap}
 use mathlib.Core.Bool.{Bool, true, false, _&&_}
 use mathlib.Core.List.{List}
-use mathlib.Core.Logic.{_⊎_, ⊎-elim}
-use Prim.Native.Nat.{ℕ, zero, suc, _+_, _≤_, _<_}
+use Prim.Native.Nat.{ℕ, zero, suc, _≤_, _<_}
 use native.Mathlib.Omega.{arith}
 use lib.Dec.{eqb, ltb}
-use borrow.Author.Tests.{lt-ltb, le-ltb, ltb-true, ltb-false, eq-eqb, ne-eqb}
-use Rattle.laws.specs.Choice.{pick, firstOf}
+use borrow.Author.Tests.{ltb-true, ltb-false, eq-eqb, ne-eqb}
+use Rattle.laws.specs.Choice.{pick}
 use Rattle.laws.specs.Entries.{at}
 use Rattle.laws.proofs.Choices.{first-set}
-use Rattle.laws.proofs.Tests.{le-or, eq-or}
 use Rattle.nests.specs.Loops.{isDo}
-use Rattle.planner.specs.Sweep.{State, start, seek, needOf, sweep}
+use Rattle.planner.specs.Sweep.{start, seek, needOf, sweep}
 use Rattle.planner.proofs.Walk.{seek-is}
 use Rattle.sweeps.specs.Listed.{row, listed, tabled, Low}
 use Rattle.starts.specs.Grounds.{Ground}
 use Rattle.starts.specs.Started.{marked, Marked, Passed, Event, Followed, Started, later}
-use Rattle.starts.proofs.Seeks.{seek-found, seek-down, seek-alike}
+use Rattle.starts.proofs.Seeks.{seek-found, seek-alike}
 use Rattle.starts.proofs.Passes.{passed-map}
 use Rattle.starts.proofs.Ends.{Total, Comes, comes-at, at-do, ends}
 

@@ -1,11 +1,11 @@
 -- The events of a loop can be followed, and what is followed is what the sweeps make.
--- Main statements: `passed-zero`, `fits`, `joined`.
+-- Main statements: `kept-zero`, `passed-zero`, `fits`, `joined`.
 use mathlib.Core.Path.{_≡_, refl, sym, _∙_, ap}
 use mathlib.Core.List.{List}
 use Prim.Native.Nat.{ℕ, suc, _+_, _≤_, _<_}
 use native.Mathlib.Numerals.{add-one}
 use native.Mathlib.Omega.{arith}
-use lib.ListN.{set}
+use lib.ListN.{length, set, length-set}
 use lib.Seq.{getD-set-other}
 use Rattle.laws.specs.Entries.{at}
 use Rattle.planner.specs.Sweep.{seek}
@@ -16,6 +16,10 @@ use Rattle.starts.specs.Started.{Event, EventsSay, Fit, Followed, Starts
 use Rattle.starts.proofs.Passes.{passed-map, passed-all}
 use Rattle.starts.proofs.Eventing.{event-kept}
 use Rattle.starts.proofs.Suffixes.{swept}
+
+-- a list keeps its length where its first entry is cleared on the way
+pub kept-zero : (xs ys zs : List ℕ) → length zs ≡ length (set ys 0 0) → length ys ≡ length xs → length zs ≡ length xs
+kept-zero xs ys zs h k = h ∙ length-set ys 0 0 ∙ k
 
 module _ (ps own need left : List ℕ) (kids d e : ℕ) (own-low : Low own) (link : List ℕ) where
   -- no event stands at 0

@@ -1,7 +1,7 @@
 // The steps of a sweep over one loop: how many barriers of its own it takes, and how far left the leftmost one can lie.
 ghost use mathlib.Core.Path.{_≡_};
-ghost use Prim.Native.Nat.{ℕ, _+_, _<_, _≤_, min};
-ghost use lib.ListN.{length, getD};
+ghost use Prim.Native.Nat.{_+_, _<_, _≤_, min};
+ghost use lib.ListN.{length};
 ghost use Rattle.laws.specs.Choice.{firstOf};
 ghost use Rattle.laws.specs.Entries.{at};
 ghost use Rattle.planner.specs.Sweep.{seek};

@@ -5,7 +5,6 @@ use native.Mathlib.Omega.{arith}
 use lib.ListN.{drop}
 use lib.Seq.{getD-drop}
 use Rattle.sweeps.specs.Listed.{SweepRoom}
-use Rattle.starts.specs.Started.{StartsRoom}
 use Rattle.rows.proofs.Making.{values-are, made-some, made-none}
 use Rattle.rows.proofs.make_row.Statement.{statement}
 use Rattle.rows.proofs.make_row.Tie as tie
@@ -57,6 +56,7 @@ slice-aggregate-follow-all-4 c = search needs
 follow-all-requires : tie.Need-follow-all-requires
 follow-all-requires c κs =
     let b6 = c .before .before .before .before .before .before in
+    let b6 = b6 in
     let b16 = b6 .before .before .before .before .before .before .before .before .before .before in
     let p = b16 .pre in
     let i = b16 .args in
@@ -84,6 +84,7 @@ slice-aggregate-values-2 c = search needs
 values-requires : tie.Need-values-requires
 values-requires c κs =
     let b5 = c .before .before .before .before .before in
+    let b5 = b5 in
     let b17 = b5 .before .before .before .before .before .before .before .before .before .before .before .before in
     let b22 = b17 .before .before .before .before .before in
     let p = b22 .pre in
@@ -107,6 +108,7 @@ slice-aggregate-choose-2 c = search needs
 choose-requires : tie.Need-choose-requires
 choose-requires c κs =
     let b6 = c .before .before .before .before .before .before in
+    let b6 = b6 in
     let b12 = b6 .before .before .before .before .before .before in
     let b24 = b12 .before .before .before .before .before .before .before .before .before .before .before .before in
     let b29 = b24 .before .before .before .before .before in
@@ -126,6 +128,7 @@ same-length-4 c = search needs
 returns-2 : tie.Need-returns-2
 returns-2 c =
     let b4 = c .before .before .before .before in
+    let b4 = b4 in
     let b11 = b4 .before .before .before .before .before .before .before in
     let b17 = b11 .before .before .before .before .before .before in
     let b24 = b17 .before .before .before .before .before .before .before in

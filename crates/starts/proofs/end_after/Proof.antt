@@ -1,7 +1,5 @@
 -- `end_after` meets its contract, by its tests (Marking).
-use mathlib.Core.Path.{refl}
 use native.Mathlib.Omega.{arith}
-use lib.Dec.{eqb, ltb}
 use Rattle.starts.proofs.Marking.{end-marked, end-plain}
 use Rattle.starts.proofs.end_after.Statement.{statement}
 use Rattle.starts.proofs.end_after.Tie as tie

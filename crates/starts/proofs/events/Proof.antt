@@ -1,6 +1,6 @@
 -- `events` meets its contract. The invariant: the events above the boundary p are there (`Eventing`).
 use mathlib.Core.Path.{_≡_}
-use Prim.Native.Nat.{ℕ, suc, _+_, _-_, _≤_, _<_}
+use Prim.Native.Nat.{_-_}
 use native.Mathlib.Omega.{arith}
 use borrow.Author.Needs.{needs}
 use Rattle.starts.proofs.Eventing.{Eventing, eventing-none, eventing-plain, eventing-child, child-room}
@@ -17,6 +17,7 @@ abbrev μ-loop : tie.MeasureT-loop
 loop-holds : tie.Need-loop-holds Inv-loop μ-loop
 loop-holds c =
     let b7 = c .before .before .before .before .before .before .before in
+    let b7 = b7 in
     let i = b7 .args in
     let r = b7 .pre in
     eventing-none (i .points .now) (i .own .now) (i .need .now) (i .left .now) (i .kids) (i .d) (i .e) (r .1 .0)
@@ -52,6 +53,7 @@ events-child-requires c κs =
 loop-less : tie.Need-loop-less Inv-loop μ-loop
 loop-less c =
     let b12 = c .before .before .before .before .before .before .before .before .before .before .before .before in
+    let b12 = b12 in
     let b13 = b12 .before in
     let b14 = b13 .before in
     let b22 = b14 .before .before .before .before .before .before .before .before in
@@ -60,6 +62,7 @@ loop-less c =
 loop-again : tie.Need-loop-again Inv-loop μ-loop
 loop-again c =
     let b6 = c .before .before .before .before .before .before in
+    let b6 = b6 in
     let b11 = b6 .before .before .before .before .before in
     let b13 = b11 .before .before in
     let b14 = b13 .before in
@@ -110,6 +113,7 @@ loop-less-2 c = omega arith
 loop-again-2 : tie.Need-loop-again-2 Inv-loop μ-loop
 loop-again-2 c =
     let b4 = c .before .before .before .before in
+    let b4 = b4 in
     let b5 = b4 .before in
     let b13 = b5 .before .before .before .before .before .before .before .before in
     let i = b13 .args in
@@ -134,6 +138,7 @@ same-length-3 c = c .before .loop .inv .link-length
 returns : tie.Need-returns Inv-loop μ-loop
 returns c =
     let b9 = c .before .before .before .before .before .before .before .before .before in
+    let b9 = b9 in
     let i = b9 .args in
     let l = c .before .loop in
     let z : l .p ≡ i .d = omega (arith, l .inv .bound .low) in

@@ -1,10 +1,9 @@
 -- `events_child` meets its contract. The invariant: the gaps after x are filled (`Filling`), and `outer` is the
 -- front of a barrier after the loop.
-use Prim.Native.Nat.{ℕ, suc, _+_, _-_, _≤_, _<_}
+use Prim.Native.Nat.{suc}
 use native.Mathlib.Omega.{arith}
 use borrow.Author.Needs.{needs}
-use mathlib.Core.Path.{_≡_, refl, sym, _∙_}
-use lib.ListN.{length, length-set}
+use mathlib.Core.Path.{_≡_}
 use Rattle.sweeps.specs.Listed.{row}
 use Rattle.laws.specs.Choice.{firstOf}
 use Rattle.laws.specs.Entries.{at}
@@ -47,6 +46,7 @@ add-x c = omega arith
 loop-holds : tie.Need-loop-holds Inv-loop μ-loop
 loop-holds c =
     let b8 = c .before .before .before .before .before .before .before .before in
+    let b8 = b8 in
     let i = b8 .args in
     let r = filling-none (i .need .now) (i .left .now) (i .kids) (i .d) (i .l) (i .p) (i .cs .now) (i .fs .now)
     (i .link .now) (i .last) (b8 .pre) (c .smaller .result) (c .smaller .ensures) in (
@@ -60,6 +60,7 @@ event-requires c κs = omega arith
 last-near-requires : tie.Need-last-near-requires Inv-loop μ-loop
 last-near-requires c κs =
     let b11 = c .before .before .before .before .before .before .before .before .before .before .before in
+    let b11 = b11 in
     omega (arith, c .before .before .loop .inv .1 .last-high, b11 .pre)
 
 mul-cs : tie.Need-mul-cs Inv-loop μ-loop
@@ -89,6 +90,7 @@ loop-less c = omega arith
 loop-again : tie.Need-loop-again Inv-loop μ-loop
 loop-again c =
     let b3 = c .before .before .before in
+    let b3 = b3 in
     let b12 = b3 .before .before .before .before .before .before .before .before .before in
     let i = b12 .args in
     let l = b3 .loop in
@@ -112,6 +114,7 @@ same-length-3 c = c .before .loop .inv .1 .link-length
 returns : tie.Need-returns Inv-loop μ-loop
 returns c =
     let b10 = c .before .before .before .before .before .before .before .before .before .before in
+    let b10 = b10 in
     let i = b10 .args in
     let l = c .before .loop in
     filled (i .need .now) (i .left .now) (i .kids) (i .d) (i .l) (i .p) (i .cs .now) (i .fs .now) (i .link .now)

@@ -1,12 +1,10 @@
 -- `follow` meets its contract. The invariant: the starts up to p are followed (`Following`).
-use Prim.Native.Nat.{ℕ, suc, _+_, _-_, _≤_, _<_}
+use Prim.Native.Nat.{_+_, _-_}
 use native.Mathlib.Omega.{arith}
 use borrow.Author.Needs.{needs}
-use mathlib.Core.Path.{_≡_, refl, sym, _∙_}
-use lib.ListN.{length, length-set}
+use mathlib.Core.Path.{_≡_, refl}
 use Rattle.laws.specs.Entries.{at}
-use Rattle.sweeps.specs.Listed.{row}
-use Rattle.starts.proofs.Following.{Following, following-none, following-more, Next, next}
+use Rattle.starts.proofs.Following.{Following, following-none, following-more, next}
 use Rattle.starts.proofs.follow.Statement.{statement}
 use Rattle.starts.proofs.follow.Tie as tie
 
@@ -19,6 +17,7 @@ abbrev μ-loop : tie.MeasureT-loop
 loop-holds : tie.Need-loop-holds Inv-loop μ-loop
 loop-holds c =
     let b3 = c .before .before .before in
+    let b3 = b3 in
     let i = b3 .args in
     let r = b3 .pre in
     following-none (i .link .now) (i .cs .now) (i .fs .now) (i .d) (i .e) (r .long) (r .fits) (r .c-none) (r .f-none)
@@ -35,6 +34,7 @@ slice-read-f c = omega arith
 mul-n : tie.Need-mul-n Inv-loop μ-loop
 mul-n c =
     let b6 = c .before .before .before .before .before .before in
+    let b6 = b6 in
     let i = b6 .args in
     let r = b6 .pre in
     let l = c .before .before .loop in
@@ -45,6 +45,7 @@ mul-n c =
 shared-slice-read-n : tie.Need-shared-slice-read-n Inv-loop μ-loop
 shared-slice-read-n c =
     let b3 = c .before .before .before in
+    let b3 = b3 in
     let b7 = b3 .before .before .before .before in
     let i = b7 .args in
     let r = b7 .pre in
@@ -62,6 +63,7 @@ slice-read-cs c = omega arith
 mul-cs-2 : tie.Need-mul-cs-2 Inv-loop μ-loop
 mul-cs-2 c =
     let b3 = c .before .before .before in
+    let b3 = b3 in
     let b4 = b3 .before in
     let b8 = b4 .before .before .before .before in
     let i = b8 .args in
@@ -74,6 +76,7 @@ mul-cs-2 c =
 slice-read-cs-2 : tie.Need-slice-read-cs-2 Inv-loop μ-loop
 slice-read-cs-2 c =
     let b4 = c .before .before .before .before in
+    let b4 = b4 in
     let b5 = b4 .before in
     let b9 = b5 .before .before .before .before in
     let i = b9 .args in
@@ -86,6 +89,7 @@ slice-read-cs-2 c =
 add-cs : tie.Need-add-cs Inv-loop μ-loop
 add-cs c =
     let b4 = c .before .before .before .before in
+    let b4 = b4 in
     let b5 = b4 .before in
     let b9 = b5 .before .before .before .before in
     let i = b9 .args in
@@ -104,6 +108,7 @@ slice-write-cs c = omega arith
 mul-first-or : tie.Need-mul-first-or Inv-loop μ-loop
 mul-first-or c =
     let b4 = c .before .before .before .before in
+    let b4 = b4 in
     let b5 = b4 .before in
     let b9 = b5 .before .before .before .before in
     let i = b9 .args in
@@ -116,6 +121,7 @@ mul-first-or c =
 slice-read-first-or : tie.Need-slice-read-first-or Inv-loop μ-loop
 slice-read-first-or c =
     let b5 = c .before .before .before .before .before in
+    let b5 = b5 in
     let b6 = b5 .before in
     let b10 = b6 .before .before .before .before in
     let i = b10 .args in
@@ -140,6 +146,7 @@ loop-less c = omega arith
 loop-again : tie.Need-loop-again Inv-loop μ-loop
 loop-again c =
     let b6 = c .before .before .before .before .before .before in
+    let b6 = b6 in
     let b7 = b6 .before in
     let b11 = b7 .before .before .before .before in
     let i = b11 .args in
@@ -161,6 +168,7 @@ same-length-2 c = c .before .loop .inv .fs-length
 returns : tie.Need-returns Inv-loop μ-loop
 returns c =
     let b5 = c .before .before .before .before .before in
+    let b5 = b5 in
     let i = b5 .args in
     let l = c .before .loop in
     let z : l .p ≡ i .e = omega (arith, l .inv .high) in

@@ -1,11 +1,9 @@
 -- `follow_all` meets its contract: the events, followed from left to right, are what the sweeps make (Whole).
 use borrow.Author.Needs.{needs}
-use mathlib.Core.Path.{_∙_}
 use native.Mathlib.Omega.{arith}
 use lib.ListN.{set, length-set}
 use lib.Seq.{getD-set-same}
-use Rattle.starts.specs.Started.{EventsSay}
-use Rattle.starts.proofs.Whole.{passed-zero, fits, joined}
+use Rattle.starts.proofs.Whole.{kept-zero, passed-zero, fits, joined}
 use Rattle.starts.proofs.follow_all.Statement.{statement}
 use Rattle.starts.proofs.follow_all.Tie as tie
 
@@ -27,6 +25,7 @@ slice-write-fs c = search needs
 follow-requires : tie.Need-follow-requires
 follow-requires c κs =
     let b9 = c .before .before .before .before .before .before .before .before .before in
+    let b9 = b9 in
     let b21 = b9 .before .before .before .before .before .before .before .before .before .before .before .before in
     let i = b21 .args in
     let r = b21 .pre in
@@ -53,18 +52,22 @@ follow-requires c κs =
 same-length : tie.Need-same-length
 same-length c =
     let b4 = c .before .before .before .before in
+    let b4 = b4 in
     let b14 = b4 .before .before .before .before .before .before .before .before .before .before in
+    let b26 = b14 .before .before .before .before .before .before .before .before .before .before .before .before in
     let v = b14 .events in
-    b4 .follow .kept .1 .1 .1 .0 ∙ length-set (v .last .1 .1 .1 .1 .1 .1 .1 .1 .0) 0 0 ∙ v .kept .1 .1 .1 .1 .1 .1 .1
-    .1 .0
+    kept-zero (b26 .args .cs .now) (v .last .1 .1 .1 .1 .1 .1 .1 .1 .0) (b4 .follow .last .1 .1 .1 .0)
+    (b4 .follow .kept .1 .1 .1 .0) (v .kept .1 .1 .1 .1 .1 .1 .1 .1 .0)
 
 same-length-2 : tie.Need-same-length-2
 same-length-2 c =
     let b4 = c .before .before .before .before in
+    let b4 = b4 in
     let b14 = b4 .before .before .before .before .before .before .before .before .before .before in
+    let b26 = b14 .before .before .before .before .before .before .before .before .before .before .before .before in
     let v = b14 .events in
-    b4 .follow .kept .1 .1 .1 .1 .0 ∙ length-set (v .last .1 .1 .1 .1 .1 .1 .1 .1 .1 .0) 0 0 ∙ v .kept .1 .1 .1 .1 .1
-    .1 .1 .1 .1 .0
+    kept-zero (b26 .args .fs .now) (v .last .1 .1 .1 .1 .1 .1 .1 .1 .1 .0) (b4 .follow .last .1 .1 .1 .1 .0)
+    (b4 .follow .kept .1 .1 .1 .1 .0) (v .kept .1 .1 .1 .1 .1 .1 .1 .1 .1 .0)
 
 same-length-3 : tie.Need-same-length-3
 same-length-3 c = search needs
@@ -72,6 +75,7 @@ same-length-3 c = search needs
 returns : tie.Need-returns
 returns c =
     let b4 = c .before .before .before .before in
+    let b4 = b4 in
     let b14 = b4 .before .before .before .before .before .before .before .before .before .before in
     let b18 = b14 .before .before .before .before in
     let b26 = b18 .before .before .before .before .before .before .before .before in

@@ -1,10 +1,9 @@
 -- `mark` meets its contract. The invariant: the gaps up to p are marked.
-use Prim.Native.Nat.{ℕ, suc, _+_, _-_, _≤_, _<_}
+use Prim.Native.Nat.{_+_, _-_, _≤_}
 use native.Mathlib.Omega.{arith}
 use borrow.Author.Needs.{needs}
-use mathlib.Core.Path.{_≡_, refl, sym, _∙_}
+use mathlib.Core.Path.{_≡_, refl, _∙_}
 use lib.ListN.{length, length-set}
-use Rattle.laws.specs.Entries.{at}
 use Rattle.sweeps.specs.Listed.{row}
 use Rattle.starts.specs.Started.{Marked}
 use Rattle.starts.proofs.Marking.{marked-none, marked-do, marked-other}
@@ -21,6 +20,7 @@ abbrev μ-loop : tie.MeasureT-loop
 loop-holds : tie.Need-loop-holds Inv-loop μ-loop
 loop-holds c =
     let b5 = c .before .before .before .before .before in
+    let b5 = b5 in
     let i = b5 .args in (
       omega arith,
       omega arith,
@@ -107,6 +107,7 @@ loop-less-2 c = omega arith
 loop-again-2 : tie.Need-loop-again-2 Inv-loop μ-loop
 loop-again-2 c =
     let b4 = c .before .before .before .before in
+    let b4 = b4 in
     let b10 = b4 .before .before .before .before .before .before in
     let i = b10 .args in
     let l = b4 .loop in
@@ -125,6 +126,7 @@ same-length c = c .before .loop .inv .2
 returns : tie.Need-returns Inv-loop μ-loop
 returns c =
     let b7 = c .before .before .before .before .before .before .before in
+    let b7 = b7 in
     let i = b7 .args in
     let l = c .before .loop in
     let z : l .p ≡ i .e = omega arith in
