@@ -1,6 +1,6 @@
 -- A placement's calls loop by loop: each loop's count times how often its own gaps are passed. So the calls of a list
 -- of gaps are those of the predicate that holds of its members.
--- Main definition: `priceOf`. Main statements: `calls-by-loops`, `list-calls`, `doubling`.
+-- Main definition: `priceOf`. Main statements: `calls-by-loops`, `same-calls`, `list-calls`, `doubling`.
 use mathlib.Core.Path.{_≡_, refl, sym, ap, _∙_}
 use mathlib.Core.Bool.{Bool, true, false}
 use mathlib.Core.List.{List, [], _∷_}
@@ -93,6 +93,21 @@ module _ (n : Nest) (shape : isShape (n .points) ≡ true) (ts : List ℕ) where
 
   pub calls-by-loops : (gs : List ℕ) → areGaps n gs ≡ true → callsOf n ts gs ≡ total (atLoop n ts gs) (endOf ps 0)
   calls-by-loops gs h = calls-from 0 gs h
+
+  -- placements with the same counts have the same calls (001: the same tree cost, the same dynamic count)
+  pub same-calls : (gs hs : List ℕ) → areGaps n gs ≡ true → areGaps n hs ≡ true →
+      ((l : ℕ) → isDo ps l ≡ true → loopCount n gs l ≡ loopCount n hs l) → callsOf n ts gs ≡ callsOf n ts hs
+  same-calls gs hs h k e =
+      calls-by-loops gs h ∙
+      total-same (atLoop n ts gs) (atLoop n ts hs) (endOf ps 0) (λ l i. at l) ∙
+      sym (calls-by-loops hs k)
+    where
+      at : (l : ℕ) → atLoop n ts gs l ≡ atLoop n ts hs l
+      at l =
+          ⊎-elim
+          (λ (z : isDo ps l ≡ true). ap (λ (k : ℕ). when (isDo ps l) (k * priceOf ps ts l)) (e l z))
+          (λ (z : isDo ps l ≡ false). rw z)
+          (test (isDo ps l))
 
   -- the calls of a list are those of its predicate
   pub list-calls : (gs : List ℕ) → areGaps n gs ≡ true →

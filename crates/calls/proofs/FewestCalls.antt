@@ -1,5 +1,5 @@
 -- 001, lemma 2, in the desk's words: under turns that fit, no correct placement has fewer barrier calls than the key.
--- Main statement: `fewest-calls`.
+-- Main statements: `fewest-calls`, `fewest-of-keys`.
 use mathlib.Core.Path.{_≡_, _∙_}
 use mathlib.Core.Bool.{true}
 use mathlib.Core.List.{List}
@@ -9,16 +9,19 @@ use Rattle.nests.specs.Nests.{Nest}
 use Rattle.nests.specs.Valid.{isShape, isValid}
 use Rattle.nests.proofs.Deps.{valid-is, deps-fit}
 use Rattle.placements.specs.Placements.{isCorrect}
+use Rattle.placements.specs.Keys.{IsKey}
 use Rattle.placements.proofs.Cuts.{correct-gaps, correct-cuts}
+use Rattle.placements.proofs.Keys.{keys-agree}
 use Rattle.planner.specs.Home.{loopsIn, keyIn}
 use Rattle.planner.proofs.Instance.{AllFit}
 use Rattle.exchange.proofs.Prices.{calls, calls-same}
 use Rattle.exchange.proofs.Fewest.{nest-fewest}
 use Rattle.keys.specs.KeyOf.{keyOf}
 use Rattle.keys.proofs.Predicates.{memberOf, list-cuts, same-count}
+use Rattle.keys.proofs.KeyIsKey.{key-is-key}
 use Rattle.keys.proofs.KeyGaps.{key-gaps, in-key}
 use Rattle.calls.specs.Calls.{callsOf, turnsFit}
-use Rattle.calls.proofs.ByLoops.{priceOf, list-calls, doubling}
+use Rattle.calls.proofs.ByLoops.{priceOf, same-calls, list-calls, doubling}
 
 module _ (n : Nest) (shape : isShape (n .points) ≡ true) (fit : AllFit (n .points) (n .deps)) (ts : List ℕ) where
   -- the key's calls are those of the placement that the planner lays
@@ -49,3 +52,15 @@ pub fewest-calls :
 fewest-calls n ts gs h turns c =
     let v = valid-is n h in
     fitting-calls n (v .shape) (deps-fit (n .points) (n .deps) (v .all-deps)) ts turns gs c
+
+-- and so of every key: all keys have the same counts
+pub fewest-of-keys :
+    (n : Nest) (ts ks gs : List ℕ) → isValid n ≡ true → turnsFit n ts ≡ true → IsKey n ks → isCorrect n gs ≡ true →
+    callsOf n ts ks ≤ callsOf n ts gs
+fewest-of-keys n ts ks gs h turns key c =
+    let shape = valid-is n h .shape in
+    let k = key-is-key n h in
+    let same : callsOf n ts ks ≡ callsOf n ts (keyOf n) =
+    same-calls n shape ts ks (keyOf n) (correct-gaps n ks (key .correct)) (correct-gaps n (keyOf n) (k .correct))
+    (keys-agree n shape ks (keyOf n) key k) in
+    omega (arith, fewest-calls n ts gs h turns c)
