@@ -1,0 +1,6 @@
+-- Timing sheets: fewer waits never end later, and no end falls below one processor's own work.
+pub mod Latest
+pub mod Sets
+pub mod FewerWaits
+pub mod OwnWork
+pub mod SheetCases

@@ -1,0 +1,2 @@
+-- Timing sheets.
+pub mod Sheets
