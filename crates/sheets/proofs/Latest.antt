@@ -51,14 +51,18 @@ latest-bound x f (suc n) m e =
     at true u = u
     at false u = omega arith
 
--- the same times give the same latest
-pub latest-same : (x : ℕ → Bool) (f h : ℕ → ℕ) (n : ℕ) → ((q : ℕ) → q < n → f q ≡ h q) → latest x f n ≡ latest x h n
+-- the same chosen and the same times give the same latest
+pub latest-same :
+    (x y : ℕ → Bool) (f h : ℕ → ℕ) (n : ℕ) → ((q : ℕ) → q < n → x q ≡ y q) → ((q : ℕ) → q < n → f q ≡ h q) →
+    latest x f n ≡ latest y h n
 unfolding latest
-latest-same x f h zero e = refl
-latest-same x f h (suc n) e =
+latest-same x y f h zero c e = refl
+latest-same x y f h (suc n) c e =
+    let chosen : x n ≡ y n = c n (omega arith) in
     let here : f n ≡ h n = e n (omega arith) in
-    let below : latest x f n ≡ latest x h n = latest-same x f h n (λ q l. e q (omega arith)) in
-    rw (here, below)
+    let below : latest x f n ≡ latest y h n =
+    latest-same x y f h n (λ q l. c q (omega arith)) (λ q l. e q (omega arith)) in
+    rw (chosen, here, below)
 
 -- all moved by c
 pub latest-plus :

@@ -4,3 +4,8 @@ pub mod Sets
 pub mod FewerWaits
 pub mod OwnWork
 pub mod SheetCases
+-- for the code: the checks, and times passed on
+pub mod Checking
+pub mod Passing
+pub mod Ending
+pub mod Replies

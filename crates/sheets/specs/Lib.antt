@@ -1,2 +1,3 @@
--- Timing sheets.
+-- Timing sheets, and what the call says of them.
 pub mod Sheets
+pub mod Says
