@@ -1,47 +1,56 @@
 -- `ends` meets its contract: each arm's reply is the definition's.
-use mathlib.Core.Path.{sym, _∙_}
+use mathlib.Core.Path.{_≡_, sym, _∙_}
+use mathlib.Core.Bool.{true}
 use borrow.Author.Needs.{needs}
-use Rattle.sheets.specs.Sheets.{sheet}
+use Rattle.sheets.specs.Sheets.{Sheet, sheet, isSized}
 use Rattle.sheets.proofs.Sets.{Sized, sized-is}
 use Rattle.sheets.proofs.Replies.{reply-19, reply-20, reply-ends}
 use Rattle.sheets.proofs.ends.Statement.{statement}
 use Rattle.sheets.proofs.ends.Tie as tie
 
+abbrev sheetAt : tie.Start → Sheet
+sheetAt s = sheet (s .args .processors) (s .args .phases) (s .args .durations .now) (s .args .waits .now)
+
+-- the sizes are found right
+abbrev called : tie.Then1 → tie.Start
+called c = c .before .before .before .before
+
+found : (c : tie.Then1) → isSized (sheetAt (called c)) ≡ true
+found c = sym (c .before .is-sized .ensures) ∙ c .if1 .taken
+
+sized : (c : tie.Then1) → Sized (sheetAt (called c))
+sized c = sized-is (sheetAt (called c)) (found c)
+
 is-sized-requires : tie.Need-is-sized-requires
 is-sized-requires c κs = search needs
 
 are-sets-requires : tie.Need-are-sets-requires
-are-sets-requires c κs =
-    let i = c .before .before .before .before .args in
-    let z : Sized (sheet (i .processors) (i .phases) (i .durations .now) (i .waits .now)) = sized-is (sheet (i .processors) (i .phases) (i .durations .now) (i .waits .now)) (sym (c .before .is-sized .ensures) ∙ c .if1 .taken) in
-    (z .some-processor, z .few-processors)
+are-sets-requires c κs = (sized c .some-processor, sized c .few-processors)
 
 end-waiting-requires : tie.Need-end-waiting-requires
-end-waiting-requires c κs = sym (c .before .before .before .is-sized .ensures) ∙ c .before .before .if1 .taken
+end-waiting-requires c κs = found (c .before .before)
 
 end-barriers-requires : tie.Need-end-barriers-requires
 end-barriers-requires c κs =
-    let i = c .before .before .before .before .before .before .before .args in
-    let z : Sized (sheet (i .processors) (i .phases) (i .durations .now) (i .waits .now)) = sized-is (sheet (i .processors) (i .phases) (i .durations .now) (i .waits .now)) (sym (c .before .before .before .before .is-sized .ensures) ∙ c .before .before .before .if1 .taken) in
+    let z = sized (c .before .before .before) in
     (z .few-phases, z .durations-are)
 
 returns : tie.Need-returns
 returns c =
-    let i = c .before .before .before .before .before .before .before .before .args in
-    reply-ends (sheet (i .processors) (i .phases) (i .durations .now) (i .waits .now)) (c .before .end-waiting .result) (c .end-barriers .result)
-    (sym (c .before .before .before .before .before .is-sized .ensures) ∙ c .before .before .before .before .if1 .taken) (sym (c .before .before .before .are-sets .ensures) ∙ c .before .before .if2 .taken)
-    (c .before .end-waiting .ensures) (c .end-barriers .ensures)
+    let t = c .before .before .before .before in
+    reply-ends (sheetAt (called t)) (c .before .end-waiting .result) (c .end-barriers .result) (found t)
+    (sym (c .before .before .before .are-sets .ensures) ∙ c .before .before .if2 .taken)
+    (c .before .end-waiting .ensures)
+    (c .end-barriers .ensures)
 
 returns-2 : tie.Need-returns-2
 returns-2 c =
-    let i = c .before .before .before .before .before .before .args in
-    reply-20 (sheet (i .processors) (i .phases) (i .durations .now) (i .waits .now)) (sym (c .before .before .before .is-sized .ensures) ∙ c .before .before .if1 .taken)
-    (sym (c .before .are-sets .ensures) ∙ c .if2 .left)
+    let t = c .before .before in
+    reply-20 (sheetAt (called t)) (found t) (sym (c .before .are-sets .ensures) ∙ c .if2 .left)
 
 returns-3 : tie.Need-returns-3
 returns-3 c =
-    let i = c .before .before .before .before .args in
-    reply-19 (sheet (i .processors) (i .phases) (i .durations .now) (i .waits .now)) (sym (c .before .is-sized .ensures) ∙ c .if1 .left)
+    reply-19 (sheetAt (c .before .before .before .before)) (sym (c .before .is-sized .ensures) ∙ c .if1 .left)
 
 pub ends-spec : {M : Type 1} → statement M
 ends-spec =

@@ -32,7 +32,9 @@ shared-slice-read-later : tie.Need-shared-slice-read-later Inv-loop μ-loop
 shared-slice-read-later c = omega arith
 
 cast-later : tie.Need-cast-later Inv-loop μ-loop
-cast-later c = omega (arith, c .shared-slice-known2 .given (c .before .before .before .before .args .from + c .before .before .loop .p))
+cast-later c =
+    let i = c .before .before .before .before .args in
+    omega (arith, c .shared-slice-known2 .given (i .from + c .before .before .loop .p))
 
 later-requires : tie.Need-later-requires Inv-loop μ-loop
 later-requires c κs = search needs

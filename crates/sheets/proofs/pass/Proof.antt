@@ -48,16 +48,19 @@ shared-slice-read-times : tie.Need-shared-slice-read-times Inv-loop μ-loop
 shared-slice-read-times c = omega arith
 
 cast-times : tie.Need-cast-times Inv-loop μ-loop
-cast-times c = omega (arith, c .shared-slice-known5 .given (c .before .before .before .before .before .before .before .before .before .args .from + c .before .before .before .before .loop .p))
+cast-times c =
+    let i = c .before .before .before .before .before .before .before .before .before .args in
+    omega (arith, c .shared-slice-known5 .given (i .from + c .before .before .before .before .loop .p))
 
 add-times-2 : tie.Need-add-times-2 Inv-loop μ-loop
 add-times-2 c =
     let i = c .before .before .before .before .before .before .before .before .before .args in
+    let p = c .before .before .before .before .loop .p in
     omega (
       arith,
       c .before .latest-of .ensures,
-      c .shared-slice-known5 .given (i .from + c .before .before .before .before .loop .p),
-      latest-bound (bit (getD (i .waits .now) (i .asked + c .before .before .before .before .loop .p) 0)) (timeAt (i .earlier .now)) (i .processors)
+      c .shared-slice-known5 .given (i .from + p),
+      latest-bound (bit (getD (i .waits .now) (i .asked + p) 0)) (timeAt (i .earlier .now)) (i .processors)
           (PHASES * LONGEST) (c .before .before .before .before .before .before .before .before .before .pre .low),
     )
 
