@@ -10,7 +10,7 @@ use Rattle.nests.specs.Kinds.{POINTS, DEPTH}
 use Rattle.nests.specs.Nests.{Nest}
 use Rattle.nests.specs.Loops.{isDo, endOf}
 
--- 02, job 11: turns from 2 to 16, of the outermost loop from 1
+-- turns from 2 to 16, of the outermost loop from 1
 abbrev pub TURNS : ℕ
 TURNS = 16
 
@@ -25,7 +25,7 @@ unfoldable pub dosBefore : List ℕ → ℕ → ℕ
 dosBefore ps zero = 0
 dosBefore ps (suc k) = when (isDo ps k) 1 + dosBefore ps k
 
--- 02, job 11: a number of turns for each loop, in order of DO
+-- a number of turns for each loop, in order of DO
 abbrev pub turnsOf : List ℕ → List ℕ → ℕ → ℕ
 turnsOf ps ts d = getD ts (dosBefore ps d) 1
 
@@ -36,11 +36,11 @@ timesFrom ps ts (suc d) g =
     let r = timesFrom ps ts d g in
     pick (isDo ps d && leb g (endOf ps d)) (turnsOf ps ts d * r) r
 
--- 02, job 11: how often a barrier at gap g is called, the product of the turns of the loops around it
+-- how often a barrier at gap g is called, the product of the turns of the loops around it
 abbrev pub timesAt : List ℕ → List ℕ → ℕ → ℕ
 timesAt ps ts g = timesFrom ps ts g g
 
--- 02, job 11: a placement's barrier calls
+-- a placement's barrier calls
 unfoldable pub callsOf : Nest → List ℕ → List ℕ → ℕ
 callsOf n ts [] = 0
 callsOf n ts (g ∷ gs) = timesAt (n .points) ts g + callsOf n ts gs
@@ -54,6 +54,6 @@ abbrev pub areTurns : ℕ → ℕ → List ℕ → Bool
 areTurns first inner [] = true
 areTurns first inner (t ∷ ts) = between first t TURNS && areTurns inner inner ts
 
--- 02, job 11: as many turns as there are loops
+-- as many turns as there are loops
 abbrev pub turnsFit : Nest → List ℕ → Bool
 turnsFit n ts = eqb (length ts) (dosBefore (n .points) (length (n .points))) && areTurns OUTER INNER ts

@@ -31,6 +31,7 @@ pub record IsCounted (n : DN.Nest) : Type 0 where
 -- r is an empty nest
 pub record IsEmpty (r : DN.Nest) : Type 0 where
   pub nest-is : nestIn r ≡ empty
+  pub no-points : r .count ≡ 0
   pub no-deps : r .many ≡ 0
   pub long : length (r .deps) ≡ DEPENDENCES
   pub counted : IsCounted r

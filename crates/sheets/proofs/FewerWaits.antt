@@ -1,4 +1,4 @@
--- 02, job 14: with the same durations, sets of waits that each lie within the matching set of another sheet never end
+-- with the same durations, sets of waits that each lie within the matching set of another sheet never end
 -- later than it; so removing waits never costs time, and no sheet ends later than with all barriers kept. Phase by
 -- phase no finish time is later.
 -- Main statements: `finish-le`, `fewer-waits`, `barriers-last`.

@@ -1,4 +1,4 @@
--- 02, job 14: neither end falls below the largest sum of one processor's durations. A processor that waits for itself
+-- neither end falls below the largest sum of one processor's durations. A processor that waits for itself
 -- finishes each phase its own duration after the phase before at the earliest.
 -- Main statements: `work-finish`, `own-work`.
 use mathlib.Core.Path.{_≡_, refl, ap}

@@ -11,7 +11,7 @@ use Rattle.sheets.specs.declared.RunEnds as DE
 use Rattle.sheets.specs.Sheets.{PROCESSORS, PHASES, Sheet, anyone, latest, endWaiting, endBarriers}
 use Rattle.sheets.specs.Sheets.{sheetFault}
 
--- 02, job 14: the end of the run in both cases; a sheet at fault gets its number and zeros
+-- the end of the run in both cases; a sheet at fault gets its number and zeros
 abbrev pub endsOf : Sheet → DE.RunEnds
 endsOf s =
     record {
@@ -21,7 +21,7 @@ endsOf s =
       barriers = when (eqb (sheetFault s) 0) (endBarriers s);
     }
 
--- 02, job 14: the longest duration
+-- the longest duration
 abbrev pub LONGEST : ℕ
 LONGEST = 65535
 

@@ -10,14 +10,14 @@ use lib.ListN.{length, getD}
 use Rattle.laws.specs.Choice.{pick, when, firstOf, between}
 use Rattle.laws.specs.Bits.{bit}
 
--- 02, job 14: 1 to 16 processors and 1 to 64 phases
+-- 1 to 16 processors and 1 to 64 phases
 abbrev pub PROCESSORS : ℕ
 PROCESSORS = 16
 
 abbrev pub PHASES : ℕ
 PHASES = 64
 
--- 02, job 14: durations, and for each phase after the first sets of processors, the lowest bit for processor 0; both
+-- durations, and for each phase after the first sets of processors, the lowest bit for processor 0; both
 -- phase by phase, processors rising in each
 pub record Sheet : Type 0 where
   pub processors : ℕ
@@ -39,7 +39,7 @@ Waits = ℕ → ℕ → ℕ → Bool
 abbrev pub waitsOf : Sheet → Waits
 waitsOf s k p q = bit (getD (s .waits) (k * s .processors + p) 0) q
 
--- 02, job 14: with all barriers kept, everyone waits for everyone
+-- with all barriers kept, everyone waits for everyone
 abbrev pub everyone : Waits
 everyone k p q = true
 
@@ -48,7 +48,7 @@ unfoldable pub latest : (ℕ → Bool) → (ℕ → ℕ) → ℕ → ℕ
 latest chosen time zero = 0
 latest chosen time (suc q) = max (latest chosen time q) (when (chosen q) (time q))
 
--- 02, job 14: finish times, in the first phase the duration, then the latest of those waited for in the phase before
+-- finish times, in the first phase the duration, then the latest of those waited for in the phase before
 -- plus the duration
 unfoldable pub finishBy : Waits → Sheet → ℕ → ℕ → ℕ
 finishBy w s zero p = durationAt s 0 p
@@ -70,7 +70,7 @@ endWaiting s = endBy (waitsOf s) s
 abbrev pub endBarriers : Sheet → ℕ
 endBarriers s = endBy everyone s
 
--- 02, job 14: each set lies within the matching set of the other list
+-- each set lies within the matching set of the other list
 abbrev pub IsWithin : List ℕ → List ℕ → Type 0
 IsWithin ws vs = (i q : ℕ) → bit (getD ws i 0) q ≡ true → bit (getD vs i 0) q ≡ true
 
@@ -85,7 +85,7 @@ workOf s = workBefore s (s .phases)
 abbrev pub mostWork : Sheet → ℕ
 mostWork s = latest anyone (workOf s) (s .processors)
 
--- 02, job 14, 19: counts in their ranges, and both lists as long as they say
+-- number 19: counts in their ranges, and both lists as long as they say
 abbrev pub isSized : Sheet → Bool
 isSized s =
     between 1 (s .processors) PROCESSORS &&
@@ -93,7 +93,7 @@ isSized s =
     (eqb (length (s .durations)) (s .phases * s .processors) &&
     eqb (length (s .waits)) ((s .phases - 1) * s .processors)))
 
--- 02, job 14, 20: of m processors, p's set has p and none that does not exist
+-- number 20: of m processors, p's set has p and none that does not exist
 abbrev pub isSet : ℕ → ℕ → ℕ → Bool
 isSet m p v = bit v p && ltb v (2 ^ m)
 
