@@ -1,7 +1,7 @@
 -- The gaps of a dependence, by whether the loop that carries it is around the gap.
 -- Main statements: `line-has`, `line-before`, `ring-around`, `ring-within`, `ring-front`, `ring-out`.
-use mathlib.Core.Path.{_≡_, sym}
-use mathlib.Core.Bool.{Bool, true, false}
+use mathlib.Core.Path.{_≡_, sym, ap, _∙_}
+use mathlib.Core.Bool.{Bool, true, false, _&&_}
 use mathlib.Core.List.{List}
 use Prim.Native.Nat.{ℕ, suc, _≤_, _<_}
 use native.Mathlib.Omega.{arith}
@@ -17,7 +17,7 @@ use Rattle.nests.specs.Gaps.{hasGap}
 
 module _ (ps : List ℕ) (e : Dep) (g : ℕ) where
   pub line-has : e .kind ≡ INDEPENDENT → e .s < g → leb g (e .t) ≡ hasGap ps e g
-  line-has k h = rw (k, le-leb (suc (e .s)) g h)
+  line-has k h = ap (λ (b : Bool). b && leb g (e .t)) (sym (le-leb (suc (e .s)) g h)) ∙ rw k
 
   pub line-before : e .kind ≡ INDEPENDENT → g ≤ e .s → false ≡ hasGap ps e g
   line-before k h = rw (k, lt-leb (suc (e .s)) g (omega arith))

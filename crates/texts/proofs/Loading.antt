@@ -1,6 +1,6 @@
 -- Nest texts read line by line: what a turn of the reader keeps, and one law for each way through a turn.
--- Main statements: `at-blank`, `begun`, `at-end`, `at-refusal`; of a turn that comes to a frame (`Turn`) `at-fault`,
--- `not-refused`, `room-for-point`, `room-for-dependence`, `on-point`, `on-dependence`.
+-- Main statements: `at-blank`, `begun`, `at-end`, `at-refusal`; of a turn that comes to a frame (`Turn`)
+-- `at-unknown`, `at-point`, `at-dependence`, `room-for-point`, `room-for-dependence`, `on-point`, `on-dependence`.
 use mathlib.Core.Path.{_≡_, refl, sym, _∙_, ap}
 use mathlib.Core.Bool.{Bool, true, false, _&&_, not}
 use mathlib.Core.List.{List, [], _∷_}
@@ -32,7 +32,7 @@ use Rattle.texts.specs.declared.Piece.the-variants as PV
 use Rattle.texts.specs.Pieces.{Told, pieceOf, isPast, pointFault, dependenceFault, toldFault, withTold}
 use Rattle.texts.specs.NestTexts.{frameFault, withFrame, lineFault, Got, got, readLines, readNest}
 use Rattle.texts.specs.Reads.{IsRead, RefusedAs, EndedAs, HasNumbers, closedBy, misplacedBy, tooManyBy}
-use Rattle.texts.specs.Reads.{KnowsEnds, toldIn, IsPiece, PieceFault}
+use Rattle.texts.specs.Reads.{KnowsEnds, toldIn, IsPiece, PointFault, DependenceFault}
 use Rattle.texts.proofs.BlankPaper.{lines-read}
 use Rattle.texts.proofs.Shapes.{depth-more}
 use Rattle.texts.proofs.Faults.{bad-first, good-first}
@@ -100,6 +100,7 @@ module _ (k : ℕ) (n : Nest) (l : Line) (ls : List Line) where
 -- does
 pub record Loading (s : List ℕ) (n : DN.Nest) (ends : List ℕ) (deep at line : ℕ) : Type 0 where
   pub counted : IsCounted n
+  pub wide : length (n .points) ≡ POINTS
   pub long : length (n .deps) ≡ DEPENDENCES
   pub deep-is : deep ≡ depth (nestIn n .points)
   pub knows : KnowsEnds (nestIn n .points) deep ends
@@ -123,11 +124,13 @@ pub begun
     : (s : List ℕ) (n : DN.Nest) (ends : List ℕ)
     → 0 < length s
     → IsEmpty n
+    → length (n .points) ≡ POINTS
     → length ends ≡ POINTS
     → Loading s n ends 0 0 1
-begun s n ends some e l =
+begun s n ends some e w l =
     record {
       counted = e .counted;
+      wide = w;
       long = e .long;
       knows =
           record {
@@ -146,8 +149,10 @@ module _
     abbrev ps : List ℕ
     ps = take (n .count) (n .points)
 
-    numbers : HasNumbers (nestIn n) (length ps) (n .many) deep
-    numbers = record { count-is = refl; many-is = sym (p .counted .many-is); depth-is = sym (p .deep-is) }
+    numbers : HasNumbers (nestIn n) (n .count) (n .many) deep
+    numbers =
+        let c = p .counted in
+        record { count-is = sym (c .count-is); many-is = sym (c .many-is); depth-is = sym (p .deep-is) }
 
     -- the points that are counted are there
     pub count-inside : n .count ≤ length (n .points)
@@ -184,14 +189,11 @@ module _
           counted = e .counted;
         }
 
--- a turn that comes to a frame: the nest so far, the frame of a good line, the piece that it tells, and its refusal
-pub record Turn
-    (s : List ℕ) (n : DN.Nest) (ends : List ℕ) (deep at line : ℕ) (f : Frame) (x : DP.Piece) (e : ℕ)
-    : Type 0 where
+-- a turn that comes to a frame: the nest so far, the frame of a good line, and the piece that it tells
+pub record Turn (s : List ℕ) (n : DN.Nest) (ends : List ℕ) (deep at line : ℕ) (f : Frame) (x : DP.Piece) : Type 0 where
   pub so-far : Loading s n ends deep at line
   pub frame-is : lineAt s at ≡ RV.Frame f
   pub piece-is : IsPiece f x
-  pub fault-is : PieceFault (take (n .count) (n .points)) (n .many) deep x e
 
 module _
     {s : List ℕ}
@@ -200,8 +202,7 @@ module _
     {deep at line : ℕ}
     {f : Frame}
     {x : DP.Piece}
-    {e : ℕ}
-    (turn : Turn s n ends deep at line f x e)
+    (turn : Turn s n ends deep at line f x)
   where
     abbrev p : Loading s n ends deep at line
     p = turn .so-far
@@ -212,21 +213,20 @@ module _
     tells : toldIn x ≡ pieceOf (frameOf (good .first .bytes))
     tells = turn .piece-is (frameOf (good .first .bytes)) (good .frame-is)
 
-    fault-told : e ≡ toldFault (nestIn n) (toldIn x)
-    fault-told = turn .fault-is (nestIn n) refl (numbers s n ends deep at line p)
+    line-fault : lineFault (nestIn n) (good .first) ≡ toldFault (nestIn n) (toldIn x)
+    line-fault = fault-good (nestIn n) (good .first) (good .good) ∙ ap (toldFault (nestIn n)) (sym tells)
 
-    line-fault : lineFault (nestIn n) (good .first) ≡ e
-    line-fault =
-        fault-good (nestIn n) (good .first) (good .good)
-        ∙ ap (toldFault (nestIn n)) (sym tells)
-        ∙ sym fault-told
-
-    pub at-fault : (r : Reading) → (e ≡ 0 → ⊥) → RefusedAs e line r → IsRead s r
-    at-fault r z q =
+    at-fault
+        : (e : ℕ) (r : Reading)
+        → e ≡ toldFault (nestIn n) (toldIn x)
+        → (e ≡ 0 → ⊥)
+        → RefusedAs e line r
+        → IsRead s r
+    at-fault e r h z q =
         record {
           got-is =
               q .got-is
-              ∙ sym (read-stop line (nestIn n) (good .first) (linesOf (drop (f .next) s)) e line-fault z)
+              ∙ sym (read-stop line (nestIn n) (good .first) (linesOf (drop (f .next) s)) e (line-fault ∙ sym h) z)
               ∙ ap (readLines line (nestIn n)) (sym (good .lines))
               ∙ p .rest;
           counted = q .counted;
@@ -238,16 +238,18 @@ module _
     -- the nest with what the frame tells
     on
         : (m : DN.Nest) (ends′ : List ℕ) (d : ℕ)
-        → e ≡ 0
+        → toldFault (nestIn n) (toldIn x) ≡ 0
         → nestIn m ≡ withTold (nestIn n) (toldIn x)
         → IsCounted m
+        → length (m .points) ≡ POINTS
         → length (m .deps) ≡ DEPENDENCES
         → d ≡ depth (nestIn m .points)
         → KnowsEnds (nestIn m .points) d ends′
         → Loading s m ends′ d (f .next) (line + 1)
-    on m ends′ d z added c l w t =
+    on m ends′ d z added c v l w t =
         record {
           counted = c;
+          wide = v;
           long = l;
           deep-is = w;
           knows = t;
@@ -262,34 +264,39 @@ module _
               ∙ p .rest;
         }
 
-    -- what is not known has a fault
-    pub not-refused : x ≡ PV.Refused → e ≡ 0 → ⊥
-    not-refused is z =
-        let two : toldFault (nestIn n) (toldIn x) ≡ 2 = rw is in
-        omega (arith, fault-told)
+    -- what is not known
+    pub at-unknown : (r : Reading) → x ≡ PV.Refused → RefusedAs 2 line r → IsRead s r
+    at-unknown r is = at-fault 2 r (rw is) (omega arith)
 
-    -- a point more
-    module _ (k : ℕ) (is : x ≡ PV.Point k) (z : e ≡ 0) where
-      pub room-for-point : n .count < POINTS
-      room-for-point =
-          let none : toldFault (nestIn n) (toldIn x) ≡ 0 = sym fault-told ∙ z in
+    -- a point, with its refusal e
+    module _ (k e : ℕ) (is : x ≡ PV.Point k) (fault : PointFault (n .count) (n .many) deep k e) where
+      point-told : e ≡ toldFault (nestIn n) (toldIn x)
+      point-told = fault (nestIn n) (numbers s n ends deep at line p) ∙ rw is
+
+      pub at-point : (r : Reading) → (e ≡ 0 → ⊥) → RefusedAs e line r → IsRead s r
+      at-point r = at-fault e r point-told
+
+      pub room-for-point : e ≡ 0 → n .count < POINTS
+      room-for-point z =
+          let none : toldFault (nestIn n) (toldIn x) ≡ 0 = sym point-told ∙ z in
           omega (arith, p .counted .count-is, point-room (nestIn n) k (rw is at none))
 
       pub on-point
           : (ends′ : List ℕ) (d : ℕ)
-          → length (n .points) ≡ POINTS
+          → e ≡ 0
           → d ≡ deeper deep k
           → KnowsEnds (take (n .count + 1) (set (n .points) (n .count) k)) d ends′
           → Loading s (stored.with-point n (p .counted) k) ends′ d (f .next) (line + 1)
-      on-point ends′ d l w t =
-          let q = stored.point-added n (p .counted) k room-for-point l in
+      on-point ends′ d z w t =
+          let q = stored.point-added n (p .counted) k (room-for-point z) (p .wide) in
           on
           (stored.with-point n (p .counted) k)
           ends′
           d
-          z
+          (sym point-told ∙ z)
           (q .nest-is ∙ ap (λ (y : DP.Piece). withTold (nestIn n) (toldIn y)) (sym is))
           (q .counted)
+          (length-set (n .points) (n .count) k ∙ p .wide)
           (p .long)
           (w
           ∙ ap (λ (y : ℕ). deeper y k) (p .deep-is)
@@ -297,23 +304,38 @@ module _
           ∙ ap (λ (y : Nest). depth (y .points)) (sym (q .nest-is)))
           t
 
-    -- a dependence more
-    module _ (g : Dependence) (is : x ≡ PV.Dependence g) (z : e ≡ 0) where
-      pub room-for-dependence : n .many < DEPENDENCES
-      room-for-dependence =
-          let none : toldFault (nestIn n) (toldIn x) ≡ 0 = sym fault-told ∙ z in
-          omega (arith, p .counted .many-is, dependence-room (nestIn n) (depIn g) (rw is at none))
+    -- a dependence, with its refusal e
+    module _
+        (g : Dependence)
+        (e : ℕ)
+        (is : x ≡ PV.Dependence g)
+        (fault : DependenceFault (take (n .count) (n .points)) (n .many) deep g e)
+      where
+        dependence-told : e ≡ toldFault (nestIn n) (toldIn x)
+        dependence-told =
+            let h = numbers s n ends deep at line p in
+            fault (nestIn n) refl (record { count-is = refl; many-is = h .many-is; depth-is = h .depth-is }) ∙ rw is
 
-      pub on-dependence : Loading s (stored.with-dependence n (p .counted) g) ends deep (f .next) (line + 1)
-      on-dependence =
-          let q = stored.dependence-added n (p .counted) g room-for-dependence (p .long) in
-          on
-          (stored.with-dependence n (p .counted) g)
-          ends
-          deep
-          z
-          (q .nest-is ∙ ap (λ (y : DP.Piece). withTold (nestIn n) (toldIn y)) (sym is))
-          (q .counted)
-          (length-set (n .deps) (n .many) g ∙ p .long)
-          (p .deep-is)
-          (p .knows)
+        pub at-dependence : (r : Reading) → (e ≡ 0 → ⊥) → RefusedAs e line r → IsRead s r
+        at-dependence r = at-fault e r dependence-told
+
+        pub room-for-dependence : e ≡ 0 → n .many < DEPENDENCES
+        room-for-dependence z =
+            let none : toldFault (nestIn n) (toldIn x) ≡ 0 = sym dependence-told ∙ z in
+            omega (arith, p .counted .many-is, dependence-room (nestIn n) (depIn g) (rw is at none))
+
+        pub on-dependence
+            : e ≡ 0 → Loading s (stored.with-dependence n (p .counted) g) ends deep (f .next) (line + 1)
+        on-dependence z =
+            let q = stored.dependence-added n (p .counted) g (room-for-dependence z) (p .long) in
+            on
+            (stored.with-dependence n (p .counted) g)
+            ends
+            deep
+            (sym dependence-told ∙ z)
+            (q .nest-is ∙ ap (λ (y : DP.Piece). withTold (nestIn n) (toldIn y)) (sym is))
+            (q .counted)
+            (p .wide)
+            (length-set (n .deps) (n .many) g ∙ p .long)
+            (p .deep-is)
+            (p .knows)

@@ -1,6 +1,6 @@
 -- What the readers of whole texts promise, and what their steps promise of the nest so far.
 -- Main definitions: `IsRead`, `IsPlaced`, `HasNumbers`, `KnowsEnds`, `toldIn`, `IsPiece`,
--- `PointFault`, `DependenceFault`, `PieceFault`.
+-- `PointFault`, `DependenceFault`.
 use mathlib.Core.Path.{_≡_}
 use mathlib.Core.Bool.{Bool, _&&_, _||_, not}
 use mathlib.Core.List.{List, []}
@@ -22,7 +22,7 @@ use Rattle.texts.specs.declared.PlacementReading.{PlacementReading}
 use Rattle.texts.specs.declared.Piece as DP
 use Rattle.texts.specs.declared.Piece.the-variants as PV
 use Rattle.texts.specs.Pieces.{Point, Depend, Told, told, unknown, pieceOf}
-use Rattle.texts.specs.Pieces.{pointFault, dependenceFault, toldFault}
+use Rattle.texts.specs.Pieces.{pointFault, dependenceFault}
 use Rattle.texts.specs.NestTexts.{got, readNest}
 use Rattle.texts.specs.PlacementTexts.{barrierFault, placed, readPlacement}
 
@@ -73,17 +73,13 @@ toldIn PV.Refused = unknown
 abbrev pub IsPiece : Frame → DP.Piece → Type 0
 IsPiece f x = (l : List ℕ) → IsFrame f l → toldIn x ≡ pieceOf l
 
--- r is the refusal of a point, a dependence, a piece, in each nest with these numbers
+-- r is the refusal of a point, a dependence, in each nest with these numbers
 abbrev pub PointFault : ℕ → ℕ → ℕ → ℕ → ℕ → Type 0
 PointFault count many deep kind r = (n : Nest) → HasNumbers n count many deep → r ≡ pointFault n kind
 
 abbrev pub DependenceFault : List ℕ → ℕ → ℕ → Dependence → ℕ → Type 0
 DependenceFault ps many deep e r =
     (n : Nest) → n .points ≡ ps → HasNumbers n (length ps) many deep → r ≡ dependenceFault n (depIn e)
-
-abbrev pub PieceFault : List ℕ → ℕ → ℕ → DP.Piece → ℕ → Type 0
-PieceFault ps many deep x r =
-    (n : Nest) → n .points ≡ ps → HasNumbers n (length ps) many deep → r ≡ toldFault n (toldIn x)
 
 -- the reading of a placement text: its number and line, and the gaps, of which there is none where the text is refused
 pub record IsPlaced (n : ℕ) (s : List ℕ) (r : PlacementReading) : Type 0 where

@@ -9,7 +9,7 @@ ghost use Rattle.nests.specs.Loops.{HasEnds};
 ghost use Rattle.nests.specs.Valid.{isShape};
 ghost use Rattle.nests.specs.Stored.{IsCounted};
 ghost use Rattle.texts.specs.Reads.{IsRead, RefusedAs, EndedAs, closedBy, misplacedBy, tooManyBy, PointFault};
-ghost use Rattle.texts.specs.Reads.{KnowsEnds, DependenceFault, IsPiece, PieceFault};
+ghost use Rattle.texts.specs.Reads.{KnowsEnds, IsPiece, DependenceFault};
 ghost use Rattle.lines.specs.Writing.{over};
 ghost use Rattle.placements.specs.Placements.{areGapsFrom};
 ghost use Rattle.placements.specs.Words.{GAPS, gapsIn};
@@ -78,17 +78,17 @@ pub fn read_nest(text: &[u8]) -> Reading
             Read::End => return ended(nest, depth, line),
             Read::Refused(number) => return refused(number, line),
             Read::Frame(f) => {
-                let piece = piece_of(f);
-                let count = nest.count;
-                let many = nest.many;
-                let number = piece_fault(&nest.points, &ends, count, many, depth, piece);
-                if number != 0 {
-                    return refused(number, line);
-                }
+                let here = line;
                 at = f.next;
                 line += 1;
+                let piece = piece_of(f);
                 match piece {
                     Piece::Point(kind) => {
+                        let count = nest.count;
+                        let number = point_fault(count, nest.many, depth, kind);
+                        if number != 0 {
+                            return refused(number, here);
+                        }
                         nest.points[count] = kind;
                         nest.count = count + 1;
                         depth = deeper(depth, kind);
@@ -97,10 +97,22 @@ pub fn read_nest(text: &[u8]) -> Reading
                         }
                     }
                     Piece::Dependence(e) => {
+                        let many = nest.many;
+                        let number = dependence_fault(
+                            &nest.points,
+                            &ends,
+                            nest.count,
+                            many,
+                            depth,
+                            e,
+                        );
+                        if number != 0 {
+                            return refused(number, here);
+                        }
                         nest.deps[many] = e;
                         nest.many = many + 1;
                     }
-                    Piece::Refused => return refused(2, line),
+                    Piece::Refused => return refused(2, here),
                 }
             }
         }
@@ -251,29 +263,6 @@ fn piece_of(f: Frame) -> Piece
     }
 }
 
-// The refusal of a piece after the first points, 2 to 7, or 0 for none.
-fn piece_fault(
-    all: &[u8],
-    ends: &[usize],
-    count: usize,
-    many: usize,
-    depth: usize,
-    piece: Piece,
-) -> u8
-    requires { ⌜ count ≤ length (now all) ⌝ }
-    requires { ⌜ KnowsEnds (take count (now all)) depth (now ends) ⌝ }
-    ensures { λ r. ⌜ PieceFault (take count (now (all .entry))) many depth piece r ⌝ }
-{
-    match piece {
-        Piece::Point(kind) => point_fault(count, many, depth, kind),
-        Piece::Dependence(e) => {
-            let points = &all[..count];
-            dependence_fault(points, ends, many, depth, e)
-        }
-        Piece::Refused => 2,
-    }
-}
-
 // The refusal of a point, 3, 4 or 5, or 0 for none.
 fn point_fault(count: usize, many: usize, depth: usize, kind: u8) -> u8
     ensures { λ r. ⌜ PointFault count many depth kind r ⌝ }
@@ -290,15 +279,24 @@ fn point_fault(count: usize, many: usize, depth: usize, kind: u8) -> u8
     0
 }
 
-// The refusal of a dependence, 4 to 7, or 0 for none.
-fn dependence_fault(points: &[u8], ends: &[usize], many: usize, depth: usize, e: Dependence) -> u8
-    requires { ⌜ KnowsEnds (now points) depth (now ends) ⌝ }
-    ensures { λ r. ⌜ DependenceFault (now (points .entry)) many depth e r ⌝ }
+// The refusal of a dependence after the first points, 4 to 7, or 0 for none.
+fn dependence_fault(
+    all: &[u8],
+    ends: &[usize],
+    count: usize,
+    many: usize,
+    depth: usize,
+    e: Dependence,
+) -> u8
+    requires { ⌜ count ≤ length (now all) ⌝ }
+    requires { ⌜ KnowsEnds (take count (now all)) depth (now ends) ⌝ }
+    ensures { λ r. ⌜ DependenceFault (take count (now (all .entry))) many depth e r ⌝ }
 {
-    if is_closed(points.len(), depth) {
+    if is_closed(count, depth) {
         if Nest::DEPENDENCES <= many {
             return 5;
         }
+        let points = &all[..count];
         return dep_fault(points, ends[e.d as usize], e);
     }
     4

@@ -1,14 +1,14 @@
 -- An empty text is the blank paper; else each turn reads one line: it keeps the nest so far, or is the text's refusal,
 -- or its end.
-use mathlib.Core.Path.{_≡_, refl, sym, _∙_}
+use mathlib.Core.Path.{refl, sym, _∙_}
 use Prim.Native.Nat.{_-_, _<_}
 use native.Mathlib.Omega.{arith}
 use lib.ListN.{length, length-set}
 use borrow.Author.Needs.{needs}
 use Rattle.nests.specs.Kinds.{POINTS, DEPENDENCES}
 use Rattle.texts.proofs.Loading.{Loading, Turn, at-blank, begun, count-inside, deep-fits, at-end, at-refusal}
-use Rattle.texts.proofs.Loading.{at-fault, not-refused, room-for-point, room-for-dependence, next-inside}
-use Rattle.texts.proofs.Loading.{on-point, on-dependence}
+use Rattle.texts.proofs.Loading.{at-unknown, at-point, at-dependence, room-for-point, room-for-dependence}
+use Rattle.texts.proofs.Loading.{next-inside, on-point, on-dependence}
 use Rattle.texts.proofs.read_nest.Statement.{statement}
 use Rattle.texts.proofs.read_nest.Tie as tie
 
@@ -30,7 +30,7 @@ empty-requires c κs = tt
 loop-holds : tie.Need-loop-holds Inv-loop μ-loop
 loop-holds c =
     let s = c .before .before .before in
-    begun (s .args .text .now) (c .empty .result) _ (omega arith) (c .empty .ensures) refl
+    begun (s .args .text .now) (c .empty .result) _ (omega arith) (c .empty .ensures) (search needs) refl
 
 read-line-requires : tie.Need-read-line-requires Inv-loop μ-loop
 read-line-requires c κs = tt
@@ -86,73 +86,63 @@ returns-3 c =
 enum-known-next-2 : tie.Need-enum-known-next-2 Inv-loop μ-loop
 enum-known-next-2 c = c .match .keys3
 
+add-line : tie.Need-add-line Inv-loop μ-loop
+add-line c =
+    let l = c .before .before .before .before .loop in
+    let s = c .before .before .before .before .before .before .before .before in
+    omega (arith, l .inv .inside, l .inv .lines, s .good .0)
+
 piece-of-requires : tie.Need-piece-of-requires Inv-loop μ-loop
 piece-of-requires c κs = tt
 
-slice-aggregate-piece-fault : tie.Need-slice-aggregate-piece-fault Inv-loop μ-loop
-slice-aggregate-piece-fault c =
-    sym (c .before .before .before .before .before .before .before .before .before .loop .inv .knows .long)
+-- the head of the loop before what a frame tells
+abbrev head : tie.After-piece-of Inv-loop μ-loop → tie.At-loop Inv-loop μ-loop
+head k = k .before .before .before .before .before
 
-piece-fault-requires : tie.Need-piece-fault-requires Inv-loop μ-loop
-piece-fault-requires c κs =
-    let a = c .before .before .before .before .before .before .before .before .before in
-    let l = a .loop in
-    let s = a .before .before .before .before in (
-      count-inside (s .args .text .now) (l .nest) (l .ends) (l .depth) (l .at) (l .line) (l .inv),
-      l .inv .knows,
-    )
-
--- before a frame's refusal: the head of the loop, and the piece that the frame tells; before a point and a dependence
--- are stored: the refusal
-abbrev head : tie.After-piece-fault Inv-loop μ-loop → tie.At-loop Inv-loop μ-loop
-head k = k .before .before .before .before .before .before .before .before .before .before
-
-abbrev told : tie.After-piece-fault Inv-loop μ-loop → tie.After-piece-of Inv-loop μ-loop
-told k = k .before .before .before .before .before
-
-abbrev told-point : tie.After-known-told3 Inv-loop μ-loop → tie.After-piece-fault Inv-loop μ-loop
-told-point c = c .before .before .before .before
-
-abbrev told-dependence : tie.After-known-told4 Inv-loop μ-loop → tie.After-piece-fault Inv-loop μ-loop
-told-dependence c = c .before .before .before .before
-
--- the frame of a good line, with its piece and its refusal
+-- the frame of a good line, with the piece that it tells
 turn
-    : (k : tie.After-piece-fault Inv-loop μ-loop)
+    : (k : tie.After-piece-of Inv-loop μ-loop)
     → let l = head k .loop in
     let s = head k .before .before .before .before in
-    let f = told k .before .before .next2 .given .0 .0 in
-    let x = told k .piece-of .result in
-    Turn (s .args .text .now) (l .nest) (l .ends) (l .depth) (l .at) (l .line) f x (k .piece-fault .result)
+    let f = k .before .before .next2 .given .0 .0 in
+    Turn (s .args .text .now) (l .nest) (l .ends) (l .depth) (l .at) (l .line) f (k .piece-of .result)
 turn k =
-    let r = told k .before .before .before .before in
+    let r = k .before .before .before .before in
     record {
       so-far = head k .loop .inv;
-      frame-is = sym (r .read-line .ensures) ∙ told k .before .before .next2 .given .1;
-      piece-is = told k .piece-of .ensures;
-      fault-is = k .piece-fault .ensures;
+      frame-is = sym (r .read-line .ensures) ∙ k .before .before .next2 .given .1;
+      piece-is = k .piece-of .ensures;
     }
+
+-- what is told before the refusal of a point, of a dependence
+abbrev point : tie.After-point-fault Inv-loop μ-loop → tie.After-piece-of Inv-loop μ-loop
+point q = q .before .before .before .before
+
+abbrev dependence : tie.After-dependence-fault Inv-loop μ-loop → tie.After-piece-of Inv-loop μ-loop
+dependence q = q .before .before .before .before .before .before .before .before
+
+enum-known-piece : tie.Need-enum-known-piece Inv-loop μ-loop
+enum-known-piece c = c .match2 .keys1
+
+point-fault-requires : tie.Need-point-fault-requires Inv-loop μ-loop
+point-fault-requires c κs = tt
 
 refused-requires-2 : tie.Need-refused-requires-2 Inv-loop μ-loop
 refused-requires-2 c κs = tt
 
 returns-4 : tie.Need-returns-4 Inv-loop μ-loop
-returns-4 c = at-fault (turn (c .before .before)) (c .refused2 .result) (c .before .if2 .taken) (c .refused2 .ensures)
-
-add-line : tie.Need-add-line Inv-loop μ-loop
-add-line c =
-    let l = head (c .before) .loop in
-    let s = head (c .before) .before .before .before .before in
-    omega (arith, l .inv .inside, l .inv .lines, s .good .0)
-
-enum-known-piece : tie.Need-enum-known-piece Inv-loop μ-loop
-enum-known-piece c = c .match2 .keys1
+returns-4 c =
+    let q = c .before .before in
+    let is = q .before .before .piece .given .1 in
+    at-point (turn (point q)) _ (q .point-fault .result) is (q .point-fault .ensures) (c .refused2 .result)
+    (c .before .if2 .taken) (c .refused2 .ensures)
 
 -- a point has room
-point-fits : (c : tie.After-known-told3 Inv-loop μ-loop) → head (told-point c) .loop .nest .count < POINTS
+point-fits : (c : tie.Else2 Inv-loop μ-loop) → head (point (c .before)) .loop .nest .count < POINTS
 point-fits c =
-    let none = c .before .before .before .if2 .left in
-    room-for-point (turn (told-point c)) _ (c .before .piece .given .1) none
+    let q = c .before in
+    let is = q .before .before .piece .given .1 in
+    room-for-point (turn (point q)) _ (q .point-fault .result) is (q .point-fault .ensures) (c .if2 .left)
 
 element-write-nest : tie.Need-element-write-nest Inv-loop μ-loop
 element-write-nest c = point-fits c
@@ -162,57 +152,86 @@ add-nest c = omega (arith, point-fits c)
 
 deeper-requires : tie.Need-deeper-requires Inv-loop μ-loop
 deeper-requires c κs =
-    let l = head (told-point c) .loop in
-    let s = head (told-point c) .before .before .before .before in
+    let a = head (point (c .before)) in
+    let l = a .loop in
+    let s = a .before .before .before .before in
     deep-fits (s .args .text .now) (l .nest) (l .ends) (l .depth) (l .at) (l .line) (l .inv)
 
 ends-within-requires : tie.Need-ends-within-requires Inv-loop μ-loop
 ends-within-requires c κs =
     let t = c .before .before .before .before .before in
-    let n = head (told-point t) .loop .nest in
+    let l = head (point (t .before)) .loop in
     let few = point-fits t in
-    let all : length (n .points) ≡ POINTS = search needs in
-    (omega (arith, few, all, length-set (n .points) (n .count) (t .before .piece .given .0 .0)), omega (arith, few))
+    let same = length-set (l .nest .points) (l .nest .count) (t .before .before .before .piece .given .0 .0) in
+    (omega (arith, few, l .inv .wide, same), omega (arith, few))
 
 loop-less : tie.Need-loop-less Inv-loop μ-loop
 loop-less c =
-    let t = c .before .before .before .before .before .before in
-    let n = next-inside (turn (told-point t)) in
+    let q = c .before .before .before .before .before .before .before in
+    let n = next-inside (turn (point q)) in
     omega (arith, n .0, n .1)
 
 loop-again : tie.Need-loop-again Inv-loop μ-loop
 loop-again c =
     let d = c .before .before .before .before .before in
     let t = d .before in
-    let none = t .before .before .before .if2 .left in
-    on-point (turn (told-point t)) _ (t .before .piece .given .1) none (c .ends-within .result) (d .deeper .result)
-    (search needs) (d .deeper .ensures)
+    let q = t .before in
+    let is = q .before .before .piece .given .1 in
+    on-point (turn (point q)) _ (q .point-fault .result) is (q .point-fault .ensures)
+    (c .ends-within .result) (d .deeper .result) (t .if2 .left) (d .deeper .ensures)
     (record { long = search needs; has-ends = λ z. c .ends-within .ensures })
 
 loop-less-2 : tie.Need-loop-less-2 Inv-loop μ-loop
 loop-less-2 c =
-    let t = c .before .before in
-    let n = next-inside (turn (told-point t)) in
+    let q = c .before .before .before in
+    let n = next-inside (turn (point q)) in
     omega (arith, n .0, n .1)
 
 loop-again-2 : tie.Need-loop-again-2 Inv-loop μ-loop
 loop-again-2 c =
     let d = c .before in
     let t = d .before in
-    let l = head (told-point t) .loop in
-    let none = t .before .before .before .if2 .left in
-    on-point (turn (told-point t)) _ (t .before .piece .given .1) none (l .ends) (d .deeper .result)
-    (search needs) (d .deeper .ensures)
+    let q = t .before in
+    let l = head (point q) .loop in
+    let is = q .before .before .piece .given .1 in
+    on-point (turn (point q)) _ (q .point-fault .result) is (q .point-fault .ensures)
+    (l .ends) (d .deeper .result) (t .if2 .left) (d .deeper .ensures)
     (record { long = l .inv .knows .long; has-ends = λ z. absurd (c .if3 .left z) })
 
 enum-known-piece-2 : tie.Need-enum-known-piece-2 Inv-loop μ-loop
 enum-known-piece-2 c = c .match2 .keys2
 
+slice-aggregate-dependence-fault : tie.Need-slice-aggregate-dependence-fault Inv-loop μ-loop
+slice-aggregate-dependence-fault c =
+    let a = head (c .before .before .before .before .before .before .before) in
+    sym (a .loop .inv .knows .long)
+
+dependence-fault-requires : tie.Need-dependence-fault-requires Inv-loop μ-loop
+dependence-fault-requires c κs =
+    let a = head (c .before .before .before .before .before .before .before) in
+    let l = a .loop in
+    let s = a .before .before .before .before in (
+      count-inside (s .args .text .now) (l .nest) (l .ends) (l .depth) (l .at) (l .line) (l .inv),
+      l .inv .knows,
+    )
+
+refused-requires-3 : tie.Need-refused-requires-3 Inv-loop μ-loop
+refused-requires-3 c κs = tt
+
+returns-5 : tie.Need-returns-5 Inv-loop μ-loop
+returns-5 c =
+    let q = c .before .before in
+    let is = q .before .before .before .before .before .before .piece2 .given .1 in
+    at-dependence (turn (dependence q)) _ (q .dependence-fault .result) is (q .dependence-fault .ensures)
+    (c .refused3 .result) (c .before .if4 .taken) (c .refused3 .ensures)
+
 -- a dependence has room
-dependence-fits : (c : tie.After-known-told4 Inv-loop μ-loop) → head (told-dependence c) .loop .nest .many < DEPENDENCES
+dependence-fits : (c : tie.Else4 Inv-loop μ-loop) → head (dependence (c .before)) .loop .nest .many < DEPENDENCES
 dependence-fits c =
-    let none = c .before .before .before .if2 .left in
-    room-for-dependence (turn (told-dependence c)) _ (c .before .piece2 .given .1) none
+    let q = c .before in
+    let is = q .before .before .before .before .before .before .piece2 .given .1 in
+    room-for-dependence (turn (dependence q)) _ (q .dependence-fault .result) is (q .dependence-fault .ensures)
+    (c .if4 .left)
 
 mul-e : tie.Need-mul-e Inv-loop μ-loop
 mul-e c = omega (arith, dependence-fits c)
@@ -225,25 +244,26 @@ add-nest-2 c = omega (arith, dependence-fits c)
 
 loop-less-3 : tie.Need-loop-less-3 Inv-loop μ-loop
 loop-less-3 c =
-    let n = next-inside (turn (told-dependence c)) in
+    let q = c .before in
+    let n = next-inside (turn (dependence q)) in
     omega (arith, n .0, n .1)
 
 loop-again-3 : tie.Need-loop-again-3 Inv-loop μ-loop
 loop-again-3 c =
-    let none = c .before .before .before .if2 .left in
-    on-dependence (turn (told-dependence c)) _ (c .before .piece2 .given .1) none
+    let q = c .before in
+    let is = q .before .before .before .before .before .before .piece2 .given .1 in
+    on-dependence (turn (dependence q)) _ (q .dependence-fault .result) is (q .dependence-fault .ensures) (c .if4 .left)
 
 enum-told-2 : tie.Need-enum-told-2 Inv-loop μ-loop
 enum-told-2 c = c .match2 .keys3
 
-refused-requires-3 : tie.Need-refused-requires-3 Inv-loop μ-loop
-refused-requires-3 c κs = tt
+refused-requires-4 : tie.Need-refused-requires-4 Inv-loop μ-loop
+refused-requires-4 c κs = tt
 
--- what is not known was refused before
-returns-5 : tie.Need-returns-5 Inv-loop μ-loop
-returns-5 c =
-    let n = c .before .before .before in
-    absurd (not-refused (turn (n .before)) (c .before .enum-told2 .given .1) (n .if2 .left))
+returns-6 : tie.Need-returns-6 Inv-loop μ-loop
+returns-6 c =
+    let k = c .before .before .before in
+    at-unknown (turn k) (c .refused4 .result) (c .before .enum-told2 .given .1) (c .refused4 .ensures)
 
 pub read-nest-spec : {M : Type 1} → statement M
 read-nest-spec =
@@ -263,13 +283,12 @@ read-nest-spec =
     refused-requires
     returns-3
     enum-known-next-2
+    add-line
     piece-of-requires
-    slice-aggregate-piece-fault
-    piece-fault-requires
+    enum-known-piece
+    point-fault-requires
     refused-requires-2
     returns-4
-    add-line
-    enum-known-piece
     element-write-nest
     add-nest
     deeper-requires
@@ -279,11 +298,15 @@ read-nest-spec =
     loop-less-2
     loop-again-2
     enum-known-piece-2
+    slice-aggregate-dependence-fault
+    dependence-fault-requires
+    refused-requires-3
+    returns-5
     mul-e
     element-set-from-e
     add-nest-2
     loop-less-3
     loop-again-3
     enum-told-2
-    refused-requires-3
-    returns-5)
+    refused-requires-4
+    returns-6)
