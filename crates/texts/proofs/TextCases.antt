@@ -1,7 +1,7 @@
 -- 01, "Papers with known results", as texts: P, Q, R and the short papers are read, frame by frame as given there, and
 -- what the program writes for P is computed. Nothing is used but the definitions.
--- Main statements: `P-read`, `Q-read`, `R-read`, `case-1-written`, cases 9 to 11, the limits of case 12, case 13; of
--- 02, job 1, `forward-read`, `P-forward-read`, `own-ends-read`.
+-- Main statements: `P-read`, `Q-read`, `R-read`, `P-spelled`, `case-1-written`, cases 9 to 11, number 2, the limits of
+-- case 12, case 13; of 02, job 1, `forward-read`, `P-forward-read`, `own-ends-read`.
 use mathlib.Core.Path.{_≡_, refl}
 use mathlib.Core.List.{List, [], _∷_, _++_}
 use Prim.Native.Nat.{ℕ}
@@ -133,6 +133,30 @@ feed-alone = refl
 pub dependence-first : readNest (framesText ((0x11 ∷ 0x00 ∷ 0x01 ∷ []) ∷ [])) ≡ got 4 1 empty
 unfolding readNest readLines linesOf frameOf
 dependence-first = refl
+
+-- a frame of no known kind, or of a length that is not its kind's, has number 2
+pub unknown-kind : readNest (framesText ((0x04 ∷ []) ∷ [])) ≡ got 2 1 empty
+unfolding readNest readLines linesOf frameOf
+unknown-kind = refl
+
+pub point-of-two : readNest (framesText ((0x01 ∷ 0x00 ∷ []) ∷ [])) ≡ got 2 1 empty
+unfolding readNest readLines linesOf frameOf
+point-of-two = refl
+
+pub independent-of-four
+    : readNest (framesText ((0x01 ∷ []) ∷ (0x02 ∷ []) ∷ (0x11 ∷ 0x00 ∷ 0x00 ∷ 0x01 ∷ []) ∷ [])) ≡ got 2 3 empty
+unfolding readNest readLines linesOf frameOf
+independent-of-four = refl
+
+pub carried-of-three
+    : readNest (framesText ((0x01 ∷ []) ∷ (0x02 ∷ []) ∷ (0x12 ∷ 0x00 ∷ 0x01 ∷ []) ∷ [])) ≡ got 2 3 empty
+unfolding readNest readLines linesOf frameOf
+carried-of-three = refl
+
+-- P's text is that of its pieces
+pub P-spelled : P-lines ≡ nestText P
+unfolding nestText pointPieces depPieces piecesText
+P-spelled = refl
 
 -- case 12: 256 points and 512 dependences are accepted; a 257th point with a loop still open, or a 513th dependence,
 -- has number 5, and a point right after a closed nest number 4
