@@ -1,4 +1,4 @@
--- The definitions run: the nest of 02, job 13, under several turns, and which lists of turns fit.
+-- The definitions run: the nest of WHY, under several turns, and which lists of turns fit.
 -- Main statements: `worked-calls`, `once-fewer`, `worked-turns`.
 use mathlib.Core.Path.{_≡_, refl}
 use mathlib.Core.Bool.{true, false}

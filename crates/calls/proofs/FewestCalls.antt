@@ -45,7 +45,7 @@ module _ (n : Nest) (shape : isShape (n .points) ≡ true) (fit : AllFit (n .poi
             (λ e a. list-cuts (n .points) e gs (correct-cuts n gs c e a)),
       )
 
--- 02, job 11: no correct placement has fewer calls under those turns
+-- no correct placement has fewer calls under those turns
 pub fewest-calls :
     (n : Nest) (ts gs : List ℕ) → isValid n ≡ true → turnsFit n ts ≡ true → isCorrect n gs ≡ true →
     callsOf n ts (keyOf n) ≤ callsOf n ts gs

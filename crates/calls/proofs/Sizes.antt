@@ -19,7 +19,7 @@ use Rattle.nests.proofs.Levels.{lev, lev-zero, lev-deep}
 use Rattle.nests.proofs.Loops.{outermost, owner-is-do, owner-below, owner-lower}
 use Rattle.placements.specs.Placements.{areGapsFrom, areGaps}
 use Rattle.placements.proofs.Rising.{Rises, rises}
-use Rattle.sitting.proofs.GapLists.{rising-short}
+use Rattle.placements.proofs.GapLists.{rising-short}
 use Rattle.calls.specs.Calls.{TURNS, CALLS, turnsOf, timesFrom, timesAt, callsOf, turnsFit}
 use Rattle.calls.proofs.Turns.{turns-most}
 use Rattle.calls.proofs.Times.{times-own, times-do}
@@ -82,7 +82,7 @@ module _ (n : Nest) (shape : isShape (n .points) ≡ true) (ts : List ℕ) (fit 
           timesAt ps ts g + callsOf n ts gs ≤ suc (length gs) * TURNS ^ DEPTH
       go r rest = omega (arith, times-most g (r .below), rest (r .rest), suc-mul (length gs) (TURNS ^ DEPTH))
 
--- 02, job 11: the calls of a placement are at most 255 · 16⁸, so no sum wraps
+-- the calls of a placement are at most 255 · 16⁸, so no sum wraps
 pub calls-fit :
     (n : Nest) (ts gs : List ℕ) → isValid n ≡ true → turnsFit n ts ≡ true → areGaps n gs ≡ true →
     callsOf n ts gs ≤ CALLS
