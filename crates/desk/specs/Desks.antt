@@ -50,7 +50,7 @@ playOn x = play (x .sitting) (x .moves)
 abbrev pub withPlay : Play (List ℕ) DM.Move → Desk → Desk
 withPlay p x = desk (x .hasNest) (x .nest-is) (x .hasKey) (x .key) (p .state) (p .kept)
 
--- 02, job 6: "the key becomes a function of the nest"
+-- 02, job 6: the key follows from the nest alone
 abbrev pub withKey : Desk → Desk
 withKey x = desk (x .hasNest) (x .nest-is) true (keyOf (x .nest-is)) (x .sitting) (x .moves)
 
@@ -65,8 +65,8 @@ deskIn d =
     (barriers (d .sitting))
     (movesIn (d .moves))
 
--- 02, job 4: a desk of the kind before sittings goes over with its nest and an empty sitting; 02, job 6: one "with a
--- key now gets this one in its place"
+-- 02, job 4: a desk of the kind before sittings goes over with its nest and an empty sitting; 02, job 6: with the
+-- key of its nest where it had one
 abbrev pub overIn : OD.PlainDesk → Desk
 overIn d =
     let x = desk (d .loaded) (nestIn (d .nest)) false [] [] [] in

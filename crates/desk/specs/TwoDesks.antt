@@ -22,8 +22,8 @@ pub record Agree (d e : DD.Desk) : Type 0 where
       → (a ≡ b) × (o ≡ p)
   pub same-list : (es : List Dep) (a b : DA.Answer) → ListSays d es a → ListSays e es b → a ≡ b
 
--- 02, job 6: "Two halls printed different keys of equal cost, and candidates compared." Whatever calls made two desks:
--- with the same nest, and with a key both or neither, they agree
+-- 02, job 6: two halls print the same key. Whatever calls made two desks: with the same nest, and with a key both or
+-- neither, they agree
 abbrev pub TwoDesks : Type 0
 TwoDesks =
     (d e : DD.Desk) →

@@ -33,7 +33,7 @@ pub accepted-by-loops
     → By-loops (readNest s .nest-is) (keyOf (readNest s .nest-is))
 accepted-by-loops s h = key-by-loops (readNest s .nest-is) (accepted-valid s h)
 
--- 01: "In demand 3 the nest is the one that the accepted text spells by the rules of Text."
+-- 01, "Which placement is better": demand 3 speaks of the nest that an accepted text spells
 pub demand-3 : Demand-3
 demand-3 =
     record {

@@ -66,7 +66,7 @@ module _ (n : Nest) (shape : isShape (n .points) ≡ true) (fit : AllFit (n .poi
   pub fitting-first : (gs : List ℕ) → IsKey n gs → firstInOrder (keyOf n) gs ≡ true
   fitting-first = first-of-two
 
--- 02, job 6: "the key is now the one whose rising list has the smaller gap at the first place where two lists differ"
+-- 02, job 6: the key comes first of all keys, as lists
 pub key-first : (n : Nest) → isValid n ≡ true → (gs : List ℕ) → IsKey n gs → firstInOrder (keyOf n) gs ≡ true
 key-first n h =
     let v = valid-is n h in

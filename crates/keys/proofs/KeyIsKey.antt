@@ -35,7 +35,7 @@ key-is-key n h =
     let v = valid-is n h in
     fitting-key n (v .shape) (deps-fit (n .points) (n .deps) (v .all-deps))
 
--- 01, "Which placement is better": "Among the correct placements a least tree always exists" (001, definition 1)
+-- 01, "Which placement is better": the correct placements have a least tree (001, definition 1)
 pub least-tree
     : (n : Nest)
     → isValid n ≡ true

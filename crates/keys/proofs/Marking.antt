@@ -29,11 +29,11 @@ use Rattle.keys.specs.KeyOf.{keyOf}
 use Rattle.keys.proofs.KeyIsKey.{key-is-key}
 
 module _ (n : Nest) (valid : isValid n ≡ true) (gs : List ℕ) (gaps : areGaps n gs ≡ true) where
-  -- 01, "The desk": "It gives Uncut …; else Dearer …; else Best": Best is said of the keys, and of nothing else
+  -- 01, "The desk": Best is said of the keys, and of nothing else
   pub best-iff-key : (markOf n (keyOf n) gs ≡ Best) ↔ IsKey n gs
   best-iff-key = Verdicts.best-iff-key n (valid-is n valid .shape) (keyOf n) gs (key-is-key n valid) gaps
 
-  -- 01, "The desk": "else Dearer with a record of loop, their count, our count": theirs is the greater
+  -- 01, "The desk": in a Dearer their count is the greater
   pub dearer-greater
       : (loop theirs ours : ℕ)
       → markOf n (keyOf n) gs ≡ Dearer loop theirs ours

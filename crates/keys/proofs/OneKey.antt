@@ -7,7 +7,7 @@ use Rattle.keys.specs.OneKey.{One-key}
 use Rattle.keys.proofs.KeyFirst.{key-is-first, first-only}
 use Rattle.keys.proofs.RingKey.{ring-first-smallest}
 
--- 02, job 6: "With that no result is left undecided."
+-- 02, job 6: every accepted text has one key
 pub one-key : One-key
 one-key =
     record {

@@ -81,6 +81,6 @@ module _ (n : Nest) (valid : isValid n ≡ true) (one : oneLoop (n .points) ≡ 
             (correct-by n gs gaps (λ e a. meets-cuts (n .points) e (meets e a .0) gs (meets e a .1)));
       }
 
-  -- 02, job 6: "For a nest of one loop the planner promises the same"
+  -- 02, job 6: of one loop the key is the first of the smallest sets
   pub ring-first-smallest : IsFirstSmallest n (keyOf n)
   ring-first-smallest = record { correct = key-is-key n valid .correct; smallest = no-fewer; first = in-order }

@@ -6,8 +6,8 @@ use Prim.Native.Nat.{ℕ}
 use lib.Dec.{eqb, ltb}
 use Rattle.laws.specs.Choice.{pick}
 
--- 02, job 6: the same list, or the one with "the smaller gap at the first place where two lists differ"; a list that
--- ends there comes first, which no two keys meet, as their lists have one length
+-- 02, job 6: the same list, or the one with the smaller gap where the two first differ; a list that ends there comes
+-- first, which no two keys meet, as their lists have one length
 abbrev pub firstInOrder : List ℕ → List ℕ → Bool
 firstInOrder [] bs = true
 firstInOrder (a ∷ as′) [] = false

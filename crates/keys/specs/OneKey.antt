@@ -13,19 +13,18 @@ use Rattle.texts.specs.NestTexts.{readNest}
 use Rattle.keys.specs.KeyOf.{keyOf}
 use Rattle.keys.specs.ListOrder.{firstInOrder}
 
--- 02, job 6: "Of all correct placements with the least tree, the key is now the one whose rising list has the smaller
--- gap at the first place where two lists differ."
+-- 02, job 6: of all keys the first, each written as the rising list of its gaps
 pub record IsFirstKey (n : Nest) (key : List ℕ) : Type 0 where
   pub is-key : IsKey n key
   pub first : (gs : List ℕ) → IsKey n gs → firstInOrder key gs ≡ true
 
--- 02, job 6: "For a nest of one loop the planner promises the same": the first of the smallest correct sets of gaps
+-- 02, job 6, of a nest of one loop: the first of the smallest correct sets of gaps
 pub record IsFirstSmallest (n : Nest) (key : List ℕ) : Type 0 where
   pub correct : isCorrect n key ≡ true
   pub smallest : (gs : List ℕ) → isCorrect n gs ≡ true → length key ≤ length gs
   pub first : (gs : List ℕ) → isCorrect n gs ≡ true → length gs ≤ length key → firstInOrder key gs ≡ true
 
--- 02, job 6: "the key becomes a function of the nest", here the one that an accepted text spells
+-- 02, job 6: the key follows from the nest, here the one that an accepted text spells
 pub record One-key : Type 0 where
   pub is-first
       : (s : List ℕ)

@@ -247,7 +247,6 @@ pub fits-run : (ps : List ℕ) (e : Dep) → isShape ps ≡ true → oneLoop ps 
 fits-run ps e shape one (inl l) = line-interval ps shape e l
 fits-run ps e shape one (inr b) = back-interval ps shape e (one-loop-is-first ps one (e .d) (b .loop)) b
 
--- 01, "The nest and its gaps": "The gaps of a dependence then lie there without a break, at most the whole ring: its
--- circular interval."
+-- 01, "The nest and its gaps": on the ring of one loop the gaps of a dependence are one run, its circular interval
 pub ring-run : (ps : List ℕ) (e : Dep) → isShape ps ≡ true → oneLoop ps ≡ true → isDep ps e ≡ true → Interval ps e
 ring-run ps e shape one h = fits-run ps e shape one (dep-fits ps e h)

@@ -244,8 +244,8 @@ meaning-accepted : (s : List ℕ) (n : Nest) → Means s n → readNest s ≡ go
 meaning-accepted s n (inl e) = rw (e .0, e .1) (blank-read [] refl)
 meaning-accepted s n (inr h) = spells-read s n h
 
--- "a nest text is accepted if and only if it breaks no rule": it then spells a valid nest, the one that is read, or it
--- is empty and the nest is 01, 02
+-- demand 2: a text is accepted exactly if it spells a valid nest, the one that is read, or is empty and the nest is
+-- 01, 02
 pub accepted-spelling : (s : List ℕ) (n : Nest) → (readNest s ≡ got 0 0 n) ↔ Means s n
 accepted-spelling s n = (text-accepted s n, meaning-accepted s n)
 
