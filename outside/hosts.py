@@ -12,6 +12,8 @@ import subprocess
 import sys
 import tempfile
 
+from trying import Tally
+
 ROOT = pathlib.Path(__file__).resolve().parent.parent
 ARCHIVE = ROOT / 'target/staticlib/libhost.a'
 HEADER = ROOT / 'crates/host/desk.h'
@@ -24,54 +26,40 @@ PAPERS = {
 }
 
 
-class Checks:
-    """Counts what holds and says what does not."""
-
-    def __init__(self) -> None:
-        self.passed = self.failed = 0
-
-    def that(self, what: str, holds: bool, shown: str = '') -> None:
-        if holds:
-            self.passed += 1
-        else:
-            self.failed += 1
-            print(f'does not hold: {what}', shown, sep='\n' if shown else '')
-
-
 def run(*command: object) -> tuple[int, str]:
     """The status of a command and what it wrote, standard error too where it failed."""
     done = subprocess.run([str(word) for word in command], cwd=ROOT, capture_output=True, text=True)
     return done.returncode, done.stdout + (done.stderr if done.returncode else '')
 
 
-def check_names(checks: Checks) -> None:
+def check_names(tally: Tally) -> None:
     """Every function of the archive is in the header, and the other way round."""
     declared = set(re.findall(r'^\w+ (\w+)\([^;]*\);$', HEADER.read_text(), re.M))
     status, symbols = run('nm', '--defined-only', '--extern-only', ARCHIVE)
     exported = set(re.findall(r'^[0-9a-f]+ [A-Z] (\w+)$', symbols, re.M))
-    checks.that('the archive has names', status == 0 and bool(exported), symbols)
+    tally.check('the archive has names', status == 0 and bool(exported), symbols)
     for name in sorted(declared | exported):
-        checks.that(f'{name} is in the header', name in declared)
-        checks.that(f'{name} is in the archive', name in exported)
+        tally.check(f'{name} is in the header', name in declared)
+        tally.check(f'{name} is in the archive', name in exported)
 
 
-def check_words(checks: Checks) -> None:
+def check_words(tally: Tally) -> None:
     """The examples that hand a desk on give it the header's number of words."""
     words = re.search(r'DESK_WORDS = (\d+)', HEADER.read_text()).group(1)
     for name, form in {'desk.rs': f'[u64; {words}]', 'desk.py': f'c_uint64 * {words})'}.items():
-        checks.that(f'{name}: a desk of {words} words', form in (ROOT / 'examples' / name).read_text())
+        tally.check(f'{name}: a desk of {words} words', form in (ROOT / 'examples' / name).read_text())
 
 
-def check_layout(checks: Checks, work: pathlib.Path) -> None:
+def check_layout(tally: Tally, work: pathlib.Path) -> None:
     """Sizes and offsets of every struct, in C."""
     status, said = run(*C, 'outside/layout.c', ARCHIVE, '-o', work / 'layout')
-    checks.that('layout.c compiles', status == 0, said)
+    tally.check('layout.c compiles', status == 0, said)
     if status == 0:
         status, said = run(work / 'layout')
-        checks.that('layout.c', status == 0 and re.fullmatch(r'\d+ passed, 0 failed\n', said) is not None, said)
+        tally.check('layout.c', status == 0 and re.fullmatch(r'\d+ passed, 0 failed\n', said) is not None, said)
 
 
-def check_examples(checks: Checks, work: pathlib.Path) -> None:
+def check_examples(tally: Tally, work: pathlib.Path) -> None:
     """The same papers through the three examples."""
     (work / 'faulty.hex').write_text('01\n')
     rust = ['rustc', '-D', 'warnings', '-L', ARCHIVE.parent, '-l', 'static=host']
@@ -83,16 +71,16 @@ def check_examples(checks: Checks, work: pathlib.Path) -> None:
     }
     commands = {'C': [work / 'desk_c'], 'Rust': [work / 'desk_rust'], 'Python': [sys.executable, 'examples/desk.py']}
     for language, (status, said) in built.items():
-        checks.that(f'the example in {language} is built', status == 0, said)
+        tally.check(f'the example in {language} is built', status == 0, said)
         for paper, wanted in PAPERS.items() if status == 0 else []:
             path = work / paper if paper == 'faulty.hex' else ROOT / 'examples' / paper
             answer = run(*commands[language], path)
-            checks.that(f'{language}, {paper}: {wanted}', answer == wanted, str(answer))
+            tally.check(f'{language}, {paper}: {wanted}', answer == wanted, str(answer))
         if status == 0:
-            checks.that(f'{language}: no paper', run(*commands[language], work / 'none.hex')[0] != 0)
+            tally.check(f'{language}: no paper', run(*commands[language], work / 'none.hex')[0] != 0)
 
 
-def check_stack(checks: Checks, work: pathlib.Path) -> None:
+def check_stack(tally: Tally, work: pathlib.Path) -> None:
     """Full-size papers with no more stack than the header asks for."""
     def narrow() -> None:
         resource.setrlimit(resource.RLIMIT_STACK, (STACK, STACK))
@@ -100,24 +88,23 @@ def check_stack(checks: Checks, work: pathlib.Path) -> None:
     for kind in ('deep', 'one', 'pairs'):
         (work / 'paper.hex').write_text(run(sys.executable, 'outside/papers.py', kind, 256)[1])
         done = subprocess.run([work / 'desk_c', work / 'paper.hex'], env={}, preexec_fn=narrow, capture_output=True)
-        checks.that(f'{kind} with {STACK} bytes of stack', done.returncode == 0 and done.stdout.startswith(b'21'))
+        tally.check(f'{kind} with {STACK} bytes of stack', done.returncode == 0 and done.stdout.startswith(b'21'))
 
 
-def main() -> int:
-    checks = Checks()
+def main() -> None:
+    tally = Tally()
     if ARCHIVE.exists():
         with tempfile.TemporaryDirectory() as name:
-            check_names(checks)
-            check_words(checks)
-            check_layout(checks, pathlib.Path(name))
-            check_examples(checks, pathlib.Path(name))
+            check_names(tally)
+            check_words(tally)
+            check_layout(tally, pathlib.Path(name))
+            check_examples(tally, pathlib.Path(name))
             if (pathlib.Path(name) / 'desk_c').exists():
-                check_stack(checks, pathlib.Path(name))
+                check_stack(tally, pathlib.Path(name))
     else:
-        checks.that(f'{ARCHIVE} is there: rt staticlib host builds it', False)
-    print(f'{checks.passed} passed, {checks.failed} failed')
-    return 0 if checks.failed == 0 else 1
+        tally.check(f'{ARCHIVE} is there: rt staticlib host builds it', False)
+    tally.close()
 
 
 if __name__ == '__main__':
-    sys.exit(main())
+    main()
