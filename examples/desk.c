@@ -13,12 +13,15 @@ int main(int argc, char **argv) {
         fprintf(stderr, "the paper cannot be read, or is too long\n");
         return 2;
     }
-    DeskReply loaded = desk_load(desk_new(), text, length);
-    if (loaded.number != 0) {
-        printf("refused: number %d, line %zu\n", loaded.number, loaded.line);
+    DeskReply reply = desk_load(desk_new(), text, length);
+    if (reply.number == 0) {
+        reply = desk_plan(reply.desk);
+    }
+    if (reply.number != 0) {
+        printf("refused: number %d, line %zu\n", reply.number, reply.line);
         return 1;
     }
-    Desk desk = desk_plan(loaded.desk).desk;
+    Desk desk = reply.desk;
     printf("%.*s", (int)desk_write(desk, key, sizeof key).value, (char *)key);
     DeskMark mark = desk_mark(desk, answer, sizeof answer - 1);
     printf("%s %zu %zu %zu\n", verdicts[mark.verdict], mark.a, mark.b, mark.c);

@@ -10,7 +10,7 @@ def record(**fields):
     return type('Record', (Structure,), {'_fields_': list(fields.items())})
 
 
-Desk = record(words=c_uint64 * 383)  # DESK_WORDS of desk.h: handed on, never opened
+Desk = record(words=c_uint64 * 416)  # DESK_WORDS of desk.h: handed on, never opened
 Reply = record(number=c_uint8, line=c_size_t, desk=Desk)
 Answer = record(number=c_uint8, line=c_size_t, value=c_size_t)
 Moved = record(number=c_uint8, line=c_size_t, uncut=c_size_t, desk=Desk)
@@ -24,11 +24,13 @@ for name, result, given in [('desk_new', Desk, []), ('desk_load', Reply, [Desk, 
     getattr(host, name).restype, getattr(host, name).argtypes = result, given
 
 text = open(sys.argv[1] if len(sys.argv) > 1 else 'examples/p.hex', 'rb').read()
-loaded = host.desk_load(host.desk_new(), text, len(text))
-if loaded.number:
-    print(f'refused: number {loaded.number}, line {loaded.line}')
+reply = host.desk_load(host.desk_new(), text, len(text))
+if not reply.number:
+    reply = host.desk_plan(reply.desk)
+if reply.number:
+    print(f'refused: number {reply.number}, line {reply.line}')
     sys.exit(1)
-desk, key, answer = host.desk_plan(loaded.desk).desk, ctypes.create_string_buffer(1275), b'2103\n2109\n'
+desk, key, answer = reply.desk, ctypes.create_string_buffer(1275), b'2103\n2109\n'
 written = host.desk_write(desk, key, len(key))
 print(key.raw[:written.value].decode(), end='')
 mark = host.desk_mark(desk, answer, len(answer))

@@ -1,7 +1,7 @@
 //! Reads a paper, works out its key, marks the placement 3, 9 beside it, and puts a barrier at gap 5 of a sitting.
 //!   rustc -L target/staticlib -l static=host examples/desk.rs -o target/desk && target/desk examples/p.hex
 
-#[repr(C)] #[derive(Clone, Copy)] struct Desk { words: [u64; 383] } // DESK_WORDS of desk.h: handed on, never opened
+#[repr(C)] #[derive(Clone, Copy)] struct Desk { words: [u64; 416] } // DESK_WORDS of desk.h: handed on, never opened
 #[repr(C)] struct Reply { number: u8, line: usize, desk: Desk }
 #[repr(C)] struct Answer { number: u8, line: usize, value: usize }
 #[repr(C)] struct Moved { number: u8, line: usize, uncut: usize, desk: Desk }
@@ -20,12 +20,15 @@ fn main() {
     let paper = std::env::args().nth(1).unwrap_or("examples/p.hex".into());
     let text = std::fs::read(paper).expect("the paper cannot be read");
     let (answer, mut key) = (b"2103\n2109\n", [0; 1275]);
-    let loaded = unsafe { desk_load(desk_new(), text.as_ptr(), text.len()) };
-    if loaded.number != 0 {
-        println!("refused: number {}, line {}", loaded.number, loaded.line);
+    let mut reply = unsafe { desk_load(desk_new(), text.as_ptr(), text.len()) };
+    if reply.number == 0 {
+        reply = unsafe { desk_plan(reply.desk) };
+    }
+    if reply.number != 0 {
+        println!("refused: number {}, line {}", reply.number, reply.line);
         std::process::exit(1);
     }
-    let desk = unsafe { desk_plan(loaded.desk) }.desk;
+    let desk = reply.desk;
     let written = unsafe { desk_write(desk, key.as_mut_ptr(), key.len()) };
     print!("{}", String::from_utf8_lossy(&key[..written.value]));
     let mark = unsafe { desk_mark(desk, answer.as_ptr(), answer.len()) };

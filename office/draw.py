@@ -6,7 +6,7 @@ import subprocess
 
 from office.command import REFUSED, ROOT, Fault, read_in, version, write_out
 from office.paper import BARRIER, Paper, frames_of, paper_in
-from office.picture import Picture
+from office.picture import Picture, ranges
 from office.refusal import Refusal
 from office.typed import Line, line_at
 
@@ -34,6 +34,9 @@ def gaps_in(argument: str, paper: Paper) -> list[int]:
     named = [g for g in re.split('[, ]+', argument) if g]
     if not gaps.keys() >= set(named):
         raise Fault(f'no gaps of this paper, which has 1 to {len(paper.points) - 1}: {argument}')
+    barred = paper.barred.intersection(gaps[g] for g in named)
+    if barred:
+        raise Fault(f'barred on this paper, so that no barrier may stand there: {ranges(sorted(barred))}')
     return sorted({gaps[g] for g in named})
 
 
@@ -56,7 +59,9 @@ def fault_of(line: Line, gaps: list[int], paper: Paper) -> int:
     kind, *gap = frames_of(line.typed)[0]
     if kind != BARRIER or len(gap) != 1:
         return 2
-    return 0 if gap[0] in paper.owner and gap > gaps[-1:] else 8
+    if gap[0] not in paper.owner or gap <= gaps[-1:]:
+        return 8
+    return 16 if gap[0] in paper.barred else 0
 
 
 def main(arguments: list[str]) -> None:

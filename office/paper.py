@@ -1,10 +1,11 @@
-"""A paper that the program has accepted, for a picture of it: its points, loops, gaps and dependences.
+"""A paper that the program has accepted, for a picture of it: its points, loops, gaps, dependences and barred gaps.
 
 The owner of a gap and the gaps of a dependence are read off for the picture alone; no mark is made with them.
 """
 from dataclasses import dataclass, field
 
-DO, ENDDO, STATEMENT, INDEPENDENT, CARRIED, BARRIER, REFUSAL = 0x01, 0x02, 0x03, 0x11, 0x12, 0x21, 0x2F
+DO, ENDDO, STATEMENT, INDEPENDENT, CARRIED, BARRED = 0x01, 0x02, 0x03, 0x11, 0x12, 0x13
+BARRIER, REFUSAL = 0x21, 0x2F
 BLANK = [[DO], [ENDDO]]
 
 
@@ -23,12 +24,14 @@ class Dependence:
 
 @dataclass
 class Paper:
-    """Kinds of the points, the ENDDO of each DO, how many loops each point is in, the loop of each gap."""
+    """Kinds of the points, the ENDDO of each DO, how many loops each point is in, the loop of each gap; the gaps where
+    no barrier may stand."""
     points: list[int] = field(default_factory=list)
     end: dict[int, int] = field(default_factory=dict)
     depth: list[int] = field(default_factory=list)
     owner: dict[int, int] = field(default_factory=dict)
     dependences: list[Dependence] = field(default_factory=list)
+    barred: set[int] = field(default_factory=set)
 
     def add_point(self, kind: int, opened: list[int]) -> None:
         at = len(self.points)
@@ -59,6 +62,8 @@ def paper_in(text: bytes) -> Paper:
             paper.add_dependence(None, *operands)
         elif kind == CARRIED:
             paper.add_dependence(*operands)
+        elif kind == BARRED:
+            paper.barred.update(operands)
         else:
             paper.add_point(kind, opened)
     return paper

@@ -1,7 +1,7 @@
 """A paper as SVG: one row a point, in the boxes of its loops; gaps between rows; at the right the dependences.
 
 A dependence runs down its lane from s to t; one that is carried runs on to the loop's ENDDO, round to its DO and down
-to t. Its number stands on the lane at both ends, and below the drawing it is told in words.
+to t. Its number stands on the lane at both ends, and below the drawing it is told in words. A barred gap has a band.
 """
 import html
 import textwrap
@@ -11,11 +11,12 @@ from office.paper import DO, STATEMENT, Dependence, Paper
 
 ROW, INDENT, MARGIN, LABEL, LEFT = 44, 30, 10, 172, 52
 NARROWEST, CAPTION, TITLE = 560, 460, 1000
-INK, PALE, BLUE, BROWN = '#17202a', '#5b6875', '#00619a', '#a34700'
+INK, PALE, BLUE, BROWN, RED = '#17202a', '#5b6875', '#00619a', '#a34700', '#b3001e'
 SHADES = ['#f3f6f9', '#e4ebf2', '#d5e0ea', '#c6d5e3', '#b8cadb', '#a9bfd4', '#9bb4cc', '#8da9c5']
 SIGNS = ['Small numbers are gaps, in the column of the loop they belong to.',
          'A black bar is a barrier; a dot marks each dependence that it cuts. A hollow number: uncut.',
          'A dashed line goes round to the next turn of the loop.']
+BARRED_SIGN = 'A red band of strokes is a barred gap: no barrier may stand there.'
 STYLE = f'''
 text {{ font-size: 13px; fill: {INK} }}
 .title {{ font-size: 15px; font-weight: bold }}
@@ -39,6 +40,9 @@ text {{ font-size: 13px; fill: {INK} }}
 .n {{ fill: white; stroke: none; font-weight: bold; text-anchor: middle }}
 .u .b {{ fill: white }}
 .u .n {{ fill: inherit }}
+'''
+BARRED_STYLE = f'''.barred {{ stroke: {RED}; stroke-width: 8; stroke-dasharray: 3 5 }}
+.red {{ fill: {RED} }}
 '''
 
 
@@ -135,8 +139,9 @@ class Picture:
             left, right = self.edges(self.paper.owner[gap])
             y, middle = self.gap_y(gap), left + INDENT / 2
             if gap not in self.barriers:
-                self.add('path', cls='gap', d=f'M{left + INDENT:g} {y:g}H{right - 8:g}')
-                self.label(middle, y, gap, 'pale middle', 11)
+                is_barred = gap in self.paper.barred
+                self.add('path', cls='barred' if is_barred else 'gap', d=f'M{left + INDENT:g} {y:g}H{right - 8:g}')
+                self.label(middle, y, gap, 'word middle bold red' if is_barred else 'pale middle', 11)
                 continue
             cut = sorted(self.x(i, gap) for i, x in enumerate(self.paper.dependences) if x.is_cut_by(gap))
             self.add('path', cls='on', d=f'M{right:g} {y:g}H{max(cut, default=right):g}')
@@ -203,7 +208,7 @@ class Picture:
             below = [self.caption(LEFT - 21 + wide * k, y, first + k, wide)
                      for k in range(min(columns, len(self.paper.dependences) - first))]
             y = max(below) + 10
-        for line in SIGNS:
+        for line in [*SIGNS, BARRED_SIGN] if self.paper.barred else SIGNS:
             y = self.wrapped(LEFT - 32, y, line, self.width - 40, 'pale', 11)
         return y
 
@@ -211,8 +216,9 @@ class Picture:
         dependence = self.paper.dependences[number]
         kind = 'independent' if dependence.d is None else f'carried by loop {dependence.d}'
         spans = ' and '.join(f'{low} to {high}' if low < high else str(low) for low, high in dependence.stretches)
+        barred = ranges(sorted(g for g in self.paper.barred if dependence.is_cut_by(g)))
         cutting = ranges([g for g in self.barriers if dependence.is_cut_by(g)])
-        verdict = f'cut by {cutting}' if cutting else 'UNCUT'
+        verdict = (f'barred {barred}; ' if barred else '') + (f'cut by {cutting}' if cutting else 'UNCUT')
         self.badges(number, [(x, y)])
         words = f'{kind}, {dependence.s} to {dependence.t}: gaps {spans}; {verdict}'
         return max(self.wrapped(x + 21, y, words, wide - 40, 'word', 12), y + 18)
@@ -227,9 +233,10 @@ class Picture:
         for number in range(len(self.paper.dependences)):
             self.badges(number, [(self.x(number), self.level(number, 1)), (self.x(number, 0), self.level(number, 2))])
         height = self.words(self.y(len(self.paper.points)) + 8)
+        style = STYLE + BARRED_STYLE if self.paper.barred else STYLE
         size = f'width="{self.width:g}" height="{height:g}" viewBox="0 0 {self.width:g} {height:g}"'
         return '\n'.join([f'<svg xmlns="http://www.w3.org/2000/svg" {size} role="img" '
                           'font-family="Helvetica, Arial, sans-serif">', f'<title>{html.escape(self.title)}</title>',
-                          f'<style>{STYLE}.dots {{ stroke-dasharray: .1 {self.step - 0.1:g} }}\n'
+                          f'<style>{style}.dots {{ stroke-dasharray: .1 {self.step - 0.1:g} }}\n'
                           f'.n {{ font-size: {self.digits}px }}\n</style>',
                           '<rect width="100%" height="100%" fill="white"/>', *self.out, '</svg>', ''])

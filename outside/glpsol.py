@@ -2,9 +2,9 @@
 """The least counts of a paper by integer programs: glpsol.py PAPER ANSWER prints glpsol's milliseconds.
 
 PAPER is a nest text that is in order, ANSWER what the program key writes for it. The loops of each depth, from the
-innermost out, are one integer program: a gap is 0 or 1, every dependence has a barrier among its gaps, the loops
-further inside have the counts found before, and the barriers of the depth's own gaps are as few as can be. Needs
-glpsol, of the package glpk-utils. Exit status 1 where a count is not the one that the answer gives.
+innermost out, are one integer program: a gap is 0 or 1, every dependence has a barrier among its gaps that are not
+barred, the loops further inside have the counts found before, and the barriers of the depth's own gaps are as few as
+can be. Needs glpsol, of the package glpk-utils. Exit status 1 where a count is not the one that the answer gives.
 """
 import os
 import subprocess
@@ -12,7 +12,7 @@ import sys
 import tempfile
 import time
 
-DO, END, INDEPENDENT, COUNT = 1, 2, 0x11, 0x22
+DO, END, INDEPENDENT, BARRED, COUNT = 1, 2, 0x11, 0x13, 0x22
 
 
 class Fault(Exception):
@@ -71,11 +71,11 @@ def solve(rows: list[str]) -> tuple[dict[int, int], float]:
     return {int(name[1:]): int(word[2]) for name, word in zip(names, columns, strict=True)}, spent
 
 
-def counts(points: list[int], deps: list[bytes]) -> tuple[dict[int, int], float]:
+def counts(points: list[int], deps: list[bytes], barred: set[int]) -> tuple[dict[int, int], float]:
     """The least count of every loop, and glpsol's milliseconds in all."""
     owner, ends, depths = owners(points)
     own = {d: [g for g in range(1, len(points)) if owner[g] == d] for d in depths}
-    cover = sorted({' + '.join(f'x{g}' for g in gaps(dep, ends)) + ' >= 1' for dep in deps})
+    cover = sorted({' + '.join(f'x{g}' for g in gaps(dep, ends) if g not in barred) + ' >= 1' for dep in deps})
     found: dict[int, int] = {}
     spent = 0.0
     for depth in sorted(set(depths.values()), reverse=True):
@@ -94,7 +94,8 @@ def main() -> int:
     try:
         paper, answer = frames(sys.argv[1]), frames(sys.argv[2])
         points = [frame[0] for frame in paper if len(frame) == 1]
-        found, spent = counts(points, [frame for frame in paper if len(frame) > 1])
+        barred = {frame[1] for frame in paper if frame[0] == BARRED}
+        found, spent = counts(points, [frame for frame in paper if len(frame) > 2], barred)
         said = {frame[1]: frame[2] for frame in answer if frame[0] == COUNT}
         if found != said:
             raise Fault(f'the counts differ: {found} by glpsol, {said} in the answer')

@@ -23,7 +23,9 @@ PAPERS = {
     'p.hex': (0, '2105\n210b\nUncut 4 0 0\ngap 5 put: 3 uncut\n'),
     'q.hex': (0, '2102\n2106\nUncut 1 0 0\ngap 5 put: 1 uncut\n'),
     'faulty.hex': (1, 'refused: number 4, line 2\n'),
+    'blocked.hex': (1, 'refused: number 15, line 0\n'),
 }
+MADE = {'faulty.hex': '01\n', 'blocked.hex': '01\n03\n02\n110001\n1301\n'}
 
 
 def run(*command: object) -> tuple[int, str]:
@@ -61,7 +63,8 @@ def check_layout(tally: Tally, work: pathlib.Path) -> None:
 
 def check_examples(tally: Tally, work: pathlib.Path) -> None:
     """The same papers through the three examples."""
-    (work / 'faulty.hex').write_text('01\n')
+    for name, text in MADE.items():
+        (work / name).write_text(text)
     rust = ['rustc', '-D', 'warnings', '-L', ARCHIVE.parent, '-l', 'static=host']
     whole = ['-Wl,--whole-archive', ARCHIVE, '-Wl,--no-whole-archive']
     built = {
@@ -73,7 +76,7 @@ def check_examples(tally: Tally, work: pathlib.Path) -> None:
     for language, (status, said) in built.items():
         tally.check(f'the example in {language} is built', status == 0, said)
         for paper, wanted in PAPERS.items() if status == 0 else []:
-            path = work / paper if paper == 'faulty.hex' else ROOT / 'examples' / paper
+            path = work / paper if paper in MADE else ROOT / 'examples' / paper
             answer = run(*commands[language], path)
             tally.check(f'{language}, {paper}: {wanted}', answer == wanted, str(answer))
         if status == 0:
@@ -85,7 +88,7 @@ def check_stack(tally: Tally, work: pathlib.Path) -> None:
     def narrow() -> None:
         resource.setrlimit(resource.RLIMIT_STACK, (STACK, STACK))
 
-    for kind in ('deep', 'one', 'pairs'):
+    for kind in ('deep', 'one', 'pairs', 'barred'):
         (work / 'paper.hex').write_text(run(sys.executable, 'outside/papers.py', kind, 256)[1])
         done = subprocess.run([work / 'desk_c', work / 'paper.hex'], env={}, preexec_fn=narrow, capture_output=True)
         tally.check(f'{kind} with {STACK} bytes of stack', done.returncode == 0 and done.stdout.startswith(b'21'))

@@ -14,11 +14,13 @@ AT(DeskDependence, kind, 0, 1);
 AT(DeskDependence, d, 1, 1);
 AT(DeskDependence, s, 2, 1);
 AT(DeskDependence, t, 3, 1);
-SIZE(DeskNest, 2320);
+SIZE(DeskNest, 2584);
 AT(DeskNest, count, 0, 8);
 AT(DeskNest, points, 8, 256);
 AT(DeskNest, many, 264, 8);
 AT(DeskNest, deps, 272, 2048);
+AT(DeskNest, bars, 2320, 8);
+AT(DeskNest, barred, 2328, 255);
 SIZE(DeskPlacement, 32);
 AT(DeskPlacement, words, 0, 32);
 SIZE(DeskSitting, 552);
@@ -34,29 +36,29 @@ AT(DeskMoves, head, 128, 8);
 AT(DeskMoves, many, 136, 8);
 SIZE(Desk, 8 * DESK_WORDS);
 AT(Desk, loaded, 0, 1);
-AT(Desk, nest, 8, 2320);
-AT(Desk, planned, 2328, 1);
-AT(Desk, key, 2336, 32);
-AT(Desk, sitting, 2368, 552);
-AT(Desk, moves, 2920, 144);
+AT(Desk, nest, 8, 2584);
+AT(Desk, planned, 2592, 1);
+AT(Desk, key, 2600, 32);
+AT(Desk, sitting, 2632, 552);
+AT(Desk, moves, 3184, 144);
 SIZE(DeskPlain, 8 * DESK_PLAIN_WORDS);
 AT(DeskPlain, loaded, 0, 1);
-AT(DeskPlain, nest, 8, 2320);
-AT(DeskPlain, planned, 2328, 1);
-AT(DeskPlain, key, 2336, 32);
-SIZE(DeskReply, 3080);
+AT(DeskPlain, nest, 8, 2584);
+AT(DeskPlain, planned, 2592, 1);
+AT(DeskPlain, key, 2600, 32);
+SIZE(DeskReply, 3344);
 AT(DeskReply, number, 0, 1);
 AT(DeskReply, line, 8, 8);
-AT(DeskReply, desk, 16, 3064);
+AT(DeskReply, desk, 16, 3328);
 SIZE(DeskAnswer, 24);
 AT(DeskAnswer, number, 0, 1);
 AT(DeskAnswer, line, 8, 8);
 AT(DeskAnswer, value, 16, 8);
-SIZE(DeskMoved, 3088);
+SIZE(DeskMoved, 3352);
 AT(DeskMoved, number, 0, 1);
 AT(DeskMoved, line, 8, 8);
 AT(DeskMoved, uncut, 16, 8);
-AT(DeskMoved, desk, 24, 3064);
+AT(DeskMoved, desk, 24, 3328);
 SIZE(DeskMark, 48);
 AT(DeskMark, number, 0, 1);
 AT(DeskMark, line, 8, 8);
@@ -94,6 +96,8 @@ static void given(const char *what, size_t size, uint8_t filled) {
 
 static const uint8_t P[] = "01\n01\n03\n03\n03\n03\n02\n01\n03\n03\n03\n03\n02\n02\n"
                            "110205\n12010403\n11080b\n12070a09\n12000a02\n110409\n";
+
+static const uint8_t FOUNDATION[] = "01\n03\n03\n03\n03\n03\n02\n12000503\n12000401\n110005\n1301\n1302\n1304\n";
 
 typedef void *Fresh(void *);
 typedef void *OnDesk(void *, Desk);
@@ -139,11 +143,24 @@ static void fields(Desk desk) {
     that("list", listed.number == 2 && listed.line == 2 && listed.value == 0);
 }
 
+static void barred(Desk desk) {
+    const uint8_t *gaps = desk.nest.barred;
+    that("bars", desk.nest.bars == 3 && desk.nest.many == 3 && desk.nest.count == 7);
+    that("barred gaps", gaps[0] == 1 && gaps[1] == 2 && gaps[2] == 4 && gaps[3] == 0 && gaps[254] == 0);
+    desk = desk_plan(desk).desk;
+    that("key beside barred gaps", desk.planned && desk.key.words[0] == (1u << 3 | 1u << 5));
+    that("Put of a barred gap", desk_put(desk, 4).number == 16);
+    DeskPlain plain = {.loaded = true, .nest = desk.nest, .planned = true};
+    desk = desk_go_over(plain);
+    that("gone over", desk.planned && desk.nest.bars == 3 && desk.key.words[0] == (1u << 3 | 1u << 5));
+}
+
 int main(void) {
     Desk desk = desk_load(desk_new(), P, sizeof P - 1).desk;
     DeskPlain plain = {.loaded = true, .nest = desk.nest, .planned = true};
     sizes(desk, plain);
     fields(desk);
+    barred(desk_load(desk, FOUNDATION, sizeof FOUNDATION - 1).desk);
     printf("%d passed, %d failed\n", passed, failed);
     return failed != 0;
 }

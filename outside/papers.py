@@ -3,8 +3,9 @@
 
 KIND: deep (8 loops, one in the other), one (one loop), many (small loops side by side), mixed (a random tree), carried
 (empty loops side by side, 8 deep), tails (deep, with a statement at the end of each loop), pairs (tails 7 deep, with
-empty loops in the innermost). There are twice as many dependences as points, independent and carried in equal parts; in
-a carried paper the outermost loop carries them all. In tails and pairs all are independent, from the statement at each
+empty loops in the innermost), barred (one loop with half as many barred gaps as points). There are twice as many
+dependences as points, independent and carried in equal parts; in a carried paper the outermost loop carries them all,
+in a barred one each has a gap that is not barred. In tails and pairs all are independent, from the statement at each
 loop's end to its ENDDO and from each empty loop to the next, again and again: each search of the planner goes far.
 """
 import random
@@ -16,7 +17,7 @@ DO, END, ST = 1, 2, 3
 def points(kind, n, rng):
     if kind == 'deep':
         return [DO] * 8 + [ST] * (n - 16) + [END] * 8
-    if kind == 'one':
+    if kind in ('one', 'barred'):
         return [DO] + [ST] * (n - 2) + [END]
     if kind == 'many':
         inner = ([DO, ST, ST, END] * n)[:(n - 2) // 4 * 4]
@@ -66,6 +67,8 @@ def main():
     end = ends(ps)
     out = ['%02x' % p for p in ps]
     loops, deps = list(end), 0
+    barred = rng.sample(range(1, n), n // 2) if kind == 'barred' else []
+    free = set(range(1, n)).difference(barred)
     if kind in ('tails', 'pairs'):
         lines = short_lines(ps, end)
         while deps < 2 * n:
@@ -76,14 +79,15 @@ def main():
         if ps[s] == END or ps[t] == DO:
             continue
         if kind != 'carried' and deps % 2 == 0:
-            if s < t and t - s < 40:
+            if s < t and t - s < 40 and free.intersection(range(s + 1, t + 1)):
                 out.append('11%02x%02x' % (s, t))
                 deps += 1
         else:
             d = 0 if kind == 'carried' else rng.choice(loops)
-            if d < t <= s < end[d]:
+            if d < t <= s < end[d] and free.intersection([*range(d + 1, t + 1), *range(s + 1, end[d] + 1)]):
                 out.append('12%02x%02x%02x' % (d, s, t))
                 deps += 1
+    out += ['13%02x' % g for g in barred]
     print('\n'.join(out))
 
 

@@ -15,13 +15,14 @@ sys.path.insert(0, str(ROOT))
 from office.lanes import packed
 
 MEGABYTE = 1_000_000
-PICTURES = {'p': ['p'], 'q-best': ['q'], 'q-dearer': ['q', '4,7'], 'r': ['r']}
+PICTURES = {'p': ['p'], 'q-best': ['q'], 'q-dearer': ['q', '4,7'], 'r': ['r'], 'foundation': ['foundation']}
+SVG = '{http://www.w3.org/2000/svg}'
 
 
 def texts_of(seen: Seen) -> list[tree.Element]:
     """The texts of a picture; none where it is no picture."""
     try:
-        return list(tree.fromstring(seen.out).iter('{http://www.w3.org/2000/svg}text'))
+        return list(tree.fromstring(seen.out).iter(f'{SVG}text'))
     except tree.ParseError:
         return []
 
@@ -62,13 +63,38 @@ def drawn(tally: Tally, folder: pathlib.Path) -> None:
         tally.check(option, seen.status == 0 and word in seen.out, seen)
 
 
+def barred(tally: Tally, folder: pathlib.Path) -> None:
+    """Barred gaps have a band and a red number; the signs and the captions say so. Other papers have none of this."""
+    paper = ROOT / 'examples' / 'foundation.hex'
+    seen = run(DRAW, paper, '6')
+    words = words_of(texts_of(seen))
+    tally.check('three bands', seen.out.count(b'class="barred"') == 3 and seen.status == 0, seen)
+    tally.check('red numbers', words_of(texts_of(seen), 'red') == ['1', '2', '4'], seen)
+    tally.check('the sign', any('barred gap' in word for word in words), words)
+    told = 'carried by loop 0, 4 to 1: gaps 1 and 5 to 6; barred 1; cut by 6'
+    tally.check('a caption', told in words and 'barred 1 to 2, 4; UNCUT' in ' '.join(words), words)
+    seen = run(DRAW, ROOT / 'examples' / 'r.hex')
+    tally.check('no band', b'barred' not in seen.out and seen.status == 0, seen)
+    blocked, answer = folder / 'blocked.hex', folder / 'answer.hex'
+    blocked.write_bytes(b'01\n03\n02\n110001\n1301\n')
+    seen = run(DRAW, blocked, '2')
+    tally.check('a blocked paper', seen.out == b'' and 'all its gaps barred' in seen.err and seen.status == 1, seen)
+    seen = run(DRAW, paper, '2,3,4,5,1')
+    tally.check('a list with barred gaps', seen.failed('barred on this paper') and '1 to 2, 4\n' in seen.err, seen)
+    for typed, word in [(b'2104\n', 'number 16'), (b'2103\n2104\n2102\n', 'number 16'), (b'2103\n2102\n', 'number 8')]:
+        answer.write_bytes(typed)
+        seen = run(DRAW, paper, answer)
+        tally.check(f'{typed!r} beside barred gaps', seen.out == b'' and word in seen.err and seen.status == 1, seen)
+
+
 def full_size(tally: Tally, folder: pathlib.Path) -> None:
     """A paper of 256 points and 512 dependences: under a megabyte, every number at both ends and in words."""
-    for kind in ['mixed', 'one', 'deep']:
+    every, other = ','.join(map(str, range(1, 256))), ','.join(map(str, range(1, 256, 2)))
+    for kind in ['mixed', 'one', 'deep', 'barred']:
         paper = folder / f'{kind}.hex'
         maker = [sys.executable, ROOT / 'outside' / 'papers.py', kind, '256']
         paper.write_bytes(subprocess.run(maker, capture_output=True, check=True).stdout)
-        for gaps in [[], [','.join(map(str, range(1, 256)))], [','.join(map(str, range(1, 256, 2)))]]:
+        for gaps in [[]] if kind == 'barred' else [[], [every], [other]]:
             name, seen = f'full size, {kind}, {gaps[0][:8] if gaps else "its key"}', run(DRAW, paper, *gaps)
             tally.check(f'{name}: size', 0 < len(seen.out) < MEGABYTE and seen.status == 0, len(seen.out))
             texts = texts_of(seen)
@@ -78,7 +104,7 @@ def full_size(tally: Tally, folder: pathlib.Path) -> None:
             over = [text.text for text in texts if text.get('class', '') in ('title', 'word', 'pale')
                     and float(text.get('x')) + 5 * len(text.text) > wide]
             tally.check(f'{name}: captions', wide > 0 and not over, over)
-    seen = run(DRAW, folder / 'one.hex', ','.join(map(str, range(1, 256, 2))))
+    seen = run(DRAW, folder / 'one.hex', other)
     title = words_of(texts_of(seen), 'title')
     tally.check('a long title wraps', ' '.join(title).endswith('253, 255') and len(title) > 1, title)
     seen = run(DRAW, folder / 'mixed.hex', shell='"$@" | head -c 100; exit ${PIPESTATUS[1]}')
@@ -132,6 +158,7 @@ def main() -> None:
     with tempfile.TemporaryDirectory() as name:
         folder = pathlib.Path(name)
         drawn(tally, folder)
+        barred(tally, folder)
         full_size(tally, folder)
         lanes(tally)
         faults(tally, folder)

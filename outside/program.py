@@ -38,6 +38,9 @@ SLIPS = [
     (b'01\n' * 3000, 5, 0, ['the text is refused as a whole', 'more than 8,192 bytes']),
     (b'01\n03\n02\n110105\n', 6, 4, ['"110105"', 'names no point']),
     (b'01\n03\n02\n110101\n', 7, 4, ['"110101"', 'at or after its t']),
+    (b'01\n03\n02\n1303\n', 8, 4, ['"1303"', 'not below the number of points']),
+    (b'01\n01\n02\n02\n1301\n', 14, 5, ['"1301"', 'more than one loop']),
+    (b'01\n03\n02\n110001\n1301\n', 15, 0, ['the text is refused as a whole', 'all its gaps barred']),
 ]
 
 

@@ -9,9 +9,9 @@
 
      1   a line that is not an even, nonzero number of digits 0-9 a-f, then 0a
      2   a kind that is not of this text, or the wrong length for it
-     3   a point after a dependence
-     4   a point before any DO or after the outermost loop; a dependence, or the end, while a loop is open
-     5   a 257th point, a loop 9 deep, a 513th dependence
+     3   a point after a dependence or a barred gap
+     4   a point before any DO or after the outermost loop; a dependence, a barred gap, or the end, while a loop is open
+     5   a 257th point, a loop 9 deep, a 513th dependence, a 256th barred gap
      6   s, t or d names no point, or one of the wrong sort; Count of a point that is no DO
      7   an independent dependence with s at or after t; a carried one with a point not inside its loop
      8   a gap that is 0 or not below the number of points; in a text, one not above the gap before
@@ -20,6 +20,9 @@
     11   no key
     12   Put of a gap that is there, Lift of one that is not
     13   no move to take back
+    14   a barred gap in a nest of more than one loop
+    15   Plan of a nest in which some dependence has all its gaps barred: it has no key
+    16   a barred gap in a placement text, or Put of one
 
    A text or a buffer is lent as a pointer and a length in bytes. A thread with a stack of 160 KiB has room for every
    call. The library is for x86-64, and links against memcpy and memset alone:
@@ -36,11 +39,12 @@
 extern "C" {
 #endif
 
-/* Limits: points, dependences, the gaps of a placement, the moves that can be taken back. */
-enum { DESK_POINTS = 256, DESK_DEPENDENCES = 512, DESK_GAPS = 256, DESK_MOVES = 64 };
+/* Limits: points, dependences, barred gaps, the gaps of a placement, the moves that can be taken back. */
+enum { DESK_POINTS = 256, DESK_DEPENDENCES = 512, DESK_BARS = 255, DESK_GAPS = 256, DESK_MOVES = 64 };
 
-/* The kinds of points and of dependences. */
-enum { DESK_DO = 0x01, DESK_ENDDO = 0x02, DESK_STATEMENT = 0x03, DESK_INDEPENDENT = 0x11, DESK_CARRIED = 0x12 };
+/* The kinds of points, of dependences, and of barred gaps. */
+enum { DESK_DO = 0x01, DESK_ENDDO = 0x02, DESK_STATEMENT = 0x03 };
+enum { DESK_INDEPENDENT = 0x11, DESK_CARRIED = 0x12, DESK_BARRED = 0x13 };
 
 /* The verdicts of a mark. */
 enum { DESK_UNCUT = 0, DESK_DEARER = 1, DESK_BEST = 2 };
@@ -49,19 +53,21 @@ enum { DESK_UNCUT = 0, DESK_DEARER = 1, DESK_BEST = 2 };
 enum { DESK_TEXT = 1275 };
 
 /* A Desk has so many words of 8 bytes, and a DeskPlain: for hosts that only hand them on. */
-enum { DESK_WORDS = 383, DESK_PLAIN_WORDS = 296 };
+enum { DESK_WORDS = 416, DESK_PLAIN_WORDS = 329 };
 
 /* From point s to point t, independent or carried by the loop of DO d. */
 typedef struct DeskDependence {
     uint8_t kind, d, s, t;
 } DeskDependence;
 
-/* The first `count` points, by their kinds, and the first `many` dependences. */
+/* The first `count` points, by their kinds, the first `many` dependences and the first `bars` barred gaps. */
 typedef struct DeskNest {
     size_t count;
     uint8_t points[DESK_POINTS];
     size_t many;
     DeskDependence deps[DESK_DEPENDENCES];
+    size_t bars;
+    uint8_t barred[DESK_BARS];
 } DeskNest;
 
 /* A set of gaps: gap g is bit g % 64 of word g / 64. */
@@ -138,16 +144,17 @@ typedef struct DeskMark {
 Desk desk_new(void);
 Desk desk_reset(Desk desk);
 
-/* Reads a nest text. Accepted, it replaces the nest, and drops the key, the sitting and the moves. Numbers 1 to 7. */
+/* Reads a nest text. Accepted, it replaces the nest, and drops the key, the sitting and the moves. Numbers 1 to 8, 14. */
 DeskReply desk_load(Desk desk, const uint8_t *text, size_t length);
 
-/* Works out the key: of the correct placements as good as or better than every other, the first. Number 10. */
+/* Works out the key: of the correct placements as good as or better than every other, the first. No barrier of a correct
+   placement stands at a barred gap. Numbers 10, 15. */
 DeskReply desk_plan(Desk desk);
 
 /* The barriers of the key at the own gaps of the loop of DO `point`. Numbers 10, 11, 6. */
 DeskAnswer desk_count(Desk desk, size_t point);
 
-/* How a placement text stands beside the key. Numbers 10, 11, then 1, 2, 8 with their line. */
+/* How a placement text stands beside the key. Numbers 10, 11, then 1, 2, 8, 16 with their line. */
 DeskMark desk_mark(Desk desk, const uint8_t *text, size_t length);
 
 /* Writes the key as text from the start of the buffer; the value is the length. Later bytes stay. Numbers 10, 11, 9. */
@@ -159,7 +166,7 @@ DeskAnswer desk_write(Desk desk, uint8_t *out, size_t length);
 DeskAnswer desk_list(Desk desk, const uint8_t *list, size_t length);
 
 /* Puts a barrier of the candidate at a gap; lifts it; takes the latest of these back, up to 64 in a row. `uncut` is how
-   many dependences remain uncut. Numbers 10, 8, 12; 10, 8, 12; 10, 13. */
+   many dependences remain uncut. Numbers 10, 8, 12, 16; 10, 8, 12; 10, 13. */
 DeskMoved desk_put(Desk desk, size_t gap);
 DeskMoved desk_lift(Desk desk, size_t gap);
 DeskMoved desk_take_back(Desk desk);
@@ -168,7 +175,8 @@ DeskMoved desk_take_back(Desk desk);
 DeskAnswer desk_sitting(Desk desk, uint8_t *out, size_t length);
 
 /* A desk in use goes over from the kind before sittings: the nest is kept, the sitting is empty, and where there was a
-   key it is worked out anew. `old` has a nest that desk_load accepted, or none (count and many 0) and then no key. */
+   key it is worked out anew, unless Plan would refuse. `old` has a nest that desk_load accepted, or none (count, many
+   and bars 0) and then no key. */
 Desk desk_go_over(DeskPlain old);
 
 #ifdef __cplusplus

@@ -1,5 +1,5 @@
-//! The judge's own desk (01, "The desk" and "Numbers from the state"; 02, jobs 4 to 6). A key is searched for, the
-//! sitting is a set of gaps, every count is made anew, and to take back it keeps every placement of before.
+//! The judge's own desk (01, "The desk" and "Numbers from the state"; 02, jobs 4, 5, 6 and 7). A key is searched for,
+//! the sitting is a set of gaps, every count is made anew, and to take back it keeps every placement of before.
 
 use crate::calls::{guarded, Call, Reply};
 use crate::host::{self, gaps_of, KEPT};
@@ -26,6 +26,8 @@ impl Desk {
 
     pub fn points(&self) -> usize { self.nest.as_ref().map_or(0, |nest| nest.points.len()) }
 
+    pub fn barred(&self) -> &[usize] { self.nest.as_ref().map_or(&[], |nest| &nest.barred) }
+
     pub fn key(&self) -> &[usize] { if let Key::Known(key) = &self.key { key } else { &[] } }
 
     /// How many barriers of the sitting cut each dependence.
@@ -41,9 +43,12 @@ impl Desk {
         if self.nest.is_none() { 10 } else if wants_key && self.key == Key::None { 11 } else { 0 }
     }
 
-    fn plan(&mut self) {
-        let nest = self.nest.as_ref().unwrap();
-        self.key = first_key(nest).map_or(Key::Unknown, Key::Known);
+    /// 10, then 15.
+    fn plan(&mut self) -> u8 {
+        let Some(nest) = &self.nest else { return 10 };
+        if nest.blocked() { return 15 }
+        if self.key == Key::None { self.key = first_key(nest).map_or(Key::Unknown, Key::Known) }
+        0
     }
 
     /// Makes a call. The reply has no key's text while the key is unknown: `adopt` comes first.
@@ -59,10 +64,7 @@ impl Desk {
                     Err(r) => (number, line) = (r.number, r.line),
                 }
             }
-            Call::Plan => {
-                number = self.fault(false);
-                if number == 0 && self.key == Key::None { self.plan() }
-            }
+            Call::Plan => number = self.plan(),
             Call::Count(point) => (number, values) = self.count(*point),
             Call::Mark(text) => {
                 lent = guarded(text);
@@ -83,7 +85,7 @@ impl Desk {
             Call::Over(planned, _) => {
                 let nest = self.nest.take();
                 *self = Desk { nest, ..Desk::new() };
-                if *planned && self.nest.is_some() { self.plan() }
+                if *planned { self.plan(); }
             }
         }
         Reply { number, line, values, lent }
@@ -101,7 +103,7 @@ impl Desk {
         let (fault, none) = (self.fault(true), vec![0; 4]);
         if fault != 0 { return (fault, 0, none) }
         let nest = self.nest.as_ref().unwrap();
-        match read_placement(nest.points.len(), text) {
+        match read_placement(nest, text) {
             Err(r) => (r.number, r.line, none),
             Ok(placement) => (0, 0, match mark(nest, self.key(), &placement) {
                 Mark::Uncut(number) => vec![0, number, 0, 0],
@@ -126,13 +128,14 @@ impl Desk {
         (0, 0, vec![first])
     }
 
-    /// Puts or lifts: 10, then 8, then 12.
+    /// Puts or lifts: 10, then 8, then 12, then 16 for a Put.
     fn turn(&mut self, gap: usize, put: bool) -> (u8, Vec<usize>) {
-        if self.nest.is_none() { return (10, vec![0]) }
-        if gap == 0 || gap >= self.points() { return (8, vec![0]) }
+        let Some(nest) = &self.nest else { return (10, vec![0]) };
+        if gap == 0 || gap >= nest.points.len() { return (8, vec![0]) }
+        if put == self.sitting.contains(&gap) { return (12, vec![0]) }
+        if put && nest.barred.contains(&gap) { return (16, vec![0]) }
         let before = self.sitting.clone();
-        let made = if put { self.sitting.insert(gap) } else { self.sitting.remove(&gap) };
-        if !made { return (12, vec![0]) }
+        if put { self.sitting.insert(gap); } else { self.sitting.remove(&gap); }
         self.moves.push_back((gap, put, before));
         if self.moves.len() > KEPT { self.moves.pop_front(); }
         (0, vec![self.uncut()])
@@ -152,6 +155,7 @@ impl Desk {
         let (count, many) = (nest.points.len(), nest.dependences.len());
         let record = |x: &Dependence| [x.kind, x.d as u8, x.s as u8, x.t as u8];
         let records: Vec<[u8; 4]> = nest.dependences.iter().map(record).collect();
+        let barred: Vec<u8> = (0..BARS).map(|i| nest.barred.get(i).map_or(0, |&g| g as u8)).collect();
         let moves: Vec<(u8, u8)> = self.moves.iter().rev().map(|(gap, put, _)| (*gap as u8, *put as u8)).collect();
         let differ = |what: &str, same: bool| if same { None } else { Some(what.to_string()) };
         differ("loaded", seen.loaded == self.nest.is_some() as u8)
@@ -162,6 +166,8 @@ impl Desk {
                 let deps = seen.nest.deps[..many].iter().map(|x| [x.kind, x.d, x.s, x.t]);
                 differ("the dependences", deps.eq(records))
             })
+            .or_else(|| differ("the number of barred gaps", seen.nest.bars == nest.barred.len()))
+            .or_else(|| differ("the barred gaps", seen.nest.barred[..] == barred[..]))
             .or_else(|| differ("planned", seen.planned == (self.key != Key::None) as u8))
             .or_else(|| differ("the key", self.key == Key::Unknown || gaps_of(&seen.key) == self.key()))
             .or_else(|| differ("the sitting", gaps_of(&seen.sitting.placement).iter().eq(&self.sitting)))

@@ -12,19 +12,23 @@ pub fn check_desk(checks: &mut Checks) {
     check_back(checks);
     check_texts(checks);
     check_list(checks);
-    check_altered(checks);
+    check_altered(checks, &[
+        load(P), load("02"), Call::Plan, Call::Put(5), Call::Put(5), Call::Put(11), Call::Lift(5), Call::TakeBack,
+        Call::Count(1), Call::Mark(words("2103 2109 210d")), Call::Write(vec![7; 12]), Call::Write(vec![7; 9]),
+        Call::Sitting(vec![7; 10]), Call::List(vec![0x11, 0, 2, 3]), Call::Over(true, None), Call::Put(3), Call::Plan,
+    ]);
 }
 
 /// The judge's desk after calls, and the numbers and values of the last ones.
-fn replies(calls: &[Call], last: usize) -> Vec<(u8, usize, Vec<usize>)> {
+pub fn replies(calls: &[Call], last: usize) -> Vec<(u8, usize, Vec<usize>)> {
     let mut desk = Desk::new();
     let all: Vec<Reply> = calls.iter().map(|call| desk.play(call)).collect();
     all[calls.len() - last..].iter().map(|r| (r.number, r.line, r.values.clone())).collect()
 }
 
-fn load(text: &str) -> Call { Call::Load(words(text)) }
+pub fn load(text: &str) -> Call { Call::Load(words(text)) }
 
-fn moved(number: u8, uncut: usize) -> (u8, usize, Vec<usize>) { (number, 0, vec![uncut]) }
+pub fn moved(number: u8, uncut: usize) -> (u8, usize, Vec<usize>) { (number, 0, vec![uncut]) }
 
 /// P at the screen: 5 cuts three of the six, 11 the others; then 12, 8, 8, 12, 8; Plan; a Lift, a Put, over.
 fn check_screen(checks: &mut Checks) {
@@ -98,15 +102,11 @@ fn check_list(checks: &mut Checks) {
     checks.that("none uncut", replies(&[load(P), Call::Plan, Call::List(good[..8].to_vec())], 1) == [moved(0, 0)]);
 }
 
-/// Each call of a script on P, with each part of its reply, each lent byte and each part of the desk altered in turn.
-fn check_altered(checks: &mut Checks) {
-    let script = [
-        load(P), load("02"), Call::Plan, Call::Put(5), Call::Put(5), Call::Put(11), Call::Lift(5), Call::TakeBack,
-        Call::Count(1), Call::Mark(words("2103 2109 210d")), Call::Write(vec![7; 12]), Call::Write(vec![7; 9]),
-        Call::Sitting(vec![7; 10]), Call::List(vec![0x11, 0, 2, 3]), Call::Over(true, None), Call::Put(3), Call::Plan,
-    ];
+/// Each call of a script that begins with a paper, with each part of its reply, each lent byte and each part of the
+/// desk altered in turn.
+pub fn check_altered(checks: &mut Checks, script: &[Call]) {
     let mut pair = Pair::new();
-    for call in &script {
+    for call in script {
         let before = pair.theirs;
         let mut ours = pair.ours.clone();
         let seen = play(&mut before.clone(), call);
@@ -144,23 +144,26 @@ fn altered_replies(seen: &Reply) -> Vec<(String, Reply)> {
     all
 }
 
-/// Every part of a desk with P's nest, one altered at a time.
+/// Every part of a desk with a nest and some dependences, one altered at a time.
 fn altered_desks(desk: &host::Desk) -> Vec<(&'static str, host::Desk)> {
-    let alter: [(&'static str, fn(&mut host::Desk)); 17] = [
+    let alter: [(&'static str, fn(&mut host::Desk)); 20] = [
         ("loaded", |d| d.loaded ^= 1),
         ("loaded, not 0 or 1", |d| d.loaded ^= 2),
         ("the number of points", |d| d.nest.count ^= 1),
-        ("a point", |d| d.nest.points[13] ^= 1),
+        ("a point", |d| d.nest.points[d.nest.count - 1] ^= 1),
         ("the number of dependences", |d| d.nest.many -= 1),
         ("a dependence's kind", |d| d.nest.deps[0].kind ^= 3),
         ("a dependence's d", |d| d.nest.deps[0].d += 1),
-        ("a dependence's s", |d| d.nest.deps[5].s += 1),
-        ("a dependence's t", |d| d.nest.deps[5].t += 1),
+        ("a dependence's s", |d| d.nest.deps[d.nest.many - 1].s += 1),
+        ("a dependence's t", |d| d.nest.deps[d.nest.many - 1].t += 1),
+        ("the number of barred gaps", |d| d.nest.bars ^= 1),
+        ("the first barred gap", |d| d.nest.barred[0] ^= 4),
+        ("a byte behind the barred gaps", |d| d.nest.barred[254] ^= 1),
         ("planned", |d| d.planned ^= 1),
         ("the key", |d| d.key.words[0] ^= 1 << 7),
         ("the key's last word", |d| d.key.words[3] ^= 1),
         ("the sitting", |d| d.sitting.placement.words[0] ^= 1 << 4),
-        ("a kept count", |d| d.sitting.counts[5] += 1),
+        ("a kept count", |d| d.sitting.counts[d.nest.many - 1] += 1),
         ("uncut", |d| d.sitting.uncut += 1),
         ("the number of moves", |d| d.moves.many += 1),
         ("the latest move", |d| d.moves.head ^= 64),

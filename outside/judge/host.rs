@@ -10,7 +10,14 @@ pub struct Dependence { pub kind: u8, pub d: u8, pub s: u8, pub t: u8 }
 
 #[repr(C)]
 #[derive(Clone, Copy, PartialEq)]
-pub struct Nest { pub count: usize, pub points: [u8; 256], pub many: usize, pub deps: [Dependence; 512] }
+pub struct Nest {
+    pub count: usize,
+    pub points: [u8; 256],
+    pub many: usize,
+    pub deps: [Dependence; 512],
+    pub bars: usize,
+    pub barred: [u8; 255],
+}
 
 #[repr(C)]
 #[derive(Clone, Copy, PartialEq)]

@@ -10,15 +10,16 @@
 //! first in list order will do (request 6), so where the keys are known the answer must be one text, byte for byte:
 //!   - small nests, by trying every placement under the order of 001's definition 1;
 //!   - damaged texts and the limits, by the number and line of the refusal;
-//!   - full-size papers of one loop, and of small nests side by side.
+//!   - full-size papers of one loop, with barred gaps too, and of small nests side by side.
 //! Of other full-size papers: that the key is correct, has no barrier to spare and none that could stand earlier among
 //! the gaps of its loop, and comes with the right counts.
 //! The library's calls are played in random scripts, in and out of turn; number, line, values, every lent byte and the
-//! whole desk are compared after each.
+//! whole desk are compared after each. Before them every two lines of a list are loaded, one behind the other.
 //! A difference is printed with the text or the script that shows it, and the judge ends with status 1.
 //!
 //! It links the library: rustc -O outside/judge/main.rs -L target/staticlib -l static=host -o target/judge
 
+mod barred_check;
 mod calls;
 mod desk;
 mod desk_check;
@@ -43,6 +44,7 @@ fn show_keys(gaps: Option<&String>) -> bool {
         Ok(nest) => nest,
     };
     if nest.points.len() > 20 { println!("more than 20 points: too many placements to try"); return false }
+    if nest.blocked() { println!("number 15: a dependence has all its gaps barred"); return false }
     let keys = order::search(&nest);
     keys.iter().for_each(|key| println!("key {key:?}"));
     nest.loops().iter().for_each(|&d| println!("loop {d}: count {}", nest.counts(&keys[0])[d]));

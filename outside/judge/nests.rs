@@ -1,4 +1,4 @@
-//! Nests, their gaps and their dependences (01, "The nest and its gaps"; 02, jobs 1 and 3).
+//! Nests, their gaps and their dependences (01, "The nest and its gaps"; 02, jobs 1, 3 and 7).
 
 use crate::texts::line;
 
@@ -6,11 +6,13 @@ use crate::texts::line;
 pub const POINTS: usize = 256;
 pub const DEPTH: usize = 8;
 pub const DEPENDENCES: usize = 512;
+pub const BARS: usize = 255;
 pub const DO: u8 = 0x01;
 pub const ENDDO: u8 = 0x02;
 pub const STATEMENT: u8 = 0x03;
 pub const INDEPENDENT: u8 = 0x11;
 pub const CARRIED: u8 = 0x12;
+pub const BARRED: u8 = 0x13;
 pub const BARRIER: u8 = 0x21;
 pub const COUNT: u8 = 0x22;
 pub const REFUSAL: u8 = 0x2f;
@@ -19,9 +21,16 @@ pub const REFUSAL: u8 = 0x2f;
 #[derive(Clone, Copy)]
 pub struct Dependence { pub kind: u8, pub d: usize, pub s: usize, pub t: usize }
 
-/// Points in text order, the ENDDO of each DO, the loops that are still open while reading, and the dependences.
+/// Points in text order, the ENDDO of each DO, the loops that are still open while reading, the dependences, and the
+/// barred gaps as they were typed.
 #[derive(Clone, Default)]
-pub struct Nest { pub points: Vec<u8>, pub end: Vec<usize>, pub open: Vec<usize>, pub dependences: Vec<Dependence> }
+pub struct Nest {
+    pub points: Vec<u8>,
+    pub end: Vec<usize>,
+    pub open: Vec<usize>,
+    pub dependences: Vec<Dependence>,
+    pub barred: Vec<usize>,
+}
 
 impl Nest {
     pub fn closed(&self) -> bool { !self.points.is_empty() && self.open.is_empty() }
@@ -47,6 +56,17 @@ impl Nest {
         }
     }
 
+    /// The gaps of a dependence where a barrier may stand.
+    pub fn free_gaps(&self, x: &Dependence) -> Vec<usize> {
+        self.gaps(x).into_iter().filter(|g| !self.barred.contains(g)).collect()
+    }
+
+    /// "Some dependence has all its gaps barred."
+    pub fn blocked(&self) -> bool {
+        let barred: Vec<bool> = (0..self.points.len()).map(|g| self.barred.contains(&g)).collect();
+        self.dependences.iter().any(|x| (0..barred.len()).all(|g| barred[g] || !self.has_gap(x, g)))
+    }
+
     /// The lowest number of a dependence that holds no gap of the placement.
     pub fn uncut(&self, placement: &[usize]) -> Option<usize> {
         self.dependences.iter().position(|x| !self.gaps(x).iter().any(|g| placement.contains(g)))
@@ -69,12 +89,16 @@ impl Nest {
         if !inside(x.s) || !inside(x.t) { Some(7) } else { None }
     }
 
-    pub fn text(&self) -> Vec<u8> {
-        let mut text: Vec<u8> = self.points.iter().flat_map(|&k| line(&[k])).collect();
+    /// A line for each point, each dependence and each barred gap, in this order.
+    pub fn lines(&self) -> Vec<Vec<u8>> {
+        let mut lines: Vec<Vec<u8>> = self.points.iter().map(|&k| line(&[k])).collect();
         for x in &self.dependences {
             let (d, s, t) = (x.d as u8, x.s as u8, x.t as u8);
-            text.extend(if x.kind == INDEPENDENT { line(&[x.kind, s, t]) } else { line(&[x.kind, d, s, t]) });
+            lines.push(if x.kind == INDEPENDENT { line(&[x.kind, s, t]) } else { line(&[x.kind, d, s, t]) });
         }
-        text
+        lines.extend(self.barred.iter().map(|&g| line(&[BARRED, g as u8])));
+        lines
     }
+
+    pub fn text(&self) -> Vec<u8> { self.lines().concat() }
 }

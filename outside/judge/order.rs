@@ -1,4 +1,4 @@
-//! Which placement is better (01, "Which placement is better"; 001, definition 1; 02, job 6), and marks.
+//! Which placement is better (01, "Which placement is better"; 001, definition 1; 02, jobs 6 and 7), and marks.
 
 use crate::nests::*;
 use crate::papers::SEARCHED;
@@ -25,17 +25,20 @@ pub fn as_good(t: &Tree, u: &Tree) -> bool {
     t.inside.iter().zip(&u.inside).all(|(a, b)| as_good(a, b)) && (t.inside != u.inside || t.count <= u.count)
 }
 
-/// All correct placements of a small nest, as bits (bit g for gap g).
+/// All correct placements of a small nest, as bits (bit g for gap g): they avoid barred gaps and cut every dependence.
 pub fn correct_placements(nest: &Nest) -> Vec<u32> {
-    let masks: Vec<u32> = nest.dependences.iter().map(|x| nest.gaps(x).iter().fold(0, |m, g| m | 1 << g)).collect();
-    (0..1u32 << (nest.points.len() - 1)).map(|m| m << 1).filter(|p| masks.iter().all(|m| m & p != 0)).collect()
+    let bits = |gaps: &[usize]| gaps.iter().fold(0, |m, g| m | 1 << g);
+    let masks: Vec<u32> = nest.dependences.iter().map(|x| bits(&nest.gaps(x))).collect();
+    let correct = |p: &u32| p & bits(&nest.barred) == 0 && masks.iter().all(|m| m & p != 0);
+    (0..1u32 << (nest.points.len() - 1)).map(|m| m << 1).filter(correct).collect()
 }
 
 pub fn gap_list(placement: u32) -> Vec<usize> { (0..32).filter(|g| placement >> g & 1 == 1).collect() }
 
 /// All keys: the correct placements whose tree is as good or better than the tree of every correct placement. That
-/// there are any is 001's lemma 1. The list rises, so the first key in list order is the first here. Placements with
-/// the same counts have the same tree, so each tree is made once.
+/// there are any is 001's lemma 1, where any placement is correct; a blocked nest has none. The list rises, so the
+/// first key in list order is the first here. Placements with the same counts have the same tree, so each tree is made
+/// once.
 pub fn search(nest: &Nest) -> Vec<Vec<usize>> {
     let owners: Vec<usize> = (1..nest.points.len()).map(|g| nest.owner(g)).collect();
     let counts = |placement: u32| {
@@ -46,16 +49,17 @@ pub fn search(nest: &Nest) -> Vec<Vec<usize>> {
     let mut same: HashMap<Vec<usize>, Vec<u32>> = HashMap::new();
     correct_placements(nest).into_iter().for_each(|p| same.entry(counts(p)).or_default().push(p));
     let trees: Vec<(Tree, &Vec<u32>)> = same.iter().map(|(counts, all)| (tree(nest, 0, counts), all)).collect();
-    let least = trees.iter().reduce(|least, other| if as_good(&other.0, &least.0) { other } else { least }).unwrap();
+    let least = trees.iter().reduce(|least, other| if as_good(&other.0, &least.0) { other } else { least });
+    let Some(least) = least else { return Vec::new() };
     assert!(trees.iter().all(|u| as_good(&least.0, &u.0)), "no least tree: {}", shown(&nest.text()));
     let mut keys: Vec<Vec<usize>> = least.1.iter().map(|&p| gap_list(p)).collect();
     keys.sort();
     keys
 }
 
-/// The first key where it can be found: by search, on a nest of one loop, and on nests side by side in one more loop,
-/// with no dependence from one to another. There the least tree has their least trees under a root with count 0, and
-/// their first keys make the first key.
+/// The first key of a nest that is not blocked, where it can be found: by search, on a nest of one loop, and on nests
+/// side by side in one more loop, with no dependence from one to another. There the least tree has their least trees
+/// under a root with count 0, and their first keys make the first key.
 pub fn first_key(nest: &Nest) -> Option<Vec<usize>> {
     if nest.points.len() <= SEARCHED { return Some(search(nest).swap_remove(0)) }
     if nest.loops().len() == 1 { return Some(one_loop_first(nest)) }
@@ -82,9 +86,10 @@ fn parts(nest: &Nest) -> Option<Vec<(usize, Nest)>> {
     Some(parts)
 }
 
-/// What is wrong with a key that cannot be searched for: a dependence uncut, a barrier to spare, one that could stand
-/// earlier.
+/// What is wrong with a key that cannot be searched for: a barred gap, a dependence uncut, a barrier to spare, one that
+/// could stand earlier.
 pub fn key_fault(nest: &Nest, key: &[usize]) -> Result<(), String> {
+    if let Some(g) = key.iter().find(|g| nest.barred.contains(g)) { return Err(format!("key {key:?} has barred {g}")) }
     if let Some(number) = nest.uncut(key) { return Err(format!("key {key:?} leaves dependence {number} uncut")) }
     for i in 0..key.len() {
         let rest = [&key[..i], &key[i + 1..]].concat();
@@ -96,10 +101,12 @@ pub fn key_fault(nest: &Nest, key: &[usize]) -> Result<(), String> {
 }
 
 /// The least count of a nest of one loop, as textbooks find it: take each gap as a first barrier, go once round the
-/// ring from there and put a barrier wherever a dependence that is still uncut has its last gap.
+/// ring from there and put a barrier wherever a dependence that is still uncut has its last gap. Barred gaps are left
+/// out of each dependence: what a barrier passes over of them makes no difference.
 pub fn one_loop_count(nest: &Nest) -> usize {
     let ring = nest.points.len() - 1;
-    let intervals: Vec<Vec<usize>> = nest.dependences.iter().map(|x| nest.gaps(x)).collect();
+    let intervals: Vec<Vec<usize>> = nest.dependences.iter().map(|x| nest.free_gaps(x)).collect();
+    let firsts = (1..=ring).filter(|g| !nest.barred.contains(g));
     let after_first = |first: usize| {
         let turned = |gaps: &Vec<usize>| gaps.iter().map(|g| (g + ring - first) % ring).collect::<Vec<_>>();
         let ends = |gaps: Vec<usize>| (*gaps.iter().min().unwrap(), *gaps.iter().max().unwrap());
@@ -110,15 +117,16 @@ pub fn one_loop_count(nest: &Nest) -> usize {
         }
         count
     };
-    if intervals.is_empty() { 0 } else { (1..=ring).map(after_first).min().unwrap() }
+    if intervals.is_empty() { 0 } else { firsts.map(after_first).min().unwrap() }
 }
 
 /// Of the smallest correct sets of a nest of one loop the first in list order. Gap by gap, each is the lowest with
 /// which the barriers that are left can still cut the rest: above the last barrier every interval that is not cut yet
-/// is a stretch of a line, which needs one at the end of each stretch that ends first.
+/// is a stretch of a line, which needs one at the end of each stretch that ends first. Only gaps that are not barred
+/// are tried and counted.
 pub fn one_loop_first(nest: &Nest) -> Vec<usize> {
     let (ring, size) = (nest.points.len() - 1, one_loop_count(nest));
-    let intervals: Vec<Vec<usize>> = nest.dependences.iter().map(|x| nest.gaps(x)).collect();
+    let intervals: Vec<Vec<usize>> = nest.dependences.iter().map(|x| nest.free_gaps(x)).collect();
     let left_after = |key: &[usize]| {
         let last = *key.last().unwrap();
         let uncut = intervals.iter().filter(|x| !x.iter().any(|g| key.contains(g)));
@@ -135,7 +143,7 @@ pub fn one_loop_first(nest: &Nest) -> Vec<usize> {
     while key.len() < size {
         let with = |g: usize| [&key[..], &[g]].concat();
         let fits = |g: &usize| left_after(&with(*g)).is_some_and(|left| key.len() + 1 + left <= size);
-        let next = (key.last().map_or(1, |g| g + 1)..=ring).find(fits);
+        let next = (key.last().map_or(1, |g| g + 1)..=ring).filter(|g| !nest.barred.contains(g)).find(fits);
         key.push(next.expect("a smallest set begins so"));
     }
     key
@@ -149,7 +157,8 @@ pub fn could_be_earlier(nest: &Nest, key: &[usize]) -> Option<(usize, usize)> {
     let alone: Vec<(usize, &Vec<usize>)> =
         gaps.iter().filter_map(|x| match cut_by(x)[..] { [g] => Some((*g, x)), _ => None }).collect();
     let serves = |g: usize, h: usize| alone.iter().all(|(by, x)| *by != g || x.contains(&h));
-    let earlier = |g: usize| (1..g).find(|&h| !key.contains(&h) && nest.owner(h) == nest.owner(g) && serves(g, h));
+    let free = |h: usize| !key.contains(&h) && !nest.barred.contains(&h);
+    let earlier = |g: usize| (1..g).find(|&h| free(h) && nest.owner(h) == nest.owner(g) && serves(g, h));
     key.iter().find_map(|&g| earlier(g).map(|h| (g, h)))
 }
 

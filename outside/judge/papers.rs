@@ -73,6 +73,65 @@ pub fn small_nest(random: &mut Random) -> Nest {
     nest
 }
 
+/// Bars gaps of a nest of one loop: at times just the gaps of a dependence, or all but one of these and others; mostly
+/// up to so many, single gaps and stretches, some of them again, so that every dependence keeps a gap.
+pub fn bar_gaps(random: &mut Random, nest: &mut Nest, number: usize) {
+    let ring = nest.points.len() - 1;
+    if !nest.dependences.is_empty() && random.one_in(5) {
+        let x = random.pick(&nest.dependences);
+        nest.barred = (1..=ring).filter(|&g| nest.has_gap(&x, g)).collect();
+        if random.one_in(2) { return }
+        nest.barred.remove(random.below(nest.barred.len()));
+    }
+    let (longest, any) = (random.pick(&[1, 2, 2 + ring / 4, ring]), random.one_in(8));
+    for _ in nest.barred.len()..number {
+        let from = 1 + random.below(ring);
+        for g in from..ring.min(from + random.below(longest)) + 1 {
+            if nest.barred.len() >= number { return }
+            nest.barred.push(g);
+            if !any && nest.blocked() { nest.barred.pop(); }
+        }
+    }
+}
+
+/// A small nest of one loop with barred gaps.
+pub fn small_barred(random: &mut Random) -> Nest {
+    let most = if random.one_in(10) { SEARCHED } else { SMALL };
+    let n = 2 + random.below(most - 1);
+    let mut nest = random_points(random, n, 1);
+    let (number, reach) = (random.below(9), 1 + random.below(n));
+    add_dependences(random, &mut nest, number, reach);
+    let bars = random.below(n + 3);
+    bar_gaps(random, &mut nest, bars);
+    nest
+}
+
+/// 256 points in one loop, up to 512 dependences and up to 255 barred gaps.
+pub fn full_barred(random: &mut Random) -> Nest {
+    let mut nest = full_nest(random, 1);
+    if random.one_in(4) { nest.dependences.truncate(random.below(60)) }
+    let bars = random.pick(&[1, 20, 128, 200, 254, 255, 255]);
+    bar_gaps(random, &mut nest, bars);
+    nest
+}
+
+/// The text of a nest with its barred gaps anywhere among the dependences.
+pub fn spelled(random: &mut Random, nest: &Nest) -> Vec<u8> {
+    let mut lines = nest.lines();
+    let barred = lines.split_off(lines.len() - nest.barred.len());
+    let mut place = |_: &Vec<u8>| nest.points.len() + random.below(nest.dependences.len() + 1);
+    let mut places: Vec<usize> = barred.iter().map(&mut place).collect();
+    places.sort();
+    places.into_iter().zip(barred).rev().for_each(|(at, line)| lines.insert(at, line));
+    lines.concat()
+}
+
+/// The text of a small nest, one in three of one loop with barred gaps.
+pub fn small_text(random: &mut Random) -> (Vec<u8>, usize) {
+    let nest = if random.one_in(3) { small_barred(random) } else { small_nest(random) };
+    (spelled(random, &nest), nest.points.len())
+}
+
 /// 256 points and 512 dependences where the shape admits them.
 pub fn full_nest(random: &mut Random, depth: usize) -> Nest {
     let mut nest = random_points(random, POINTS, depth);
@@ -101,7 +160,9 @@ pub fn side_by_side(random: &mut Random, points: usize) -> (Nest, Vec<usize>) {
 
 /// A frame that may be out of place: any kind, mostly of the right length, operands around the nest's size.
 pub fn stray_line(random: &mut Random, n: usize) -> Vec<u8> {
-    let kinds = [0, DO, ENDDO, STATEMENT, 4, INDEPENDENT, INDEPENDENT, CARRIED, CARRIED, BARRIER, COUNT, REFUSAL];
+    let kinds = [
+        0, DO, ENDDO, STATEMENT, 4, INDEPENDENT, INDEPENDENT, CARRIED, CARRIED, BARRED, BARRED, BARRIER, COUNT, REFUSAL,
+    ];
     let kind = if random.one_in(12) { random.next() as u8 } else { random.pick(&kinds) };
     let right = match kind { DO | ENDDO | STATEMENT => 0, INDEPENDENT | COUNT => 2, CARRIED => 3, _ => 1 };
     let length = if random.one_in(8) { random.below(6) } else { right };
@@ -137,9 +198,9 @@ pub fn damage(random: &mut Random, text: &[u8], n: usize) -> Vec<u8> {
             }
             11 => { lines.insert(i, stray_line(random, n)); text = lines.concat() }
             12 => text.extend(stray_line(random, n)),
-            _ if lines[i].len() > 5 => {
+            _ if lines[i].len() > 4 => {
                 let operand = 2 + 2 * random.below(lines[i].len() / 2 - 1);
-                lines[i][operand..operand + 2].copy_from_slice(format!("{:02x}", random.below(n + 2)).as_bytes());
+                lines[i][operand..operand + 2].copy_from_slice(format!("{:02x}", random.below(n + 2) as u8).as_bytes());
                 text = lines.concat();
             }
             _ => continue,

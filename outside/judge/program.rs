@@ -1,4 +1,4 @@
-//! The program's answer (01, "The program"), judged and compared.
+//! The program's answer (01, "The program"; 02, job 7), judged and compared.
 
 use crate::edges::{edges, Edge};
 use crate::nests::*;
@@ -18,7 +18,7 @@ const PATIENCE: Duration = Duration::from_secs(20);
 /// "Input above 8,192 bytes gives 2f050000."
 const INPUT: usize = 8192;
 
-/// Of an accepted text, its first key where that is known.
+/// Of an accepted text, its first key where that is known. A blocked nest has none and is refused.
 pub enum Standard { Refused(Refusal), Accepted(Nest, Option<Vec<usize>>) }
 
 pub fn read_input(text: &[u8]) -> Result<Nest, Refusal> {
@@ -28,8 +28,9 @@ pub fn read_input(text: &[u8]) -> Result<Nest, Refusal> {
 pub fn standard(text: &[u8]) -> Standard {
     match read_input(text) {
         Err(refusal) => Standard::Refused(refusal),
+        Ok(nest) if nest.blocked() => Standard::Refused(Refusal { number: 15, line: 0 }),
         Ok(nest) => {
-            let key = if nest.points.len() <= SEARCHED { Some(search(&nest).swap_remove(0)) } else { None };
+            let key = first_key(&nest);
             Standard::Accepted(nest, key)
         }
     }
@@ -52,7 +53,7 @@ pub fn judge(standard: &Standard, answer: &[u8]) -> Result<(), String> {
     };
     let is_barrier = |text: &&[u8]| text.starts_with(b"21");
     let frames: usize = answer.split_inclusive(|&b| b == b'\n').take_while(is_barrier).map(|l| l.len()).sum();
-    let key = read_placement(nest.points.len(), &answer[..frames])
+    let key = read_placement(nest, &answer[..frames])
         .map_err(|r| format!("its key has fault {} on line {}: {}", r.number, r.line, shown(answer)))?;
     same(answer, &answer_text(nest, &key))?;
     key_fault(nest, &key)?;
@@ -72,7 +73,7 @@ pub fn make_case(seed: u64, case: usize, edges: &[Edge]) -> Case {
         return Case { what: "text at the edge of a rule".into(), text: text.clone(), standard: standard(text) };
     }
     let random = &mut Random::new(seed, case);
-    match random.below(40) {
+    match random.below(48) {
         0 => known_case("full-size paper, any shape", full_nest(random, DEPTH), None),
         1 => {
             let nest = full_nest(random, 1);
@@ -86,11 +87,24 @@ pub fn make_case(seed: u64, case: usize, edges: &[Edge]) -> Case {
         3 | 4 => {
             let depth = 1 + random.below(DEPTH);
             let text = full_nest(random, depth).text();
-            damaged_case("damaged full-size paper", damage(random, &text, POINTS - 2))
+            read_case("damaged full-size paper", damage(random, &text, POINTS - 2))
         }
-        5..=17 => {
-            let nest = small_nest(random);
-            damaged_case("damaged text", damage(random, &nest.text(), nest.points.len()))
+        5 => {
+            let nest = full_barred(random);
+            read_case("full-size paper with barred gaps", spelled(random, &nest))
+        }
+        6 => {
+            let nest = full_barred(random);
+            let text = spelled(random, &nest);
+            read_case("damaged full-size paper with barred gaps", damage(random, &text, POINTS - 2))
+        }
+        7..=20 => {
+            let (text, n) = small_text(random);
+            read_case("damaged text", damage(random, &text, n))
+        }
+        21..=27 => {
+            let nest = small_barred(random);
+            read_case("small paper with barred gaps, every placement tried", spelled(random, &nest))
         }
         _ => {
             let nest = small_nest(random);
@@ -104,12 +118,14 @@ pub fn known_case(what: &str, nest: Nest, key: Option<Vec<usize>>) -> Case {
     Case { what: what.into(), text: nest.text(), standard: Standard::Accepted(nest, key) }
 }
 
-pub fn damaged_case(what: &str, text: Vec<u8>) -> Case {
+/// A case whose standard is read from its text.
+pub fn read_case(what: &str, text: Vec<u8>) -> Case {
     let standard = standard(&text);
-    match &standard {
-        Standard::Refused(r) => Case { what: format!("{what}, refused with {}", r.number), text, standard },
-        Standard::Accepted(..) => Case { what: format!("{what}, still accepted"), text, standard },
-    }
+    let outcome = match &standard {
+        Standard::Refused(r) => format!("refused with {}", r.number),
+        Standard::Accepted(..) => "accepted".into(),
+    };
+    Case { what: format!("{what}, {outcome}"), text, standard }
 }
 
 /// Runs the program on a text. Writing and reading have a thread of their own, so that no program can stall us.

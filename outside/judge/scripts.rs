@@ -2,7 +2,7 @@
 
 use crate::calls::{play, Call, Reply};
 use crate::desk::{Desk, Key};
-use crate::edges::edges;
+use crate::edges::{edges, pairs};
 use crate::host::{self, gaps_of, KEPT};
 use crate::nests::*;
 use crate::order::key_fault;
@@ -78,7 +78,7 @@ fn random_mix(random: &mut Random) -> (Mix, usize) {
 }
 
 fn random_call(random: &mut Random, desk: &Desk, mix: Mix, edges: &[Vec<u8>]) -> Call {
-    if desk.nest.is_none() && random.one_in(2) { return Call::Load(small_nest(random).text()) }
+    if desk.nest.is_none() && random.one_in(2) { return Call::Load(small_text(random).0) }
     if desk.key == Key::None && random.one_in(8) { return Call::Plan }
     let Mix { loads, asks, moves, backs, rest } = mix;
     match random.below(loads + asks + moves + backs + rest) {
@@ -116,22 +116,25 @@ fn nest_text(random: &mut Random, edges: &[Vec<u8>]) -> Vec<u8> {
         0 => { let depth = 1 + random.below(DEPTH); full_nest(random, depth).text() }
         1 => { let text = full_nest(random, DEPTH).text(); damage(random, &text, POINTS - 2) }
         2 => side_by_side(random, POINTS).0.text(),
-        3 => Vec::new(),
-        4 => (0..random.below(40)).map(|_| random.pick(b"0123456789abcdef\n\n")).collect(),
-        5..=8 => edges[random.below(edges.len())].clone(),
-        9..=24 => { let nest = small_nest(random); damage(random, &nest.text(), nest.points.len()) }
-        _ => small_nest(random).text(),
+        3 => { let nest = full_barred(random); spelled(random, &nest) }
+        4 => { let nest = full_barred(random); damage(random, &nest.text(), POINTS - 2) }
+        5 => Vec::new(),
+        6 => (0..random.below(40)).map(|_| random.pick(b"0123456789abcdef\n\n")).collect(),
+        7..=10 => edges[random.below(edges.len())].clone(),
+        11..=26 => { let (text, n) = small_text(random); damage(random, &text, n) }
+        _ => small_text(random).0,
     }
 }
 
-/// Mostly gaps of the nest, in part so few that barriers come and go; then the first that are none, and large numbers
-/// that would be gaps if only their low bits were read.
+/// Mostly gaps of the nest, in part so few that barriers come and go, and barred ones; then the first that are none,
+/// and large numbers that would be gaps if only their low bits were read.
 fn random_gap(random: &mut Random, desk: &Desk) -> usize {
     let n = desk.points().max(2);
     match random.below(24) {
         0 => random.pick(&[0, n, n + 1, 255, 256, usize::MAX]),
         1 => random.below(n) + (1 << random.pick(&[8, 16, 32, 63])),
-        2..=9 => 1 + random.below(n - 1),
+        2 | 3 if !desk.barred().is_empty() => random.pick(desk.barred()),
+        4..=9 => 1 + random.below(n - 1),
         10..=13 if !desk.sitting.is_empty() => *desk.sitting.iter().nth(random.below(desk.sitting.len())).unwrap(),
         _ => 1 + random.below(1 + n / 8),
     }
@@ -150,13 +153,15 @@ fn buffer(random: &mut Random, lines: usize) -> Vec<u8> {
     (0..length).map(|_| random.next() as u8).collect()
 }
 
-/// A placement near the key, the sitting, or any; at times damaged.
+/// A placement near the key, the sitting, or any, mostly without barred gaps; at times damaged.
 fn placement_text(random: &mut Random, desk: &Desk) -> Vec<u8> {
     let n = desk.points().max(2);
+    let barred = if random.one_in(8) { &[] } else { desk.barred() };
+    let free = (1..n).filter(|g| !barred.contains(g));
     let mut gaps: Vec<usize> = match random.below(8) {
         0 => desk.sitting.iter().copied().collect(),
-        1 => (1..n).filter(|_| random.one_in(2)).collect(),
-        2 => (1..n).collect(),
+        1 => free.filter(|_| random.one_in(2)).collect(),
+        2 => free.collect(),
         _ => desk.key().to_vec(),
     };
     for _ in 0..random.pick(&[0, 1, 1, 2]) {
@@ -215,8 +220,29 @@ fn record(random: &mut Random, desk: &Desk, any: bool) -> [u8; 4] {
 
 // ---- Comparing
 
+type Numbers = BTreeMap<String, usize>;
+
+/// Makes a call on both desks and counts how it ended; false where there is a difference.
+fn make_counted(pair: &mut Pair, call: &Call, tally: &mut Numbers) -> bool {
+    let full = pair.ours.moves.len() == KEPT && matches!(call, Call::Put(_) | Call::Lift(_));
+    let Ok(reply) = pair.make(call) else { return false };
+    let outcome = match reply.number {
+        0 if full => "made, the oldest move forgotten".into(),
+        0 => "made".into(),
+        number => format!("refused with {number}"),
+    };
+    *tally.entry(format!("{}, {outcome}", call.name())).or_insert(0) += 1;
+    true
+}
+
+/// Loads a text and plans; where there is a difference, gives the calls.
+fn play_text(text: &[u8], tally: &mut Numbers) -> Option<Vec<Call>> {
+    let (mut pair, calls) = (Pair::new(), vec![Call::Load(text.to_vec()), Call::Plan]);
+    if calls.iter().all(|call| make_counted(&mut pair, call, tally)) { None } else { Some(calls) }
+}
+
 /// Plays the script of a number; where there is a difference, gives the calls up to it.
-fn play_script(seed: u64, script: usize, edges: &[Vec<u8>], tally: &mut BTreeMap<String, usize>) -> Option<Vec<Call>> {
+fn play_script(seed: u64, script: usize, edges: &[Vec<u8>], tally: &mut Numbers) -> Option<Vec<Call>> {
     let random = &mut Random::new(seed, script);
     let (mut pair, mut made) = (Pair::new(), Vec::new());
     let (mix, most) = random_mix(random);
@@ -224,14 +250,7 @@ fn play_script(seed: u64, script: usize, edges: &[Vec<u8>], tally: &mut BTreeMap
     for i in 0..2 + random.below(most) {
         let call = if i == plan_at { Call::Plan } else { random_call(random, &pair.ours, mix, edges) };
         made.push(call.clone());
-        let full = pair.ours.moves.len() == KEPT && matches!(call, Call::Put(_) | Call::Lift(_));
-        let Ok(reply) = pair.make(&call) else { return Some(made) };
-        let outcome = match reply.number {
-            0 if full => "made, the oldest move forgotten".into(),
-            0 => "made".into(),
-            number => format!("refused with {number}"),
-        };
-        *tally.entry(format!("{}, {outcome}", call.name())).or_insert(0) += 1;
+        if !make_counted(&mut pair, &call, tally) { return Some(made) }
     }
     None
 }
@@ -253,15 +272,21 @@ fn shortened(mut calls: Vec<Call>) -> Vec<Call> {
     calls
 }
 
+/// The first scripts are the pairs of lines, whatever the seed.
 pub fn compare(seed: u64, seconds: u64) -> bool {
-    let texts: Vec<Vec<u8>> = edges().into_iter().map(|(text, _)| text).collect();
+    let (pairs, texts) = (pairs(), edges().into_iter().map(|(text, _)| text).collect::<Vec<_>>());
     let until = Instant::now() + Duration::from_secs(seconds);
-    let (next, failed, tally) = (AtomicUsize::new(0), AtomicUsize::new(0), Mutex::new(BTreeMap::new()));
+    let (next, failed, tally) = (AtomicUsize::new(0), AtomicUsize::new(0), Mutex::new(Numbers::new()));
     let work = || {
-        let mut own = BTreeMap::new();
-        while failed.load(SeqCst) == 0 && Instant::now() < until {
+        let mut own = Numbers::new();
+        loop {
             let script = next.fetch_add(1, SeqCst);
-            let Some(calls) = play_script(seed, script, &texts, &mut own) else { continue };
+            if failed.load(SeqCst) > 0 || (script >= pairs.len() && Instant::now() > until) { break }
+            let differs = match pairs.get(script) {
+                Some(text) => play_text(text, &mut own),
+                None => play_script(seed, script, &texts, &mut own),
+            };
+            let Some(calls) = differs else { continue };
             failed.fetch_add(1, SeqCst);
             let calls = shortened(calls);
             let lines: Vec<String> = calls.iter().map(|call| format!("  {}\n", call.shown())).collect();
@@ -272,7 +297,7 @@ pub fn compare(seed: u64, seconds: u64) -> bool {
         own.into_iter().for_each(|(what, number)| *all.entry(what).or_insert(0) += number);
     };
     std::thread::scope(|threads| (0..THREADS).for_each(|_| drop(threads.spawn(work))));
-    let tally: BTreeMap<String, usize> = tally.into_inner().unwrap();
+    let tally = tally.into_inner().unwrap();
     tally.iter().for_each(|(what, number)| println!("{number:8}  {what}"));
     println!("{:8}  scripts", next.into_inner());
     finish(tally.values().sum(), failed.into_inner())

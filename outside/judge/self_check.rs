@@ -1,6 +1,7 @@
 //! The judge's self-check: its reading has the cases of document 01, its several ways to one result agree, and every
 //! wrong answer put before it is noticed.
 
+use crate::barred_check::check_barred;
 use crate::desk_check::check_desk;
 use crate::edges::edges;
 use crate::nests::*;
@@ -20,13 +21,15 @@ impl Checks {
 pub fn self_check() -> bool {
     let mut checks = Checks { passed: 0, failed: 0 };
     for (text, wanted) in edges() {
-        checks.that(&format!("{wanted:?} for {}", shown(&text)), read_input(&text).err() == wanted);
+        let refusal = match standard(&text) { Standard::Refused(r) => Some(r), Standard::Accepted(..) => None };
+        checks.that(&format!("{wanted:?} for {}", shown(&text)), refusal == wanted);
     }
     check_cases(&mut checks);
     check_explained(&mut checks);
     check_wrong_answers(&mut checks);
     check_first(&mut checks);
     check_desk(&mut checks);
+    check_barred(&mut checks);
     (0..400).for_each(|case| check_random(&mut checks, &mut Random::new(7, case)));
     finish(checks.passed, checks.failed)
 }
@@ -58,9 +61,9 @@ fn check_cases(checks: &mut Checks) {
     let blank = read_nest(b"").unwrap();
     checks.that("case 11, nest", blank.points == [DO, ENDDO] && blank.dependences.is_empty());
     checks.that("case 11, answer", judge(&standard(b""), b"220000\n").is_ok());
-    checks.that("case 13, gap 13", read_placement(14, b"210d\n") == Ok(vec![13]));
-    checks.that("case 13, gap 14", read_placement(14, b"210e\n") == Err(Refusal { number: 8, line: 1 }));
-    checks.that("gaps must rise", read_placement(14, b"2105\n2105\n") == Err(Refusal { number: 8, line: 2 }));
+    checks.that("case 13, gap 13", read_placement(&p, b"210d\n") == Ok(vec![13]));
+    checks.that("case 13, gap 14", read_placement(&p, b"210e\n") == Err(Refusal { number: 8, line: 1 }));
+    checks.that("gaps must rise", read_placement(&p, b"2105\n2105\n") == Err(Refusal { number: 8, line: 2 }));
 }
 
 /// What docs/WHY.md says of Q, P, R and the nest where two barriers beat one.
@@ -137,21 +140,20 @@ fn check_first(checks: &mut Checks) {
     checks.that("noticed without the first key: a barrier that could be earlier", noticed);
 }
 
-/// On random nests: later keys and damaged keys are noticed, and the judge's several ways agree.
-fn check_random(checks: &mut Checks, random: &mut Random) {
-    let nest = small_nest(random);
-    let (keys, n, shows) = (search(&nest), nest.points.len(), shown(&nest.text()));
+/// On a small nest that has keys: later keys and damaged keys are noticed, and what is marked Best is a key.
+pub fn check_keys(checks: &mut Checks, random: &mut Random, nest: &Nest) {
+    let (keys, n, shows) = (search(nest), nest.points.len(), shown(&nest.text()));
     let key = &keys[random.below(keys.len())];
     let known = standard(&nest.text());
-    let admits = |key: &[usize]| judge(&known, &answer_text(&nest, key)).is_ok();
+    let admits = |key: &[usize]| judge(&known, &answer_text(nest, key)).is_ok();
     let dropped = |i: usize| [&key[..i], &key[i + 1..]].concat();
     let added = |g: usize| (1..n).filter(|h| *h == g || key.contains(h)).collect::<Vec<_>>();
     checks.that(&format!("{key:?} is a key, and only the first will do: {shows}"), admits(key) == (*key == keys[0]));
-    checks.that(&format!("the first cannot be earlier: {shows}"), could_be_earlier(&nest, &keys[0]).is_none());
+    checks.that(&format!("the first cannot be earlier: {shows}"), could_be_earlier(nest, &keys[0]).is_none());
     checks.that(&format!("none dropped from {key:?}: {shows}"), (0..key.len()).all(|i| !admits(&dropped(i))));
     checks.that(&format!("none added to {key:?}: {shows}"), (1..n).all(|g| key.contains(&g) || !admits(&added(g))));
-    let correct: Vec<Vec<usize>> = correct_placements(&nest).into_iter().map(gap_list).collect();
-    let marked = |p: &Vec<usize>| match mark(&nest, key, p) {
+    let correct: Vec<Vec<usize>> = correct_placements(nest).into_iter().map(gap_list).collect();
+    let marked = |p: &Vec<usize>| match mark(nest, key, p) {
         Mark::Uncut(_) => false,
         Mark::Dearer { theirs, ours, .. } => theirs > ours && !keys.contains(p),
         Mark::Best => keys.contains(p),
@@ -159,8 +161,15 @@ fn check_random(checks: &mut Checks, random: &mut Random) {
     checks.that(&format!("Best means a key, and Dearer dearer: {shows}"), correct.iter().all(marked));
     let mut counts = || nest.counts(&correct[random.below(correct.len())]);
     let (a, b) = (counts(), counts());
-    let ways = as_good(&tree(&nest, 0, &a), &tree(&nest, 0, &b)) == as_good_loop_by_loop(&nest, &a, &b);
+    let ways = as_good(&tree(nest, 0, &a), &tree(nest, 0, &b)) == as_good_loop_by_loop(nest, &a, &b);
     checks.that(&format!("the order in both words: {shows} {a:?} {b:?}"), ways);
+}
+
+/// On random nests: the judge's several ways to one result agree.
+fn check_random(checks: &mut Checks, random: &mut Random) {
+    let nest = small_nest(random);
+    check_keys(checks, random, &nest);
+    let (n, shows) = (nest.points.len(), shown(&nest.text()));
     let mut ring = random_points(random, n, 1);
     add_dependences(random, &mut ring, n, n);
     checks.that(&format!("one loop: {}", shown(&ring.text())), search(&ring)[0] == one_loop_first(&ring));

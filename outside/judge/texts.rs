@@ -1,4 +1,4 @@
-//! Texts read line by line (01, "Text" and "Numbers from the input"; 02, jobs 1 and 3).
+//! Texts read line by line (01, "Text" and "Numbers from the input"; 02, jobs 1, 3 and 7).
 
 use crate::nests::*;
 
@@ -48,13 +48,14 @@ pub fn take_frame(nest: &mut Nest, frame: &[u8]) -> Result<(), u8> {
         (kind @ (DO | ENDDO | STATEMENT), 1) => take_point(nest, kind),
         (kind @ INDEPENDENT, 3) => take_dependence(nest, Dependence { kind, d: 0, s: at(1), t: at(2) }),
         (kind @ CARRIED, 4) => take_dependence(nest, Dependence { kind, d: at(1), s: at(2), t: at(3) }),
+        (BARRED, 2) => take_barred(nest, at(1)),
         _ => Err(2),
     }
 }
 
 /// The numbers are tried rising, so the first that applies is the lowest.
 pub fn take_point(nest: &mut Nest, kind: u8) -> Result<(), u8> {
-    if !nest.dependences.is_empty() { return Err(3) }
+    if !nest.dependences.is_empty() || !nest.barred.is_empty() { return Err(3) }
     if nest.closed() || (nest.points.is_empty() && kind != DO) { return Err(4) }
     if nest.points.len() == POINTS || (kind == DO && nest.open.len() == DEPTH) { return Err(5) }
     let point = nest.points.len();
@@ -76,13 +77,23 @@ pub fn take_dependence(nest: &mut Nest, x: Dependence) -> Result<(), u8> {
     Ok(())
 }
 
-/// A placement text for a nest of n points: barriers only, gaps rising.
-pub fn read_placement(n: usize, text: &[u8]) -> Result<Vec<usize>, Refusal> {
+pub fn take_barred(nest: &mut Nest, g: usize) -> Result<(), u8> {
+    if !nest.closed() { return Err(4) }
+    if nest.barred.len() == BARS { return Err(5) }
+    if g == 0 || g >= nest.points.len() { return Err(8) }
+    if nest.loops().len() > 1 { return Err(14) }
+    nest.barred.push(g);
+    Ok(())
+}
+
+/// A placement text for a nest: barriers only, gaps rising, none of them barred.
+pub fn read_placement(nest: &Nest, text: &[u8]) -> Result<Vec<usize>, Refusal> {
     let mut gaps: Vec<usize> = Vec::new();
     read_lines(text, |frame| {
         if frame[0] != BARRIER || frame.len() != 2 { return Err(2) }
         let g = frame[1] as usize;
-        if g == 0 || g >= n || gaps.last().is_some_and(|&last| g <= last) { return Err(8) }
+        if g == 0 || g >= nest.points.len() || gaps.last().is_some_and(|&last| g <= last) { return Err(8) }
+        if nest.barred.contains(&g) { return Err(16) }
         gaps.push(g);
         Ok(())
     })?;

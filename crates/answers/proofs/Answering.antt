@@ -1,9 +1,9 @@
--- The answer to an input, case by case: too long, refused, accepted. Where the text is accepted the key is that of the
--- nest that it spells, the first of all its keys; a refusal does not look at it.
--- Main statements: `planned-gaps`, `accepted-nest`, `answer-long`, `answer-refused`, `answer-key`, `answer-within`,
--- `answers-first-key`.
+-- The answer to an input, case by case: too long, refused, blocked, accepted. Where the text is accepted and its nest is
+-- not blocked, the key is that of the nest, the first of all its keys; a refusal does not look at it.
+-- Main statements: `key-gaps`, `accepted-nest`, `answer-long`, `answer-refused`, `answer-blocked`, `answer-key`,
+-- `answer-within`, `answers-first-key`, `answers-blocked`.
 use mathlib.Core.Path.{_≡_, sym, _∙_, ap, subst}
-use mathlib.Core.Bool.{true}
+use mathlib.Core.Bool.{true, false}
 use mathlib.Core.List.{List}
 use Prim.Native.Nat.{ℕ, _≤_, _<_}
 use native.Mathlib.Omega.{arith}
@@ -17,31 +17,39 @@ use Rattle.placements.specs.Placements.{areGaps}
 use Rattle.placements.specs.Words.{gapsIn}
 use Rattle.texts.specs.declared.Reading.{Reading}
 use Rattle.texts.specs.NestTexts.{Got, readNest}
-use Rattle.texts.specs.Program.{LONGEST, refusalText, programText}
+use Rattle.texts.specs.Program.{LONGEST, refusalText, plannedText, programText}
 use Rattle.texts.specs.Reads.{IsRead}
 use Rattle.texts.proofs.Accepted.{accepted-valid}
 use Rattle.texts.proofs.Refusals.{place-within}
 use Rattle.texts.proofs.ProgramTexts.{program-refused}
+use Rattle.barred.specs.Reduced.{isBlocked}
 use Rattle.keys.specs.KeyOf.{keyOf}
 use Rattle.keys.specs.OneKey.{IsFirstKey}
-use Rattle.keys.proofs.KeyGaps.{planned-words, valid-gaps}
+use Rattle.keys.proofs.KeyGaps.{valid-gaps}
 use Rattle.keys.proofs.OneKey.{one-key}
-use Rattle.plan.specs.Planned.{PlanSays}
 use Rattle.answers.specs.Answers.{LINES, keyAndCounts, answerTo, Answered}
 
 -- the planner's words hold gaps of the nest
-module _ (n : Nest) (ws : List ℕ) (valid : isValid n ≡ true) (p : PlanSays n ws) where
-  pub planned-gaps : areGaps n (gapsIn ws) ≡ true
-  planned-gaps = subst (λ (gs : List ℕ). areGaps n gs ≡ true) (sym (planned-words n ws valid p)) (valid-gaps n valid)
+pub key-gaps
+    : (n : Nest) (ws : List ℕ) → isValid n ≡ true → gapsIn ws ≡ keyOf n → areGaps n (gapsIn ws) ≡ true
+key-gaps n ws valid e = subst (λ (gs : List ℕ). areGaps n gs ≡ true) (sym e) (valid-gaps n valid)
 
--- of an accepted text the program's text is the key and the counts
+-- of an accepted text the program's text is that of its nest
 program-read
     : (input key : List ℕ)
     → length input ≤ LONGEST
     → readNest input .number ≡ 0
-    → programText input key ≡ keyAndCounts (readNest input .nest-is) key
+    → programText input key ≡ plannedText (readNest input .nest-is) key
 unfolding programText
 program-read input key short h = rw (le-ltb LONGEST (length input) short, eq-eqb (readNest input .number) 0 h)
+
+-- which is the key and the counts, or the refusal of a blocked nest
+planned-open
+    : (n : Nest) (key : List ℕ) → isBlocked n ≡ false → plannedText n key ≡ keyAndCounts n key
+planned-open n key o = rw o
+
+planned-blocked : (n : Nest) (key : List ℕ) → isBlocked n ≡ true → plannedText n key ≡ refusalText 15 0
+planned-blocked n key b = rw b
 
 -- an answer is the program's text for the key
 by-text
@@ -89,15 +97,20 @@ module _ (input : List ℕ) (short : length input ≤ LONGEST) (g : Reading) (re
   refused-text h =
       program-refused input (keyOf (readNest input .nest-is)) short (λ z. h (number-is ∙ z)) ∙ rw (number-is, place-is)
 
+  nest-text : g .number ≡ 0 → answerTo input ≡ plannedText (nestIn (g .nest)) (keyOf (nestIn (g .nest)))
+  nest-text h =
+      program-read input (keyOf (readNest input .nest-is)) short (sym number-is ∙ h) ∙
+      ap (λ (x : Nest). plannedText x (keyOf x)) (sym nest-is)
+
   key-text
       : (ws : List ℕ)
       → g .number ≡ 0
-      → PlanSays (nestIn (g .nest)) ws
+      → isBlocked (nestIn (g .nest)) ≡ false
+      → gapsIn ws ≡ keyOf (nestIn (g .nest))
       → answerTo input ≡ keyAndCounts (nestIn (g .nest)) (gapsIn ws)
-  key-text ws h p =
-      program-read input (keyOf (readNest input .nest-is)) short (sym number-is ∙ h) ∙
-      ap (λ (x : Nest). keyAndCounts x (keyOf x)) (sym nest-is) ∙
-      ap (keyAndCounts (nestIn (g .nest))) (sym (planned-words (nestIn (g .nest)) ws (accepted-nest h) p))
+  key-text ws h o e =
+      nest-text h ∙ planned-open (nestIn (g .nest)) (keyOf (nestIn (g .nest))) o ∙
+      ap (keyAndCounts (nestIn (g .nest))) (sym e)
 
   -- refused: the refusal is written; accepted: the key and the counts
   module _ (o out : List ℕ) (r : ℕ) where
@@ -108,14 +121,25 @@ module _ (input : List ℕ) (short : length input ≤ LONGEST) (g : Reading) (re
         → Answered input o out r
     answer-refused h = by-text input o out r (refusalText (g .number) (g .line)) (refused-text h)
 
+    pub answer-blocked
+        : g .number ≡ 0
+        → isBlocked (nestIn (g .nest)) ≡ true
+        → r ≡ length (refusalText 15 0)
+        → out ≡ over (refusalText 15 0) o
+        → Answered input o out r
+    answer-blocked h b =
+        by-text input o out r (refusalText 15 0)
+        (nest-text h ∙ planned-blocked (nestIn (g .nest)) (keyOf (nestIn (g .nest))) b)
+
     pub answer-key
         : (ws : List ℕ)
         → g .number ≡ 0
-        → PlanSays (nestIn (g .nest)) ws
+        → isBlocked (nestIn (g .nest)) ≡ false
+        → gapsIn ws ≡ keyOf (nestIn (g .nest))
         → r ≡ length (keyAndCounts (nestIn (g .nest)) (gapsIn ws))
         → out ≡ over (keyAndCounts (nestIn (g .nest)) (gapsIn ws)) o
         → Answered input o out r
-    answer-key ws h p = by-text input o out r (keyAndCounts (nestIn (g .nest)) (gapsIn ws)) (key-text ws h p)
+    answer-key ws h b e = by-text input o out r (keyAndCounts (nestIn (g .nest)) (gapsIn ws)) (key-text ws h b e)
 
 -- an answer lies within the buffer
 pub answer-within : (input o out : List ℕ) (r : ℕ) → Answered input o out r → r ≤ length out
@@ -123,7 +147,8 @@ answer-within input o out r a =
     let t = answerTo input in
     omega (arith, a .length-is, ap length (a .out-is), length-append t (drop (length t) o))
 
--- demand 3 and 02, job 6, of the program: of an accepted text it writes the first of all keys, and its counts
+-- demand 3 and 02, jobs 6 and 7, of the program: of an accepted text whose nest is not blocked it writes the first of all
+-- keys, and its counts; of one whose nest is blocked 2f0f0000
 pub record WritesFirstKey (input : List ℕ) : Type 0 where
   pub text-is : answerTo input ≡ keyAndCounts (readNest input .nest-is) (keyOf (readNest input .nest-is))
   pub is-first : IsFirstKey (readNest input .nest-is) (keyOf (readNest input .nest-is))
@@ -132,9 +157,21 @@ pub answers-first-key
     : (input : List ℕ)
     → length input ≤ LONGEST
     → readNest input .number ≡ 0
+    → isBlocked (readNest input .nest-is) ≡ false
     → WritesFirstKey input
-answers-first-key input short h =
+answers-first-key input short h o =
+    let n = readNest input .nest-is in
     record {
-      text-is = program-read input (keyOf (readNest input .nest-is)) short h;
-      is-first = one-key .is-first input h;
+      text-is = program-read input (keyOf n) short h ∙ planned-open n (keyOf n) o;
+      is-first = one-key .is-first input h o;
     }
+
+pub answers-blocked
+    : (input : List ℕ)
+    → length input ≤ LONGEST
+    → readNest input .number ≡ 0
+    → isBlocked (readNest input .nest-is) ≡ true
+    → answerTo input ≡ refusalText 15 0
+answers-blocked input short h b =
+    let n = readNest input .nest-is in
+    program-read input (keyOf n) short h ∙ planned-blocked n (keyOf n) b

@@ -1,5 +1,5 @@
--- The program's answer is what the desk's calls give: Load leaves the nest that the text spells, Plan its key, Write the
--- key's text, and Count of a DO that loop's count.
+-- The program's answer is what the desk's calls give: Load leaves the nest that the text spells, Plan its key or the
+-- number of a blocked nest, Write the key's text, and Count of a DO that loop's count.
 -- Main statement: `answers-by-calls`.
 use mathlib.Core.Path.{_≡_, refl, sym, _∙_, ap, subst}
 use mathlib.Core.Bool.{Bool, true, false}
@@ -10,7 +10,7 @@ use native.Mathlib.Omega.{arith}
 use lib.Dec.{eqb}
 use lib.ListN.{length, take}
 use borrow.Author.Tests.{eq-eqb, ne-eqb, le-ltb}
-use Rattle.laws.specs.Choice.{pick}
+use Rattle.laws.specs.Choice.{pick, when}
 use Rattle.laws.proofs.Tests.{eq-or}
 use Rattle.nests.specs.Kinds.{DO}
 use Rattle.nests.specs.Nests.{Nest}
@@ -20,13 +20,14 @@ use Rattle.placements.specs.Placements.{loopCount}
 use Rattle.texts.specs.NestTexts.{readNest}
 use Rattle.texts.specs.PlacementTexts.{keyText}
 use Rattle.texts.specs.Counts.{COUNT, countsFrom, countsText}
-use Rattle.texts.specs.Program.{LONGEST, answerText, programText}
+use Rattle.texts.specs.Program.{LONGEST, refusalText, answerText, programText}
+use Rattle.barred.specs.Reduced.{isBlocked}
 use Rattle.keys.specs.KeyOf.{keyOf}
-use Rattle.desk.specs.Desks.{Desk, loadedDesk, withKey, deskIn}
+use Rattle.desk.specs.Desks.{Desk, loadedDesk, withKey, deskIn, planFault}
 use Rattle.desk.specs.Says.{countFault}
 use Rattle.desk.proofs.Made.{loaded-holds, plan-makes}
 use Rattle.desk.proofs.ReadAgain.{written-text}
-use Rattle.answers.specs.Calls.{countedFrom, Calls, answerOf, AnswersByCalls}
+use Rattle.answers.specs.Calls.{countedFrom, Calls, plannedOf, answerOf, AnswersByCalls}
 
 -- the counts' lines, from counts that are those of each DO
 counted-counts
@@ -55,17 +56,29 @@ count-held
 count-held x n d v e h q =
     q ∙ ap (λ (y : Desk). pick (eqb (countFault y d) 0) (loopCount (y .nest-is) (y .key) d) 0) e ∙ rw h
 
+-- after an accepted Load Plan is refused exactly where the nest is blocked
 module _ (s : List ℕ) (c : Calls s) (accepted : c .load .number ≡ 0) where
+  plan-number : c .plan .number ≡ when (isBlocked (readNest s .nest-is)) 15
+  plan-number =
+      c .plan-says .number-is ∙ ap planFault (loaded-holds (c .desk) s (c .load) (c .load-says) accepted .holds)
+
+module _
+    (s : List ℕ) (c : Calls s) (accepted : c .load .number ≡ 0) (opens : isBlocked (readNest s .nest-is) ≡ false) where
+  planned : c .plan .number ≡ 0
+  planned = plan-number s c accepted ∙ ap (λ (t : Bool). when t 15) opens
+
   -- what the desk holds after Load and Plan
   held : deskIn (c .plan .desk) ≡ withKey (loadedDesk (readNest s .nest-is))
   held =
       let l = loaded-holds (c .desk) s (c .load) (c .load-says) accepted in
       let a : c .load .desk .loaded ≡ true = ap (λ (x : Desk). x .hasNest) (l .holds) in
-      plan-makes (c .load .desk) (c .plan) a (c .plan-says) .holds ∙ ap withKey (l .holds)
+      let o : isBlocked (deskIn (c .load .desk) .nest-is) ≡ false =
+      ap (λ (x : Desk). isBlocked (x .nest-is)) (l .holds) ∙ opens in
+      plan-makes (c .load .desk) (c .plan) a o (c .plan-says) .holds ∙ ap withKey (l .holds)
 
   key-written : take (c .write .value) (c .out′) ≡ keyText (keyOf (readNest s .nest-is))
   key-written =
-      written-text (c .plan .desk) (c .out) (c .out′) (c .write) (c .write-says) (c .fits accepted) ∙
+      written-text (c .plan .desk) (c .out) (c .out′) (c .write) (c .write-says) (c .fits accepted planned) ∙
       ap (λ (x : Desk). keyText (x .key)) held
 
   counts-given
@@ -92,13 +105,26 @@ answers-by-calls s c short =
     n : Nest
     n = readNest s .nest-is
 
+    by-plan
+        : c .load .number ≡ 0
+        → (t : Bool)
+        → isBlocked n ≡ t
+        → pick t (refusalText 15 0) (keyText (keyOf n) ++ countsText n (keyOf n)) ≡ plannedOf s c
+    by-plan z false o =
+        let p : eqb (c .plan .number) 0 ≡ true = eq-eqb (c .plan .number) 0 (planned s c z o) in
+        rw (p, key-written s c z o, counts-given s c z o)
+    by-plan z true b =
+        let q : c .plan .number ≡ 15 = plan-number s c z ∙ ap (λ (t : Bool). when t 15) b in
+        let l : c .plan .line ≡ 0 = c .plan-says .line-is in
+        rw (q, l)
+
     go
         : (c .load .number ≡ 0) ⊎ ((c .load .number ≡ 0) → ⊥)
         → answerText (readNest s) (keyOf n) ≡ answerOf s c
     go (inl z) =
         let a : eqb (readNest s .number) 0 ≡ true = eq-eqb (readNest s .number) 0 (sym (c .load-says .number-is) ∙ z) in
         let b : eqb (c .load .number) 0 ≡ true = eq-eqb (c .load .number) 0 z in
-        rw (a, b, key-written s c z, counts-given s c z)
+        rw (a, b) (by-plan z (isBlocked n) refl)
     go (inr z) =
         let a : eqb (readNest s .number) 0 ≡ false =
         ne-eqb (readNest s .number) 0 (λ q. z (c .load-says .number-is ∙ q)) in

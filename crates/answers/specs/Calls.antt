@@ -24,7 +24,7 @@ countedFrom count i (p ∷ ps) =
     pick (eqb p DO) (lineText (COUNT ∷ (i ∷ (count i ∷ [])))) [] ++ countedFrom count (suc i) ps
 
 -- whatever desk made by calls it is: Load of the text s, Plan of the desk that it leaves, then Write into a buffer and
--- Count for each point, with their replies. Where Load accepts, the buffer is long enough.
+-- Count for each point, with their replies. Where neither is refused, the buffer is long enough.
 pub record Calls (s : List ℕ) : Type 0 where
   pub desk : DD.Desk
   pub made : IsMade desk
@@ -36,18 +36,22 @@ pub record Calls (s : List ℕ) : Type 0 where
   pub out′ : List ℕ
   pub write : DA.Answer
   pub write-says : WriteSays (plan .desk) out out′ write
-  pub fits : load .number ≡ 0 → write .number ≡ 0
+  pub fits : load .number ≡ 0 → plan .number ≡ 0 → write .number ≡ 0
   pub count : ℕ → DA.Answer
   pub count-says : (d : ℕ) → CountSays (plan .desk) d (count d)
 
--- the bytes written, then the counts; or the refusal of Load
-abbrev pub answerOf : (s : List ℕ) → Calls s → List ℕ
-answerOf s c =
+-- the bytes written, then the counts; or the refusal of Load, or that of Plan
+abbrev pub plannedOf : (s : List ℕ) → Calls s → List ℕ
+plannedOf s c =
     pick
-    (eqb (c .load .number) 0)
+    (eqb (c .plan .number) 0)
     (take (c .write .value) (c .out′) ++
     countedFrom (λ d. c .count d .value) 0 (deskIn (c .plan .desk) .nest-is .points))
-    (refusalText (c .load .number) (c .load .line))
+    (refusalText (c .plan .number) (c .plan .line))
+
+abbrev pub answerOf : (s : List ℕ) → Calls s → List ℕ
+answerOf s c =
+    pick (eqb (c .load .number) 0) (plannedOf s c) (refusalText (c .load .number) (c .load .line))
 
 -- 01, "The program": it loads and plans, and writes the key's frames, then the counts
 abbrev pub AnswersByCalls : Type 0

@@ -10,10 +10,10 @@ ghost use Rattle.placements.specs.Placements.{areGaps};
 ghost use Rattle.placements.specs.Words.{gapsIn};
 ghost use Rattle.texts.specs.Program.{refusalText};
 ghost use Rattle.answers.specs.Answers.{ROOM, LINES, keyAndCounts, Answered};
+use foundation::plan_paper;
 use lines::put_frame;
 use nests::Nest;
 use placements::Placement;
-use plan::plan;
 use texts::read_nest;
 use texts::write_counts;
 use texts::write_text;
@@ -39,7 +39,11 @@ pub fn answer(input: &[u8], out: &mut [u8]) -> usize
         return write_refusal(number, reading.line, out);
     }
     let nest = reading.nest;
-    let key = plan(nest);
+    let paper = plan_paper(nest);
+    if paper.blocked {
+        return write_refusal(15, 0, out);
+    }
+    let key = paper.key;
     write_both(nest, key, out)
 }
 

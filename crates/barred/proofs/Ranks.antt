@@ -12,7 +12,8 @@ use Rattle.laws.specs.Choice.{isIn}
 use Rattle.laws.specs.Bits.{one}
 use borrow.Author.Tests.{ltb-true, leb-true, lt-ltb, le-leb}
 use Rattle.laws.proofs.Tests.{le-or, eq-or, eq-by, le-by, lt-by, bool-by}
-use Rattle.barred.specs.Ranks.{isFree, rank}
+use Rattle.placements.specs.Placements.{isFree}
+use Rattle.barred.specs.Ranks.{rank}
 
 module _ (bs : List ℕ) where
   -- one gap more

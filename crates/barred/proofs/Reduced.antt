@@ -23,14 +23,13 @@ use Rattle.nests.specs.Valid.{isShape, isDep}
 use Rattle.nests.proofs.Loops.{outermost}
 use Rattle.nests.proofs.Ring.{one-loop-is-first}
 use Rattle.nests.proofs.Deps.{Fits, line-gap}
-use Rattle.placements.specs.Placements.{cuts, areGapsFrom}
-use Rattle.placements.proofs.Cuts.{cut-has-gap}
+use Rattle.placements.specs.Placements.{cuts, areGapsFrom, isFree, avoids}
+use Rattle.placements.proofs.Cuts.{cut-has-gap, avoids-in}
 use Rattle.placements.proofs.Words.{gapsOf-in, gapsOf-rising}
 use Rattle.placements.proofs.Rising.{rises, rising-in}
-use Rattle.barred.specs.Ranks.{isFree, avoids, rank, ranks}
+use Rattle.barred.specs.Ranks.{rank, ranks}
 use Rattle.barred.specs.Reduced.{openGaps, isShut, ringPoints, carriedRound, reducedDep}
 use Rattle.barred.proofs.Ranks.{rank-monotone, rank-of-free, rank-first, ranked-below, ranked-above}
-use Rattle.barred.proofs.Renumbered.{avoids-in}
 use Rattle.barred.proofs.RingPoints.{ring-end, line-dep, back-dep}
 
 -- ---- round a ring of m gaps

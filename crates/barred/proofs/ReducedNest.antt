@@ -8,18 +8,17 @@ use mathlib.Core.Logic.{_⊎_, inl, inr, ⊎-elim}
 use Prim.Native.Nat.{ℕ, zero, suc, _-_, _≤_, _<_}
 use native.Mathlib.Omega.{arith}
 use lib.ListN.{length}
-use borrow.Author.Tests.{le-leb}
 use Rattle.laws.specs.Members.{Among}
 use Rattle.laws.proofs.Tests.{and-intro, or-false}
 use Rattle.nests.specs.Kinds.{POINTS, DEPENDENCES}
 use Rattle.nests.specs.Nests.{Dep}
 use Rattle.nests.specs.Ring.{oneLoop}
 use Rattle.nests.specs.Valid.{isShape, areDeps, isValid}
-use Rattle.nests.proofs.Deps.{Fits}
+use Rattle.nests.proofs.Deps.{Fits, is-valid}
 use Rattle.nests.proofs.Levels.{starts-with-do}
 use Rattle.nests.proofs.Loops.{end-after, outermost}
-use Rattle.placements.specs.Placements.{uncutFrom, areGapsFrom}
-use Rattle.barred.specs.Ranks.{avoids, rank, ranks}
+use Rattle.placements.specs.Placements.{uncutFrom, areGapsFrom, avoids}
+use Rattle.barred.specs.Ranks.{rank, ranks}
 use Rattle.barred.specs.Reduced.{isShut, someShut, ringPoints, reducedDeps, reduced}
 use Rattle.barred.proofs.Ranks.{rank-le}
 use Rattle.barred.proofs.RingPoints.{ring-length, ring-shape}
@@ -68,13 +67,15 @@ module _ (ps bs : List ℕ) (shape : isShape ps ≡ true) (one : oneLoop ps ≡ 
       → someShut ps bs ds ≡ false
       → isValid (reduced ps bs ds) ≡ true
   reduced-valid ds few many fits h =
-      and-intro
-      (ring-shape top)
-      (and-intro
-      (le-leb (length (ringPoints top)) POINTS (omega (arith, points)))
-      (and-intro
-      (le-leb (length (reducedDeps bs top ds)) DEPENDENCES (omega (arith, reduced-length bs top ds)))
-      (reduced-deps ds fits (none-shut ps bs ds h))))
+      is-valid (reduced ps bs ds)
+      (record {
+        shape = ring-shape top;
+        few-points = omega (arith, points);
+        few-deps = omega (arith, reduced-length bs top ds);
+        all-deps = reduced-deps ds fits (none-shut ps bs ds h);
+        few-bars = omega arith;
+        all-bars = refl;
+      })
     where
       points : length (ringPoints (rank bs (length ps - 1))) ≤ length ps
       points =

@@ -1,5 +1,5 @@
 -- Placements that avoid barred gaps, renumbered and back: rising lists of unbarred gaps are the rising lists of ranks.
--- Main statements: `avoids-in`, `avoids-by`, `ranks-length`, `ranks-rising`, `in-ranks`, `unranked-rising`,
+-- Main statements: `ranks-length`, `ranks-rising`, `in-ranks`, `unranked-rising`,
 -- `unranked-avoids`, `ranks-unranked`, `unranked-ranks`.
 use mathlib.Core.Path.{_≡_, refl, sym, ap, _∙_}
 use mathlib.Core.Bool.{Bool, true, _&&_}
@@ -12,27 +12,14 @@ use borrow.Author.Tests.{lt-ltb}
 use Rattle.laws.specs.Choice.{isIn}
 use Rattle.laws.proofs.Tests.{never, and-intro, and-true, bool-by}
 use Rattle.laws.proofs.Members.{in-here, in-later, in-cons}
-use Rattle.placements.specs.Placements.{areGapsFrom}
+use Rattle.placements.specs.Placements.{areGapsFrom, isFree, avoids}
+use Rattle.placements.proofs.Cuts.{avoids-in, avoids-by}
 use Rattle.placements.proofs.Words.{gapsOf-in, gapsOf-rising}
 use Rattle.placements.proofs.Rising.{rises, rising-in, rising-equal}
-use Rattle.barred.specs.Ranks.{isFree, avoids, rank, ranks, unranked}
+use Rattle.barred.specs.Ranks.{rank, ranks, unranked}
 use Rattle.barred.proofs.Ranks.{rank-zero, rank-monotone, rank-of-free, ranked-equal, rank-found}
 
 module _ (bs : List ℕ) where
-  -- every gap of such a placement is unbarred
-  pub avoids-in : (gs : List ℕ) → avoids bs gs ≡ true → (i : ℕ) → isIn i gs ≡ true → isFree bs i ≡ true
-  avoids-in [] h i p = never p
-  avoids-in (g ∷ gs) h i p =
-      let a = and-true (isFree bs g) (avoids bs gs) h in
-      ⊎-elim
-      (λ (z : i ≡ g). rw z (a .0))
-      (λ (z : isIn i gs ≡ true). avoids-in gs (a .1) i z)
-      (in-cons i g gs p)
-
-  pub avoids-by : (gs : List ℕ) → ((i : ℕ) → isIn i gs ≡ true → isFree bs i ≡ true) → avoids bs gs ≡ true
-  avoids-by [] h = refl
-  avoids-by (g ∷ gs) h = and-intro (h g (in-here g gs)) (avoids-by gs (λ i p. h i (in-later i g gs p)))
-
   pub ranks-length : (gs : List ℕ) → length (ranks bs gs) ≡ length gs
   ranks-length [] = refl
   ranks-length (g ∷ gs) = ap suc (ranks-length gs)
@@ -87,7 +74,7 @@ module _ (bs : List ℕ) where
       back : isIn (rank bs g) (ranks bs gs) ≡ true → isIn g gs ≡ true
       back h =
           let x = rank-in gs (rank bs g) h in
-          let e = ranked-equal bs (x .gap) g (avoids-in gs v (x .gap) (x .there)) f (x .rank-is) in
+          let e = ranked-equal bs (x .gap) g (avoids-in bs gs v (x .gap) (x .there)) f (x .rank-is) in
           rw (← e) (x .there)
 
   -- ---- back from ranks
@@ -116,7 +103,7 @@ module _ (bs : List ℕ) where
         record { first = r .0; last = omega (arith, r .1); free = a .0; ranked = a .1 }
 
     pub unranked-avoids : avoids bs (unranked bs k rs) ≡ true
-    unranked-avoids = avoids-by (unranked bs k rs) (λ i h. unranked-its i h .free)
+    unranked-avoids = avoids-by bs (unranked bs k rs) (λ i h. unranked-its i h .free)
 
     pub ranks-unranked : areGapsFrom 0 (suc (rank bs k)) rs ≡ true → ranks bs (unranked bs k rs) ≡ rs
     ranks-unranked h =
@@ -157,4 +144,4 @@ module _ (bs : List ℕ) where
       back g p =
           let l = rising-in 0 (suc k) gs g h p in
           in-unranked k (ranks bs gs) g (l .0) (omega (arith, l .1)) ∙
-          and-intro (avoids-in gs v g p) (gap-in gs g p)
+          and-intro (avoids-in bs gs v g p) (gap-in gs g p)

@@ -1,20 +1,12 @@
 -- The gaps that are not barred, renumbered from 1.
--- Main definitions: `isFree`, `avoids`, `rank`, `ranks`, `unranked`.
-use mathlib.Core.Bool.{Bool, true, _&&_, not}
+-- Main definitions: `rank`, `ranks`, `unranked`.
+use mathlib.Core.Bool.{_&&_}
 use mathlib.Core.List.{List, [], _∷_}
 use Prim.Native.Nat.{ℕ, zero, suc, _+_}
 use Rattle.laws.specs.Choice.{isIn}
 use Rattle.laws.specs.Bits.{one}
+use Rattle.placements.specs.Placements.{isFree}
 use Rattle.placements.specs.Words.{gapsOf}
-
--- a gap that is not barred
-abbrev pub isFree : List ℕ → ℕ → Bool
-isFree bs g = not (isIn g bs)
-
--- a placement without barred gaps
-abbrev pub avoids : List ℕ → List ℕ → Bool
-avoids bs [] = true
-avoids bs (g ∷ gs) = isFree bs g && avoids bs gs
 
 -- how many gaps of 1 to g are not barred
 unfoldable pub rank : List ℕ → ℕ → ℕ

@@ -1,5 +1,5 @@
 -- A nest of one loop whose gaps are the unbarred gaps of another, renumbered: what cuts a dependence there cuts it here.
--- Main definitions: `openGaps`, `isShut`, `someShut`, `ringPoints`, `reducedDep`, `reduced`.
+-- Main definitions: `openGaps`, `isShut`, `someShut`, `isBlocked`, `ringPoints`, `reducedDep`, `reduced`.
 use mathlib.Core.Bool.{Bool, false, _&&_, _||_}
 use mathlib.Core.List.{List, [], _∷_}
 use Prim.Native.Nat.{ℕ, zero, suc, _-_}
@@ -9,8 +9,9 @@ use Rattle.laws.specs.Choice.{pick}
 use Rattle.nests.specs.Kinds.{DO, ENDDO, STATEMENT, INDEPENDENT, CARRIED}
 use Rattle.nests.specs.Nests.{Dep, dep, Nest, nest}
 use Rattle.nests.specs.Gaps.{hasGap}
+use Rattle.placements.specs.Placements.{isFree}
 use Rattle.placements.specs.Words.{gapsOf}
-use Rattle.barred.specs.Ranks.{isFree, rank}
+use Rattle.barred.specs.Ranks.{rank}
 
 -- the gaps of a dependence that are not barred
 abbrev pub openGaps : List ℕ → List ℕ → Dep → List ℕ
@@ -24,6 +25,10 @@ isShut ps bs e = eqb (length (openGaps ps bs e)) 0
 abbrev pub someShut : List ℕ → List ℕ → List Dep → Bool
 someShut ps bs [] = false
 someShut ps bs (e ∷ es) = isShut ps bs e || someShut ps bs es
+
+-- 02, job 7: some dependence of the nest has all its gaps barred
+abbrev pub isBlocked : Nest → Bool
+isBlocked n = someShut (n .points) (n .barred) (n .deps)
 
 -- k statements, then the ENDDO
 unfoldable pub statementsTo : ℕ → List ℕ

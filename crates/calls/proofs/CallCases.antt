@@ -14,7 +14,7 @@ use Rattle.planner.specs.Sweep.{stepChild, next, step, walk, sweep, close, valu
 use Rattle.planner.specs.Sweep.{childSome, someOf, costOf, frontOf, leftOf, choiceOf, layOf}
 use Rattle.planner.specs.Plan.{tableOf, tableFrom, withRow, noTables}
 use Rattle.planner.specs.Plan as Plan
-use Rattle.keys.specs.KeyOf.{keyOf}
+use Rattle.keys.specs.KeyOf.{plainKey, keyOf}
 use Rattle.calls.specs.Calls.{CALLS, dosBefore, timesFrom, callsOf, turnsFit}
 
 -- 01 03 01 03 03 03 02 03 02 with 110104, 110307
@@ -31,9 +31,9 @@ pub record Worked : Type 0 where
   pub more-turns : callsOf paper-once (3 ∷ 5 ∷ []) (4 ∷ []) ≡ 15
 
 pub worked-calls : Worked
-unfolding keyOf gapsOf keyIn leastEnd reachOf limitOf hasAt Plan.keyOf tableOf tableFrom withRow noTables needOf put
-    stepPlain seek free inner outer childAt stepChild next step walk sweep close value least better best childSome
-    someOf costOf frontOf leftOf choiceOf layOf dosBefore timesFrom callsOf
+unfolding plainKey keyOf gapsOf keyIn leastEnd reachOf limitOf hasAt Plan.keyOf tableOf tableFrom withRow noTables
+    needOf put stepPlain seek free inner outer childAt stepChild next step walk sweep close value least better best
+    childSome someOf costOf frontOf leftOf choiceOf layOf dosBefore timesFrom callsOf
 worked-calls =
     record {
       valid = refl;

@@ -27,6 +27,8 @@ use Rattle.moves.specs.Ring as Ring
 use Rattle.texts.specs.NestTexts.{Got}
 use Rattle.texts.specs.PlacementTexts.{placeLines, readPlacement, keyText}
 use Rattle.texts.proofs.TextCases.{P-lines, P-read}
+use Rattle.barred.specs.Reduced.{isBlocked}
+use Rattle.barred.proofs.Blocked.{unbarred-open}
 use Rattle.keys.proofs.Excluded.{Excluded, excluded}
 use Rattle.keys.proofs.KeyCases.{computed-keys}
 use Rattle.desk.specs.declared.Desk as DD
@@ -52,6 +54,8 @@ P-nest =
           dependence INDEPENDENT 0 2 5 ∷ dependence CARRIED 1 4 3 ∷ dependence INDEPENDENT 0 8 11 ∷
           dependence CARRIED 7 10 9 ∷ dependence CARRIED 0 10 2 ∷ dependence INDEPENDENT 0 4 9 ∷
           copies 506 (dependence 0 0 0 0);
+      bars = 0;
+      barred = copies 255 0;
     }
 
 -- the key's word has the bits 5 and 11
@@ -78,14 +82,24 @@ P-holds : Holds P-desk (withKey (loadedDesk paper-P))
 unfolding Ring.backFrom
 P-holds =
     held P-desk true paper-P true _ refl refl refl (key-words ∙ sym (computed-keys .of-P))
-    (record { count-is = refl; count-fits = omega arith; many-is = refl; many-fits = omega arith })
+    (record {
+      count-is = refl;
+      count-fits = omega arith;
+      many-is = refl;
+      many-fits = omega arith;
+      bars-is = refl;
+      bars-fit = omega arith;
+    })
     (record { no-gaps = no-words; no-cuts = λ i. copies-at 512 0 i; uncut-is = refl })
     (record { moves-are = refl; ring = record { head-fits = omega arith; many-fits = omega arith } })
+
+P-open : isBlocked paper-P ≡ false
+P-open = unbarred-open paper-P refl refl
 
 pub P-made : IsMade P-desk
 P-made =
     made-holds P-desk (withKey (loadedDesk paper-P))
-    (planned-paper (loadedDesk paper-P) refl (loaded-paper paper-P refl)) P-holds
+    (planned-paper (loadedDesk paper-P) refl P-open (loaded-paper paper-P refl)) P-holds
 
 -- what it holds, with the key computed
 abbrev P-keyed : Desk

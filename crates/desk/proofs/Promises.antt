@@ -12,7 +12,7 @@ use lib.Seq.{take-length}
 use borrow.Author.Tests.{eqb-true}
 use Rattle.laws.specs.Choice.{pick, pickT}
 use Rattle.nests.specs.declared.Dependence as DE
-use Rattle.nests.specs.Nests.{Dep, Nest, nest}
+use Rattle.nests.specs.Nests.{Dep, Nest}
 use Rattle.nests.specs.Stored.{depsIn, nestIn}
 use Rattle.nests.specs.Valid.{isValid}
 use Rattle.nests.proofs.Deps.{valid-is}
@@ -100,7 +100,14 @@ deskOut n =
     record {
       loaded = true;
       nest =
-          record { count = length (n .points); points = n .points; many = length (n .deps); deps = depsOut (n .deps) };
+          record {
+            count = length (n .points);
+            points = n .points;
+            many = length (n .deps);
+            deps = depsOut (n .deps);
+            bars = length (n .barred);
+            barred = n .barred;
+          };
       planned = false;
       key = record { words = 0 ∷ (0 ∷ (0 ∷ (0 ∷ []))) };
       sitting =
@@ -112,13 +119,15 @@ deps-out : (es : List Dep) → depsIn (length es) (depsOut es) ≡ es
 deps-out [] = refl
 deps-out (e ∷ es) = ap (λ (fs : List Dep). e ∷ fs) (deps-out es)
 
+same-nest : (n m : Nest) → n .points ≡ m .points → n .deps ≡ m .deps → n .barred ≡ m .barred → n ≡ m
+same-nest n m p q b = rw (← p, ← q, ← b)
+
 nest-out : (n : Nest) → nestIn (deskOut n .nest) ≡ n
 nest-out n =
     let p : nestIn (deskOut n .nest) .points ≡ n .points = take-length (n .points) in
     let q : nestIn (deskOut n .nest) .deps ≡ n .deps = deps-out (n .deps) in
-    let z : nest (nestIn (deskOut n .nest) .points) (nestIn (deskOut n .nest) .deps) ≡ nest (n .points) (n .deps) =
-    cc (p, q) in
-    z
+    let b : nestIn (deskOut n .nest) .barred ≡ n .barred = take-length (n .barred) in
+    same-nest (nestIn (deskOut n .nest)) n p q b
 
 holds-out : (n : Nest) → isValid n ≡ true → Holds (deskOut n) (loadedDesk n)
 unfolding Ring.backFrom
@@ -126,10 +135,18 @@ holds-out n v =
     let e = nest-out n in
     let p : length (nestIn (deskOut n .nest) .points) ≡ length (n .points) = ap (λ (m : Nest). length (m .points)) e in
     let q : length (nestIn (deskOut n .nest) .deps) ≡ length (n .deps) = ap (λ (m : Nest). length (m .deps)) e in
+    let b : length (nestIn (deskOut n .nest) .barred) ≡ length (n .barred) = ap (λ (m : Nest). length (m .barred)) e in
     let w = valid-is n v in
     let none = gaps-none (0 ∷ (0 ∷ (0 ∷ (0 ∷ [])))) (λ i l. holds-empty i) in
     held (deskOut n) true n false [] refl e refl none
-    (record { count-is = sym p; count-fits = w .few-points; many-is = sym q; many-fits = w .few-deps })
+    (record {
+      count-is = sym p;
+      count-fits = w .few-points;
+      many-is = sym q;
+      many-fits = w .few-deps;
+      bars-is = sym b;
+      bars-fit = w .few-bars;
+    })
     (record { no-gaps = none; no-cuts = λ i. refl; uncut-is = refl })
     (record { moves-are = refl; ring = record { head-fits = omega arith; many-fits = omega arith } })
 

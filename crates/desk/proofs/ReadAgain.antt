@@ -38,14 +38,14 @@ module _ (d : DD.Desk) (m : IsMade d) (state : stateFault true (deskIn d) ≡ 0)
   key-read =
       let r = ready d m state in
       let n = deskIn d .nest-is in
-      reads-back n (deskIn d .key) (r .key-gaps) (le-leb (length (n .points)) POINTS (r .few))
+      reads-back n (deskIn d .key) (r .key-gaps) (r .key-avoids) (le-leb (length (n .points)) POINTS (r .few))
 
   key-marked : marked (deskIn d) (keyText (deskIn d .key)) ≡ given Best
   key-marked =
       let r = ready d m state in
       let k = made-first d m (ready-has d state .1) .is-key in
       marked-read d (keyText (deskIn d .key)) (deskIn d .key) state key-read ∙
-      ap given (key-best (deskIn d .nest-is) (r .shape) (deskIn d .key) (deskIn d .key) k (r .key-gaps) k)
+      ap given (key-best (deskIn d .nest-is) (r .shape) (deskIn d .key) (deskIn d .key) k (r .key-gaps) (r .key-avoids) k)
 
   key-back : KeyBack d (keyText (deskIn d .key))
   key-back = record { read-is = key-read; mark-is = λ r h. h ∙ key-marked }

@@ -35,7 +35,7 @@ made-first d m p =
     subst
     (λ (x : List ℕ). IsFirstKey (deskIn d .nest-is) x)
     (sym (m .paper .key-is p))
-    (key-is-first (deskIn d .nest-is) (m .paper .valid (key-has-nest d m p)))
+    (key-is-first (deskIn d .nest-is) (m .paper .valid (key-has-nest d m p)) (m .paper .opens p))
 
 abbrev answer : ℕ → ℕ → ℕ → DA.Answer
 answer n l v = record { number = n; line = l; value = v }

@@ -1,6 +1,6 @@
--- Desks: a nest at most, a key at most, the candidate's sitting and moves; numbers 10 and 11; what the calls answer.
+-- Desks: a nest at most, a key at most, the candidate's sitting and moves; numbers 10, 11 and 15; what the calls answer.
 -- Main definitions: `Desk`, `withPlay`, `withKey`, `deskIn`, `overIn`, `IsMade`, `IsMadePlain`, `stateFault`,
--- `listFault`, `listUncut`.
+-- `planFault`, `listFault`, `listUncut`.
 use mathlib.Core.Path.{_≡_}
 use mathlib.Core.Bool.{Bool, true, false, _&&_, _||_, not}
 use mathlib.Core.List.{List, [], _∷_}
@@ -11,8 +11,9 @@ use Rattle.nests.specs.Kinds.{INDEPENDENT, CARRIED}
 use Rattle.nests.specs.Nests.{Dep, Nest, empty}
 use Rattle.nests.specs.Valid.{isValid, depFault}
 use Rattle.nests.specs.Stored.{nestIn, IsCounted}
-use Rattle.placements.specs.Placements.{cuts}
+use Rattle.placements.specs.Placements.{cuts, avoids}
 use Rattle.placements.specs.Words.{gapsIn}
+use Rattle.barred.specs.Reduced.{isBlocked}
 use Rattle.keys.specs.KeyOf.{keyOf}
 use Rattle.sitting.specs.Kept.{barriers, Kept}
 use Rattle.moves.specs.declared.Move as DM
@@ -66,18 +67,21 @@ deskIn d =
     (movesIn (d .moves))
 
 -- 02, job 4: a desk of the kind before sittings goes over with its nest and an empty sitting; 02, job 6: with the
--- key of its nest where it had one
+-- key of its nest where it had one; 02, job 7: and the nest is not blocked
 abbrev pub overIn : OD.PlainDesk → Desk
 overIn d =
     let x = desk (d .loaded) (nestIn (d .nest)) false [] [] [] in
-    pick (d .planned) (withKey x) x
+    pick (d .planned && not (isBlocked (nestIn (d .nest)))) (withKey x) x
 
--- 01, "The desk": desks come only from these calls; this is what such a desk holds. Its moves led to its sitting.
+-- 01, "The desk": desks come only from these calls; this is what such a desk holds. Its moves led to its sitting. 02,
+-- job 7: a blocked nest has no key, and the sitting avoids barred gaps.
 pub record IsPaper (x : Desk) : Type 0 where
   pub valid : x .hasNest ≡ true → isValid (x .nest-is) ≡ true
   pub no-nest : x .hasNest ≡ false → x ≡ emptyDesk
   pub key-is : x .hasKey ≡ true → x .key ≡ keyOf (x .nest-is)
   pub no-key : x .hasKey ≡ false → x .key ≡ []
+  pub opens : x .hasKey ≡ true → isBlocked (x .nest-is) ≡ false
+  pub avoiding : avoids (x .nest-is .barred) (x .sitting) ≡ true
   pub led : History (sittingGame (x .nest-is)) (x .moves) (x .sitting)
 
 -- a desk made by calls; 02, job 4: what its sitting keeps equals a fresh count over the placement
@@ -97,6 +101,10 @@ pub record IsMadePlain (d : OD.PlainDesk) : Type 0 where
 -- 01, "Numbers from the state": 10, no nest; 11, a nest but no key
 abbrev pub stateFault : Bool → Desk → ℕ
 stateFault wantsKey d = firstOf (when (not (d .hasNest)) 10) (when (wantsKey && not (d .hasKey)) 11)
+
+-- 02, job 7: 15, some dependence has all its gaps barred, from Plan after 10
+abbrev pub planFault : Desk → ℕ
+planFault x = firstOf (stateFault false x) (when (isBlocked (x .nest-is)) 15)
 
 -- a refusal: its number and its line, or the record's place in a list; 0 and 0 for none
 pub record Fault : Type 0 where

@@ -25,8 +25,8 @@ use Rattle.desk.specs.declared.Marked as DM
 use Rattle.desk.specs.declared.Verdict as DV
 use Rattle.desk.specs.declared.Verdict.the-variants as VV
 use Rattle.desk.specs.declared.Marked.the-variants as MV
-use Rattle.desk.specs.Desks.{Desk, emptyDesk, loadedDesk, withKey, deskIn, overIn, stateFault, Fault, fault}
-use Rattle.desk.specs.Desks.{listFault, listUncut}
+use Rattle.desk.specs.Desks.{Desk, emptyDesk, loadedDesk, withKey, deskIn, overIn, Fault, fault}
+use Rattle.desk.specs.Desks.{stateFault, planFault, listFault, listUncut}
 
 -- the desk holds this; its nest's counts are those of the nest, its sitting's those of a fresh count, and its moves
 -- stand in a ring
@@ -40,18 +40,18 @@ pub record Holds (d : DD.Desk) (x : Desk) : Type 0 where
 abbrev pub EmptySays : DD.Desk → Type 0
 EmptySays d = Holds d emptyDesk
 
--- Load: 1 to 7 with their line; accepted, it replaces the nest and drops key, sitting and moves; refused, it leaves the
+-- Load: 1 to 8 and 14 with their line; accepted, it replaces the nest and drops key, sitting and moves; refused, it leaves the
 -- desk
 pub record LoadSays (d : DD.Desk) (s : List ℕ) (r : DR.Reply) : Type 0 where
   pub number-is : r .number ≡ readNest s .number
   pub line-is : r .line ≡ readNest s .place
   pub desk-is : pickT (eqb (readNest s .number) 0) (Holds (r .desk) (loadedDesk (readNest s .nest-is))) (r .desk ≡ d)
 
--- Plan: 10; the key is that of the nest; 02, job 4: it does not touch the sitting, nor the moves
+-- Plan: 10, 15; the key is that of the nest; 02, job 4: it does not touch the sitting, nor the moves
 pub record PlanSays (d : DD.Desk) (r : DR.Reply) : Type 0 where
-  pub number-is : r .number ≡ stateFault false (deskIn d)
+  pub number-is : r .number ≡ planFault (deskIn d)
   pub line-is : r .line ≡ 0
-  pub desk-is : pickT (eqb (stateFault false (deskIn d)) 0) (Holds (r .desk) (withKey (deskIn d))) (r .desk ≡ d)
+  pub desk-is : pickT (eqb (planFault (deskIn d)) 0) (Holds (r .desk) (withKey (deskIn d))) (r .desk ≡ d)
   pub sitting-is : r .desk .sitting ≡ d .sitting
   pub moves-are : r .desk .moves ≡ d .moves
 
@@ -70,7 +70,7 @@ pub record CountSays (d : DD.Desk) (p : ℕ) (r : DA.Answer) : Type 0 where
   pub line-is : r .line ≡ 0
   pub value-is : r .value ≡ pick (eqb (countFault (deskIn d) p) 0) (loopCount (deskIn d .nest-is) (deskIn d .key) p) 0
 
--- Mark: 10, 11, then 1, 2, 8 with their line; the paper's numbers and values of each answer
+-- Mark: 10, 11, then 1, 2, 8, 16 with their line; the paper's numbers and values of each answer
 pub data Mark : Type 0 where
   refused : Fault → Mark
   given : Verdict → Mark
@@ -85,7 +85,7 @@ markIn (MV.Refused f) = refused (fault (f .number) (f .line))
 markIn (MV.Given v) = given (verdictIn v)
 
 abbrev pub readIn : Desk → List ℕ → Placed
-readIn x s = readPlacement (length (x .nest-is .points)) s
+readIn x s = readPlacement (length (x .nest-is .points)) (x .nest-is .barred) s
 
 abbrev pub placeFault : Desk → List ℕ → Fault
 placeFault x s =
@@ -128,6 +128,6 @@ pub record ListSays (d : DD.Desk) (es : List Dep) (r : DA.Answer) : Type 0 where
       0
 
 -- 02, jobs 4 and 6: a desk in use goes over to the new kind with its nest and an empty sitting, no move was made, and
--- where it has a key it gets that of its nest
+-- where it has a key it gets that of its nest, or none where the nest is blocked
 abbrev pub OverSays : OD.PlainDesk → DD.Desk → Type 0
 OverSays old r = Holds r (overIn old)

@@ -1,9 +1,10 @@
 -- Desks since a Load: what demand 3, and the rule of one key for one paper, say of the calls.
--- Main definitions: `PlainSince`, `Since`, `PlansKey`, `LoadThenPlan`.
+-- Main definitions: `PlainSince`, `Since`, `PlansKey`, `PlansNone`, `LoadThenPlan`.
 use mathlib.Core.Path.{_≡_}
 use mathlib.Core.Bool.{true}
 use mathlib.Core.List.{List}
 use Prim.Native.Nat.{ℕ}
+use Rattle.laws.specs.Choice.{pickT}
 use Rattle.nests.specs.Ring.{oneLoop}
 use Rattle.nests.specs.Stored.{nestIn}
 use Rattle.placements.specs.Placements.{isCorrect}
@@ -12,6 +13,7 @@ use Rattle.placements.specs.Keys.{IsKey, By-loops, LeastOnRing}
 use Rattle.moves.specs.declared.Move as DM
 use Rattle.moves.specs.TakeBack.{Play}
 use Rattle.texts.specs.NestTexts.{readNest}
+use Rattle.barred.specs.Reduced.{isBlocked}
 use Rattle.keys.specs.KeyOf.{keyOf}
 use Rattle.keys.specs.OneKey.{IsFirstKey, IsFirstSmallest}
 use Rattle.desk.specs.declared.Desk as DD
@@ -39,8 +41,8 @@ pub data Since (s : List ℕ) : DD.Desk → Type 0 where
   moved : (d e : DD.Desk) (p : Play (List ℕ) DM.Move) → Since s d → Holds e (withPlay p (deskIn d)) → Since s e
   went-over : (old : OD.PlainDesk) (r : DD.Desk) → PlainSince s old → OverSays old r → Since s r
 
--- demand 3 of the calls: Plan of such a desk is never refused and leaves a key, and this is a key of the nest that s
--- spells: correct, and as good or better than every correct placement in the tree order of 001, definition 1, and loop
+-- demand 3 of the calls: where the nest that s spells is not blocked, Plan of such a desk is not refused and leaves a
+-- key, and this is a key of that nest: correct, and as good or better than every correct placement in the tree order of 001, definition 1, and loop
 -- by loop; of one loop, no set of gaps that meets all circular intervals has fewer; 02, job 6: it is the key of that
 -- nest, the first of all its keys, and of one loop the first of the smallest
 pub record PlansKey (s : List ℕ) (r : DR.Reply) : Type 0 where
@@ -61,5 +63,14 @@ pub record PlansKey (s : List ℕ) (r : DR.Reply) : Type 0 where
       : oneLoop (readNest s .nest-is .points) ≡ true
       → IsFirstSmallest (readNest s .nest-is) (deskIn (r .desk) .key)
 
+-- 02, job 7: where some dependence has all its gaps barred, no placement is correct, and Plan is refused with 15
+pub record PlansNone (s : List ℕ) (d : DD.Desk) (r : DR.Reply) : Type 0 where
+  pub number-is : r .number ≡ 15
+  pub line-is : r .line ≡ 0
+  pub desk-is : r .desk ≡ d
+  pub none-correct : (gs : List ℕ) → isCorrect (readNest s .nest-is) gs ≡ true → ⊥
+
 abbrev pub LoadThenPlan : Type 0
-LoadThenPlan = (s : List ℕ) (d : DD.Desk) (r : DR.Reply) → Since s d → PlanSays d r → PlansKey s r
+LoadThenPlan =
+    (s : List ℕ) (d : DD.Desk) (r : DR.Reply) →
+    Since s d → PlanSays d r → pickT (isBlocked (readNest s .nest-is)) (PlansNone s d r) (PlansKey s r)

@@ -89,7 +89,8 @@ impl Desk {
     }
 }
 
-// Reads a nest text; accepted, it replaces the nest and drops key, sitting and moves. Numbers 1 to 7 with their line.
+// Reads a nest text; accepted, it replaces the nest and drops key, sitting and moves. Numbers 1 to 8 and 14 with their
+// line.
 pub fn load_nest(desk: Desk, text: &[u8]) -> Reply
     ensures { λ r. ⌜ LoadSays desk (now (text .entry)) r ⌝ }
 {
@@ -117,7 +118,7 @@ pub fn load_nest(desk: Desk, text: &[u8]) -> Reply
     }
 }
 
-// Works out the key of the nest. Number 10.
+// Works out the key of the nest. Numbers 10, 15.
 pub fn plan_key(desk: Desk) -> Reply
     requires { ⌜ IsMade desk ⌝ }
     ensures { λ r. ⌜ PlanSays desk r ⌝ }
@@ -125,7 +126,15 @@ pub fn plan_key(desk: Desk) -> Reply
     let loaded = desk.loaded;
     if loaded {
         let nest = desk.nest;
-        let key = plan::plan(nest);
+        let paper = foundation::plan_paper(nest);
+        if paper.blocked {
+            return Reply {
+                number: 15,
+                line: 0,
+                desk: desk,
+            };
+        }
+        let key = paper.key;
         let sitting = desk.sitting;
         let moves = desk.moves;
         return Reply {
@@ -171,7 +180,7 @@ pub fn loop_count(desk: Desk, point: usize) -> Answer
     refused(6)
 }
 
-// Reads a placement text and says how it stands beside the key. Numbers 10, 11, then 1, 2, 8 with their line.
+// Reads a placement text and says how it stands beside the key. Numbers 10, 11, then 1, 2, 8, 16 with their line.
 pub fn mark_placement(desk: Desk, text: &[u8]) -> Marked
     requires { ⌜ IsMade desk ⌝ }
     ensures { λ r. ⌜ MarkSays desk (now (text .entry)) r ⌝ }
@@ -184,7 +193,7 @@ pub fn mark_placement(desk: Desk, text: &[u8]) -> Marked
         });
     }
     let nest = desk.nest;
-    let reading = texts::read_placement(nest.count, text);
+    let reading = texts::read_placement(nest.count, barred::barred_of(nest), text);
     if reading.number != 0 {
         return Marked::Refused(Fault {
             number: reading.number,
@@ -225,7 +234,7 @@ pub fn reset(desk: Desk) -> Desk
 }
 
 // A desk of the kind before sittings goes over: the nest is kept, the sitting is empty, no move was made, and where
-// there was a key it is worked out anew.
+// there was a key it is worked out anew, if the nest has one.
 pub fn go_over(old: PlainDesk) -> Desk
     requires { ⌜ IsMadePlain old ⌝ }
     ensures { λ r. ⌜ OverSays old r ⌝ }

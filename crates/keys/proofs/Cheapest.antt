@@ -20,6 +20,7 @@ use Rattle.nests.proofs.Loops.{outermost}
 use Rattle.placements.specs.Placements.{areGapsFrom, isCorrect}
 use Rattle.placements.proofs.Cuts.{correct-gaps}
 use Rattle.placements.proofs.Rising.{Rises, rises}
+use Rattle.barred.specs.Reduced.{isBlocked}
 use Rattle.keys.specs.KeyOf.{keyOf}
 use Rattle.keys.specs.ListOrder.{firstInOrder}
 use Rattle.keys.proofs.KeyIsKey.{key-is-key}
@@ -157,10 +158,14 @@ listed (suc k) p n (g ∷ gs) e h =
         (without
         (and-intro (lt-ltb (suc p) g (omega (arith, r .above, z))) (and-intro (lt-ltb g n (r .below)) (r .rest))))
 
-pub cheapest-is : (cost : Nest → List ℕ → List ℕ) (n : Nest) → isValid n ≡ true → IsCheapest cost n (cheapest cost n)
+pub cheapest-is
+    : (cost : Nest → List ℕ → List ℕ) (n : Nest)
+    → isValid n ≡ true
+    → isBlocked n ≡ false
+    → IsCheapest cost n (cheapest cost n)
 unfolding cheapest
-cheapest-is cost n v = record {
-  correct = of-correct cost n tried (keyOf n) (key-is-key n v .correct);
+cheapest-is cost n v unblocked = record {
+  correct = of-correct cost n tried (keyOf n) (key-is-key n v unblocked .correct);
   least = λ hs c. of-each cost n tried (keyOf n) hs (each hs (correct-gaps n hs c)) c;
 }
   where

@@ -24,8 +24,8 @@ use Rattle.placements.proofs.Rising.{rises}
 use Rattle.keys.specs.KeyOf.{keyOf}
 use Rattle.keys.specs.ListOrder.{firstInOrder}
 use Rattle.keys.proofs.KeyIsKey.{key-is-key}
-use Rattle.keys.proofs.KeyCases.{computed-keys, paper-P-inner, P-key, R-key, bare-key, ring-key, inner-key}
-use Rattle.keys.proofs.KeyCases.{door-key}
+use Rattle.keys.proofs.KeyCases.{computed-keys, paper-P-inner, P-key, R-key, turn-key, bare-key}
+use Rattle.keys.proofs.KeyCases.{ring-key, inner-key, door-key}
 use Rattle.keys.proofs.ListOrder.{order-numbers}
 use Rattle.keys.proofs.Cheapest.{cheapest}
 use Rattle.keys.proofs.Planners.{Planner, Plans, everyGap, FillsOuter, fillOuter, fills-outer}
@@ -38,16 +38,19 @@ unfolding gapsOf
 every-gap-size = refl
 
 every-gap-fails : Plans everyGap → ⊥
-every-gap-fails keeps = omega (arith, every-gap-size, P-key .all-sizes (everyGap paper-P) (keeps paper-P refl))
+every-gap-fails keeps =
+    let k = keeps paper-P refl (P-key .unblocked) in
+    omega (arith, every-gap-size, P-key .all-sizes (everyGap paper-P) k)
 
 -- no barrier at all: not correct where a loop carries a dependence
 empty-key-fails : Plans (λ n. []) → ⊥
-empty-key-fails keeps = never (keeps paper-turn refl .correct)
+empty-key-fails keeps = never (keeps paper-turn refl (turn-key .unblocked) .correct)
 
 -- any fixed key: the bare paper leaves only the empty one
 fixed-key-fails : (gs : List ℕ) → Plans (λ n. gs) → ⊥
 fixed-key-fails [] keeps = empty-key-fails keeps
-fixed-key-fails (g ∷ gs) keeps = omega (arith, bare-key .all-sizes (g ∷ gs) (keeps paper-bare refl))
+fixed-key-fails (g ∷ gs) keeps =
+    omega (arith, bare-key .all-sizes (g ∷ gs) (keeps paper-bare refl (bare-key .unblocked)))
 
 -- a gap counts at its loop
 held-counts : (n : Nest) (gs : List ℕ) (g : ℕ) → isIn g gs ≡ true → 0 < loopCount n gs (ownerOf (n .points) g)
@@ -69,7 +72,7 @@ outer-filled-fails : (plan : Planner) → FillsOuter plan → Plans plan → ⊥
 outer-filled-fails plan fills keeps =
     let gs = plan paper-inner in
     let c : loopCount paper-inner gs 0 ∷ loopCount paper-inner gs 1 ∷ [] ≡ 0 ∷ 1 ∷ [] =
-    inner-key .all-counts gs (keeps paper-inner refl) in
+    inner-key .all-counts gs (keeps paper-inner refl (inner-key .unblocked)) in
     let z : loopCount paper-inner gs 0 ≡ 0 = cc in
     omega (arith, held-counts paper-inner gs 1 (fills paper-inner 1 refl (omega arith) (omega arith) refl))
 
@@ -97,7 +100,7 @@ three-and-nine (a ∷ (b ∷ [])) l p q c = go (member 3 p) (member 9 q)
 -- each inner loop by itself: P gets 3 and 9, since gap 2 is the first key of loops 1 and 7 by themselves
 alone-fails : (plan : Planner) → SolvesAlone plan → Plans plan → ⊥
 alone-fails plan alone keeps =
-    let k = keeps paper-P refl in
+    let k = keeps paper-P refl (P-key .unblocked) in
     let two : isIn 2 (keyOf paper-P-inner) ≡ true = rw (computed-keys .of-P-inner) in
     let a : isIn 3 (plan paper-P) ≡ isIn 2 (keyOf paper-P-inner) =
     alone paper-P 3 refl (omega arith) (omega arith) refl in
@@ -113,7 +116,7 @@ greedy-takes = refl
 greedy-fails : (plan : Planner) → CutsGreedily plan → Plans plan → ⊥
 greedy-fails plan greedy keeps =
     let e : length (plan paper-ring) ≡ 2 = ap length (greedy paper-ring refl refl ∙ greedy-takes) in
-    omega (arith, e, ring-key .all-sizes (plan paper-ring) (keeps paper-ring refl))
+    omega (arith, e, ring-key .all-sizes (plan paper-ring) (keeps paper-ring refl (ring-key .unblocked)))
 
 -- total counts: gap 3 alone cuts all of 01 03 01 03 02 02 with 110103, 110205, where a key has two gaps
 totals-fail : (plan : Planner) → Compares inAll plan → Plans plan → ⊥
@@ -121,8 +124,8 @@ totals-fail plan fewest keeps =
     let gs = plan paper-door in
     omega (
       arith,
-      order-numbers (length gs) 1 (fewest paper-door refl .least (3 ∷ []) refl),
-      door-key .all-sizes gs (keeps paper-door refl),
+      order-numbers (length gs) 1 (fewest paper-door refl (door-key .unblocked) .least (3 ∷ []) refl),
+      door-key .all-sizes gs (keeps paper-door refl (door-key .unblocked)),
     )
 
 -- the gap before a DO inside that loop: on the same paper gap 3 then costs 1 and 0 in loops 2 and 0, and every correct
@@ -153,13 +156,15 @@ no-cheap-pair (a ∷ (b ∷ [])) l c h =
 inside-fails : (plan : Planner) → Compares countsInside plan → Plans plan → ⊥
 inside-fails plan least keeps =
     let gs = plan paper-door in
-    let k = keeps paper-door refl in
-    no-cheap-pair gs (door-key .all-sizes gs k) (k .correct) (least paper-door refl .least (3 ∷ []) refl)
+    let k = keeps paper-door refl (door-key .unblocked) in
+    let l = least paper-door refl (door-key .unblocked) in
+    no-cheap-pair gs (door-key .all-sizes gs k) (k .correct) (l .least (3 ∷ []) refl)
 
 -- one barrier for intervals that overlap two by two: those of R do, and a key of R has two gaps
 pairs-fail : (plan : Planner) → JoinsPairs plan → Plans plan → ⊥
 pairs-fail plan joins keeps =
-    omega (arith, joins paper-R refl refl refl, R-key .all-sizes (plan paper-R) (keeps paper-R refl))
+    let k = keeps paper-R refl (R-key .unblocked) in
+    omega (arith, joins paper-R refl refl refl, R-key .all-sizes (plan paper-R) k)
 
 -- some planner follows the rule, and none that does keeps demand 3
 pub record Refuted (Rule : Planner → Type 0) : Type 0 where

@@ -14,13 +14,15 @@ use Rattle.placements.specs.Keys.{IsKey}
 use Rattle.placements.specs.Placements.{areGaps}
 use Rattle.placements.specs.Verdicts.{Best, markOf}
 use Rattle.placements.specs.Words.{gapsOf}
+use Rattle.placements.proofs.Cuts.{avoids-none}
+use Rattle.barred.proofs.Blocked.{unbarred-open}
 use Rattle.planner.specs.Home.{leastEnd, reachOf, limitOf, hasAt, keyIn}
 use Rattle.planner.specs.Sweep.{needOf, put, stepPlain, seek, free, inner, outer, childAt}
 use Rattle.planner.specs.Sweep.{stepChild, next, step, walk, sweep, close, value, least, better, best}
 use Rattle.planner.specs.Sweep.{childSome, someOf, costOf, frontOf, leftOf, choiceOf, layOf}
 use Rattle.planner.specs.Plan.{tableOf, tableFrom, withRow, noTables}
 use Rattle.planner.specs.Plan as Plan
-use Rattle.keys.specs.KeyOf.{keyOf}
+use Rattle.keys.specs.KeyOf.{plainKey, keyOf}
 use Rattle.keys.specs.OneKey.{IsFirstKey}
 use Rattle.keys.proofs.KeyIsKey.{key-is-key}
 use Rattle.keys.proofs.KeyCases.{computed-keys}
@@ -35,26 +37,28 @@ abbrev pub paper-crossed : Nest
 paper-crossed = nest (1 ∷ 1 ∷ 3 ∷ 2 ∷ 2 ∷ []) (forward 0 2 ∷ forward 1 3 ∷ forward 2 4 ∷ [])
 
 either-is : keyOf paper-either ≡ 1 ∷ 2 ∷ []
-unfolding keyOf gapsOf keyIn leastEnd reachOf limitOf hasAt Plan.keyOf tableOf tableFrom withRow noTables needOf put
-    stepPlain seek free inner outer childAt stepChild next step walk sweep close value least better best childSome
-    someOf costOf frontOf leftOf choiceOf layOf
+unfolding plainKey keyOf gapsOf keyIn leastEnd reachOf limitOf hasAt Plan.keyOf tableOf tableFrom withRow noTables
+    needOf put stepPlain seek free inner outer childAt stepChild next step walk sweep close value least better best
+    childSome someOf costOf frontOf leftOf choiceOf layOf
 either-is = refl
 
 crossed-is : keyOf paper-crossed ≡ 1 ∷ 3 ∷ []
-unfolding keyOf gapsOf keyIn leastEnd reachOf limitOf hasAt Plan.keyOf tableOf tableFrom withRow noTables needOf put
-    stepPlain seek free inner outer childAt stepChild next step walk sweep close value least better best childSome
-    someOf costOf frontOf leftOf choiceOf layOf
+unfolding plainKey keyOf gapsOf keyIn leastEnd reachOf limitOf hasAt Plan.keyOf tableOf tableFrom withRow noTables
+    needOf put stepPlain seek free inner outer childAt stepChild next step walk sweep close value least better best
+    childSome someOf costOf frontOf leftOf choiceOf layOf
 crossed-is = refl
 
--- a placement that is marked Best beside the key is a key
+-- a placement that is marked Best beside the key is a key, where nothing is barred
 other-key
     : (n : Nest) (key gs : List ℕ)
     → isValid n ≡ true
+    → n .barred ≡ []
     → keyOf n ≡ key
     → areGaps n gs ≡ true
     → markOf n key gs ≡ Best
     → IsKey n gs
-other-key n key gs valid e gaps m = best-iff-key n valid gs gaps .0 (rw e m)
+other-key n key gs valid none e gaps m =
+    best-iff-key n valid (unbarred-open n valid none) gs gaps (avoids-none (n .barred) none gs) .0 (rw e m)
 
 -- papers with two keys, and the key that is taken
 pub record FirstTaken : Type 0 where
@@ -72,11 +76,11 @@ pub first-taken : FirstTaken
 first-taken =
     record {
       of-either = either-is;
-      either-other = other-key paper-either (1 ∷ 2 ∷ []) (1 ∷ 3 ∷ []) refl either-is refl refl;
+      either-other = other-key paper-either (1 ∷ 2 ∷ []) (1 ∷ 3 ∷ []) refl refl either-is refl refl;
       of-crossed = crossed-is;
-      crossed-other = other-key paper-crossed (1 ∷ 3 ∷ []) (2 ∷ 4 ∷ []) refl crossed-is refl refl;
+      crossed-other = other-key paper-crossed (1 ∷ 3 ∷ []) (2 ∷ 4 ∷ []) refl refl crossed-is refl refl;
       of-R = computed-keys .of-R;
-      R-other = other-key paper-R (1 ∷ 4 ∷ []) (2 ∷ 4 ∷ []) refl (computed-keys .of-R) refl refl;
+      R-other = other-key paper-R (1 ∷ 4 ∷ []) (2 ∷ 4 ∷ []) refl refl (computed-keys .of-R) refl refl;
       P-takes-5 = rw (computed-keys .of-P);
       P-not-3 = rw (computed-keys .of-P);
     }
@@ -91,6 +95,12 @@ pub record OthersExcluded : Type 0 where
 pub others-excluded : OthersExcluded
 others-excluded =
     record {
-      last-of-equals = λ k. never (k .first (1 ∷ 2 ∷ []) (rw either-is at (key-is-key paper-either refl)));
-      first-inside = λ k. never (k .first (1 ∷ 3 ∷ []) (rw crossed-is at (key-is-key paper-crossed refl)));
+      last-of-equals = λ k. never (k .first (1 ∷ 2 ∷ []) (rw either-is at either-key));
+      first-inside = λ k. never (k .first (1 ∷ 3 ∷ []) (rw crossed-is at crossed-key));
     }
+  where
+    either-key : IsKey paper-either (keyOf paper-either)
+    either-key = key-is-key paper-either refl (unbarred-open paper-either refl refl)
+
+    crossed-key : IsKey paper-crossed (keyOf paper-crossed)
+    crossed-key = key-is-key paper-crossed refl (unbarred-open paper-crossed refl refl)

@@ -3,15 +3,18 @@ pub mod KeyIsKey
 pub mod Demand3
 pub mod KeyGaps
 pub mod Predicates
+-- where nothing is barred, the planner's key; with barred gaps, that of the renumbered nest, taken back
+pub mod PlainKey
+pub mod BarredKey
 -- the key is first in list order among all keys
 pub mod ListOrder
 pub mod KeyLengths
 pub mod KeyFirst
+pub mod FirstSmallest
 pub mod Sizes
 pub mod Marking
 pub mod RingKey
 pub mod OneKey
-pub mod BarredKey
 pub mod KeyCases
 pub mod Starred
 pub mod FirstCases

@@ -2,7 +2,7 @@
 -- more, and no verdict depends on which of the keys the desk holds.
 -- Main statements: `best-iff-key`, `dearer-greater`, `mark-determined`; of texts, `marked-best` and `marked-dearer`.
 use mathlib.Core.Path.{_≡_, refl, ap, _∙_}
-use mathlib.Core.Bool.{true}
+use mathlib.Core.Bool.{true, false}
 use mathlib.Core.List.{List, [], _∷_}
 use mathlib.Core.Logic.{_↔_}
 use Prim.Native.Nat.{ℕ, zero, suc}
@@ -13,7 +13,7 @@ use Rattle.nests.specs.Nests.{Nest}
 use Rattle.nests.specs.Loops.{isDo}
 use Rattle.nests.specs.Valid.{isShape, isValid}
 use Rattle.nests.proofs.Deps.{valid-is}
-use Rattle.placements.specs.Placements.{areGaps, loopsOf, uncut, differFrom, differ}
+use Rattle.placements.specs.Placements.{areGaps, avoids, loopsOf, uncut, differFrom, differ}
 use Rattle.placements.specs.Keys.{IsKey}
 use Rattle.placements.specs.Verdicts.{Dearer, Best, verdictBy, markOf}
 use Rattle.placements.proofs.LoopLists.{listed-loop, differ-at}
@@ -21,24 +21,32 @@ use Rattle.placements.proofs.LoopOrder.{SameCounts}
 use Rattle.placements.proofs.Keys.{keys-agree}
 use Rattle.placements.proofs.Verdicts.{IsDearer}
 use Rattle.placements.proofs.Verdicts as Verdicts
+use Rattle.barred.specs.Reduced.{isBlocked}
+use Rattle.barred.proofs.Blocked.{correct-open}
 use Rattle.texts.specs.NestTexts.{readNest}
 use Rattle.texts.specs.PlacementTexts.{readPlacement}
 use Rattle.texts.proofs.Accepted.{accepted-valid}
-use Rattle.texts.proofs.PlacedTexts.{read-gaps}
+use Rattle.texts.proofs.PlacedTexts.{read-gaps, read-avoids}
 use Rattle.keys.specs.KeyOf.{keyOf}
 use Rattle.keys.proofs.KeyIsKey.{key-is-key}
 
-module _ (n : Nest) (valid : isValid n ≡ true) (gs : List ℕ) (gaps : areGaps n gs ≡ true) where
-  -- 01, "The desk": Best is said of the keys, and of nothing else
-  pub best-iff-key : (markOf n (keyOf n) gs ≡ Best) ↔ IsKey n gs
-  best-iff-key = Verdicts.best-iff-key n (valid-is n valid .shape) (keyOf n) gs (key-is-key n valid) gaps
+module _
+    (n : Nest) (valid : isValid n ≡ true) (unblocked : isBlocked n ≡ false) (gs : List ℕ)
+    (gaps : areGaps n gs ≡ true) (avoiding : avoids (n .barred) gs ≡ true)
+  where
+    key : IsKey n (keyOf n)
+    key = key-is-key n valid unblocked
 
-  -- 01, "The desk": in a Dearer their count is the greater
-  pub dearer-greater
-      : (loop theirs ours : ℕ)
-      → markOf n (keyOf n) gs ≡ Dearer loop theirs ours
-      → IsDearer n (keyOf n) gs loop theirs ours
-  dearer-greater = Verdicts.dearer-greater n (valid-is n valid .shape) (keyOf n) gs (key-is-key n valid) gaps
+    -- 01, "The desk": Best is said of the keys, and of nothing else
+    pub best-iff-key : (markOf n (keyOf n) gs ≡ Best) ↔ IsKey n gs
+    best-iff-key = Verdicts.best-iff-key n (valid-is n valid .shape) (keyOf n) gs key gaps avoiding
+
+    -- 01, "The desk": in a Dearer their count is the greater
+    pub dearer-greater
+        : (loop theirs ours : ℕ)
+        → markOf n (keyOf n) gs ≡ Dearer loop theirs ours
+        → IsDearer n (keyOf n) gs loop theirs ours
+    dearer-greater = Verdicts.dearer-greater n (valid-is n valid .shape) (keyOf n) gs key gaps avoiding
 
 -- keys have equal counts, so the first loop that differs and its counts are the same beside each
 module _ (n : Nest) (shape : isShape (n .points) ≡ true) (j k gs : List ℕ) (same : SameCounts n j k) where
@@ -67,27 +75,27 @@ pub mark-determined
     → markOf n key gs ≡ markOf n (keyOf n) gs
 mark-determined n key gs valid k =
     let shape = valid-is n valid .shape in
-    mark-same n shape key (keyOf n) gs (keys-agree n shape key (keyOf n) k (key-is-key n valid))
+    let made = key-is-key n valid (correct-open n key (k .correct)) in
+    mark-same n shape key (keyOf n) gs (keys-agree n shape key (keyOf n) k made)
 
 -- of an accepted nest text, and of what is read from a placement text
-pub marked-best
-    : (s t : List ℕ)
-    → readNest s .number ≡ 0
-    → let n = readNest s .nest-is in
-    let gs = readPlacement (length (n .points)) t .gaps in
-    (markOf n (keyOf n) gs ≡ Best) ↔ IsKey n gs
-marked-best s t accepted =
-    let n = readNest s .nest-is in
-    let gs = readPlacement (length (n .points)) t .gaps in
-    best-iff-key n (accepted-valid s accepted) gs (read-gaps (length (n .points)) t)
+module _
+    (s t : List ℕ) (accepted : readNest s .number ≡ 0) (unblocked : isBlocked (readNest s .nest-is) ≡ false) where
+  abbrev n : Nest
+  n = readNest s .nest-is
 
-pub marked-dearer
-    : (s t : List ℕ) (loop theirs ours : ℕ)
-    → readNest s .number ≡ 0
-    → let n = readNest s .nest-is in
-    let gs = readPlacement (length (n .points)) t .gaps in
-    markOf n (keyOf n) gs ≡ Dearer loop theirs ours → IsDearer n (keyOf n) gs loop theirs ours
-marked-dearer s t loop theirs ours accepted h =
-    let n = readNest s .nest-is in
-    let gs = readPlacement (length (n .points)) t .gaps in
-    dearer-greater n (accepted-valid s accepted) gs (read-gaps (length (n .points)) t) loop theirs ours h
+  abbrev gs : List ℕ
+  gs = readPlacement (length (n .points)) (n .barred) t .gaps
+
+  pub marked-best : (markOf n (keyOf n) gs ≡ Best) ↔ IsKey n gs
+  marked-best =
+      best-iff-key n (accepted-valid s accepted) unblocked gs (read-gaps (length (n .points)) (n .barred) t)
+      (read-avoids (length (n .points)) (n .barred) t)
+
+  pub marked-dearer
+      : (loop theirs ours : ℕ)
+      → markOf n (keyOf n) gs ≡ Dearer loop theirs ours
+      → IsDearer n (keyOf n) gs loop theirs ours
+  marked-dearer =
+      dearer-greater n (accepted-valid s accepted) unblocked gs (read-gaps (length (n .points)) (n .barred) t)
+      (read-avoids (length (n .points)) (n .barred) t)

@@ -1,5 +1,5 @@
--- One key for one paper: the key of the nest that an accepted text spells is its first key, no other placement is, and
--- in a nest of one loop it is the first of the smallest correct sets of gaps.
+-- One key for one paper: where the nest that an accepted text spells is not blocked, its key is its first key, no other
+-- placement is, and in a nest of one loop it is the first of the smallest correct sets of gaps.
 -- Main statement: `one-key`.
 use Rattle.texts.specs.NestTexts.{readNest}
 use Rattle.texts.proofs.Accepted.{accepted-valid}
@@ -7,11 +7,11 @@ use Rattle.keys.specs.OneKey.{One-key}
 use Rattle.keys.proofs.KeyFirst.{key-is-first, first-only}
 use Rattle.keys.proofs.RingKey.{ring-first-smallest}
 
--- 02, job 6: every accepted text has one key
+-- 02, job 6: every accepted text that has a key has one
 pub one-key : One-key
 one-key =
     record {
-      is-first = λ s h. key-is-first (readNest s .nest-is) (accepted-valid s h);
+      is-first = λ s h unblocked. key-is-first (readNest s .nest-is) (accepted-valid s h) unblocked;
       no-other = λ s key h k. first-only (readNest s .nest-is) (accepted-valid s h) key k;
-      one-loop = λ s h one. ring-first-smallest (readNest s .nest-is) (accepted-valid s h) one;
+      one-loop = λ s h unblocked one. ring-first-smallest (readNest s .nest-is) (accepted-valid s h) unblocked one;
     }

@@ -21,15 +21,16 @@ use Rattle.placements.specs.Placements.{cuts, loopsOf}
 use Rattle.placements.specs.Words.{gapsOf}
 use Rattle.placements.specs.Keys.{IsKey}
 use Rattle.placements.proofs.Words.{gapsOf-in}
+use Rattle.barred.specs.Reduced.{isBlocked}
 use Rattle.keys.specs.KeyOf.{keyOf}
 use Rattle.keys.proofs.Cheapest.{IsCheapest, cheapest, cheapest-is}
 
 abbrev pub Planner : Type 0
 Planner = Nest → List ℕ
 
--- a planner keeps demand 3 where it names a key of every paper
+-- a planner keeps demand 3 where it names a key of every paper that is not blocked
 abbrev pub Plans : Planner → Type 0
-Plans plan = (n : Nest) → isValid n ≡ true → IsKey n (plan n)
+Plans plan = (n : Nest) → isValid n ≡ true → isBlocked n ≡ false → IsKey n (plan n)
 
 -- the gaps of a nest at which a test holds
 abbrev pub gapsWhere : Nest → (ℕ → Bool) → List ℕ
@@ -140,7 +141,7 @@ CutsGreedily plan = (n : Nest) → isValid n ≡ true → oneLoop (n .points) �
 -- ---- placements compared by another cost than the tree
 
 abbrev pub Compares : (Nest → List ℕ → List ℕ) → Planner → Type 0
-Compares cost plan = (n : Nest) → isValid n ≡ true → IsCheapest cost n (plan n)
+Compares cost plan = (n : Nest) → isValid n ≡ true → isBlocked n ≡ false → IsCheapest cost n (plan n)
 
 pub compares : (cost : Nest → List ℕ → List ℕ) → Compares cost (cheapest cost)
 compares = cheapest-is

@@ -16,7 +16,7 @@ use Rattle.nests.specs.Nests.{Dep, Nest}
 use Rattle.nests.specs.Loops.{isDo, endOf, ownerOf}
 use Rattle.nests.specs.Valid.{isShape}
 use Rattle.nests.proofs.Loops.{outermost, end-in-outermost, owner-holds}
-use Rattle.placements.specs.Placements.{cuts, areGapsFrom, areGaps, isCorrect, loopCount, asGood}
+use Rattle.placements.specs.Placements.{cuts, areGapsFrom, areGaps, avoids, isCorrect, loopCount, asGood}
 use Rattle.placements.specs.Keys.{IsKey}
 use Rattle.placements.proofs.Cuts.{cut-has-gap, gap-cuts, correct-by, correct-gaps, correct-cuts}
 use Rattle.placements.proofs.Rising.{Rises, rises, rising-out}
@@ -135,9 +135,10 @@ list-count n gs d shape h loop =
 
 -- ---- keys
 
--- a list that holds the gaps of a placement to which the planner's theorem applies is a key
-module _ (n : Nest) (x : ℕ → Bool) (ks : List ℕ) (shape : isShape (n .points) ≡ true)
-    (key : NestKey (n .points) (n .deps) x) (gaps : areGaps n ks ≡ true) (same : (g : ℕ) → isIn g ks ≡ x g) where
+-- a list without barred gaps that holds the gaps of a placement to which the planner's theorem applies is a key
+module _
+    (n : Nest) (x : ℕ → Bool) (ks : List ℕ) (shape : isShape (n .points) ≡ true) (key : NestKey (n .points) (n .deps) x)
+    (gaps : areGaps n ks ≡ true) (avoiding : avoids (n .barred) ks ≡ true) (same : (g : ℕ) → isIn g ks ≡ x g) where
   counted : (d : ℕ) → isDo (n .points) d ≡ true → loopCount n ks d ≡ count (loopsIn (n .points)) x d
   counted d h = list-count n ks d shape gaps h ∙ same-count (n .points) (memberOf ks) x d same
 
@@ -171,4 +172,4 @@ module _ (n : Nest) (x : ℕ → Bool) (ks : List ℕ) (shape : isShape (n .poin
               sym (count-of l k) ∙ sym (s l k (inside-by (n .points) d l p q)) ∙ counted l k
 
   pub list-key : IsKey n ks
-  list-key = record { correct = correct-by n ks gaps all-cut; least = as-good }
+  list-key = record { correct = correct-by n ks gaps avoiding all-cut; least = as-good }

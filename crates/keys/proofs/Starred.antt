@@ -9,10 +9,11 @@ use mathlib.Core.List.{List, [], _∷_}
 use Prim.Native.Nat.{ℕ}
 use Rattle.nests.specs.Nests.{Dep, Nest}
 use Rattle.nests.proofs.Cases.{forward, carried, paper-P, paper-Q, paper-R, paper-turn, paper-bare, paper-ring}
-use Rattle.nests.proofs.Cases.{paper-forward, paper-P-forward, paper-door, share}
+use Rattle.nests.proofs.Cases.{paper-forward, paper-P-forward, paper-door, paper-barred, share}
 use Rattle.placements.specs.Verdicts.{Verdict, Uncut, Dearer, Best, markOf}
 use Rattle.keys.proofs.KeyCases.{HasKey, P-key, Q-key, R-key, turn-key, bare-key, ring-key}
-use Rattle.keys.proofs.KeyCases.{forward-key, P-forward-key, door-key}
+use Rattle.keys.proofs.KeyCases.{forward-key, P-forward-key, door-key, barred-key, paper-all-barred}
+use Rattle.keys.proofs.KeyCases.{all-barred-key}
 
 -- dependences of the paper, and the gaps that all of them have
 pub record Shared : Type 0 where
@@ -67,13 +68,16 @@ starred =
     []
 
 -- beside the paper's, with no number there: the ring on which greedy cutting takes 1 and 2; the paper on which fewer
--- barriers in all are dearer; 02, job 1: a carried dependence with s before t, alone and beside P's
+-- barriers in all are dearer; 02, job 1: a carried dependence with s before t, alone and beside P's; 02, job 7: a paper
+-- with barred gaps, and a later key of it; a paper on which every gap is barred
 abbrev pub added : List Case
 added =
     row 0 paper-ring (2 ∷ []) (1 ∷ []) (1 ∷ 2 ∷ []) (Dearer 0 2 1) [] ∷
     row 0 paper-door (2 ∷ 5 ∷ []) (2 ∷ 0 ∷ []) (3 ∷ []) (Dearer 2 1 0) [] ∷
     row 0 paper-forward (1 ∷ []) (1 ∷ []) (4 ∷ []) Best (shared (paper-forward .deps) (1 ∷ 2 ∷ 3 ∷ 4 ∷ []) ∷ []) ∷
     row 0 paper-P-forward (5 ∷ 11 ∷ []) (0 ∷ 1 ∷ 1 ∷ []) (5 ∷ 6 ∷ 11 ∷ []) (Dearer 1 2 1) [] ∷
+    row 0 paper-barred (3 ∷ 5 ∷ []) (2 ∷ []) (5 ∷ 6 ∷ []) Best (shared (paper-barred .deps) (1 ∷ []) ∷ []) ∷
+    row 0 paper-all-barred [] (0 ∷ []) [] Best [] ∷
     []
 
 abbrev allShare : Nest → List Shared → Bool
@@ -120,4 +124,6 @@ added-keys =
     by-key door-key refl refl then
     by-key forward-key refl refl then
     by-key P-forward-key refl refl then
+    by-key barred-key refl refl then
+    by-key all-barred-key refl refl then
     none

@@ -1,7 +1,7 @@
 -- One key for one paper: which of the keys is the key.
 -- Main definitions: `IsFirstKey`, `IsFirstSmallest`, `One-key`.
 use mathlib.Core.Path.{_≡_}
-use mathlib.Core.Bool.{true}
+use mathlib.Core.Bool.{true, false}
 use mathlib.Core.List.{List}
 use Prim.Native.Nat.{ℕ, _≤_}
 use lib.ListN.{length}
@@ -9,6 +9,7 @@ use Rattle.nests.specs.Nests.{Nest}
 use Rattle.nests.specs.Ring.{oneLoop}
 use Rattle.placements.specs.Placements.{isCorrect}
 use Rattle.placements.specs.Keys.{IsKey}
+use Rattle.barred.specs.Reduced.{isBlocked}
 use Rattle.texts.specs.NestTexts.{readNest}
 use Rattle.keys.specs.KeyOf.{keyOf}
 use Rattle.keys.specs.ListOrder.{firstInOrder}
@@ -24,11 +25,12 @@ pub record IsFirstSmallest (n : Nest) (key : List ℕ) : Type 0 where
   pub smallest : (gs : List ℕ) → isCorrect n gs ≡ true → length key ≤ length gs
   pub first : (gs : List ℕ) → isCorrect n gs ≡ true → length gs ≤ length key → firstInOrder key gs ≡ true
 
--- 02, job 6: the key follows from the nest, here the one that an accepted text spells
+-- 02, job 6: the key follows from the nest, here the one that an accepted text spells, if it is not blocked
 pub record One-key : Type 0 where
   pub is-first
       : (s : List ℕ)
       → readNest s .number ≡ 0
+      → isBlocked (readNest s .nest-is) ≡ false
       → IsFirstKey (readNest s .nest-is) (keyOf (readNest s .nest-is))
   pub no-other
       : (s key : List ℕ)
@@ -38,5 +40,6 @@ pub record One-key : Type 0 where
   pub one-loop
       : (s : List ℕ)
       → readNest s .number ≡ 0
+      → isBlocked (readNest s .nest-is) ≡ false
       → oneLoop (readNest s .nest-is .points) ≡ true
       → IsFirstSmallest (readNest s .nest-is) (keyOf (readNest s .nest-is))

@@ -7,7 +7,7 @@ use Prim.Native.Nat.{ℕ, _<_}
 use lib.ListN.{length}
 use Rattle.laws.specs.Choice.{isIn}
 use Rattle.nests.specs.Nests.{Nest}
-use Rattle.placements.specs.Placements.{areGaps}
+use Rattle.placements.specs.Placements.{areGaps, isFree}
 use Rattle.placements.specs.GapLists.{withGap, without}
 use Rattle.moves.specs.declared.Move as DM
 use Rattle.moves.specs.Ring.{KEPT}
@@ -20,12 +20,13 @@ putAt g = record { gap = g; put = true }
 abbrev pub liftAt : ℕ → DM.Move
 liftAt g = record { gap = g; put = false }
 
--- a gap of the nest, put where it is not there, lifted where it is
+-- a gap of the nest that is not barred, put where it is not there, lifted where it is
 pub record Fits (n : Nest) (gs : List ℕ) (m : DM.Move) : Type 0 where
   pub rising : areGaps n gs ≡ true
   pub first : 0 < m .gap
   pub inside : m .gap < length (n .points)
   pub there : isIn (m .gap) gs ≡ not (m .put)
+  pub free : isFree (n .barred) (m .gap) ≡ true
 
 -- a gap put or lifted
 abbrev pub withMove : Bool → ℕ → List ℕ → List ℕ

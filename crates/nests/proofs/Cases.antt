@@ -9,10 +9,10 @@ use lib.Dec.{eqb}
 use lib.ListN.{length, replicate}
 use Rattle.laws.specs.Choice.{pick}
 use Rattle.nests.specs.Kinds.{DO, ENDDO, STATEMENT, INDEPENDENT, CARRIED}
-use Rattle.nests.specs.Nests.{Dep, dep, Nest, nest, withDep}
+use Rattle.nests.specs.Nests.{Dep, dep, Nest, nest, withDep, withBar}
 use Rattle.nests.specs.Loops.{endOf, ownerOf}
 use Rattle.nests.specs.Gaps.{hasGap}
-use Rattle.nests.specs.Valid.{isShape, depFault, isValid}
+use Rattle.nests.specs.Valid.{isShape, depFault, barFault, isValid}
 
 -- lines 11 s t and 12 d s t
 abbrev pub forward : ℕ → ℕ → Dep
@@ -65,6 +65,20 @@ paper-forward = nest (1 ∷ 3 ∷ 3 ∷ 3 ∷ 2 ∷ []) (carried 0 1 3 ∷ [])
 abbrev pub paper-P-forward : Nest
 paper-P-forward = withDep paper-P (carried 1 3 4)
 
+-- 01, five times 03, 02 with 12000503, 12000401, 110005 and gaps 1, 2 and 4 barred: of 12000401 only gap 5 is left
+-- before the ENDDO and none before t
+abbrev pub paper-barred : Nest
+paper-barred =
+    record {
+      points = 1 ∷ 3 ∷ 3 ∷ 3 ∷ 3 ∷ 3 ∷ 2 ∷ [];
+      deps = carried 0 5 3 ∷ carried 0 4 1 ∷ forward 0 5 ∷ [];
+      barred = 1 ∷ 2 ∷ 4 ∷ [];
+    }
+
+-- 01 03 03 02 with 110102 and gap 2 barred, which is its only gap
+abbrev pub paper-blocked : Nest
+paper-blocked = record { points = 1 ∷ 3 ∷ 3 ∷ 2 ∷ []; deps = forward 1 2 ∷ []; barred = 2 ∷ 2 ∷ [] }
+
 -- numbers listed for each number below a bound, and compared
 abbrev pub sameList : List ℕ → List ℕ → Bool
 sameList [] [] = true
@@ -99,7 +113,11 @@ valid-papers =
     isValid paper-P &&
     (isValid paper-Q &&
     (isValid paper-R &&
-    (isValid paper-turn && (isValid paper-bare && (isValid paper-forward && isValid paper-P-forward)))))
+    (isValid paper-turn &&
+    (isValid paper-bare &&
+    (isValid paper-forward &&
+    (isValid paper-P-forward &&
+    (isValid paper-barred && (isValid paper-blocked && not (isValid (withBar paper-P 5))))))))))
 
 abbrev shapes : Bool
 shapes =
@@ -151,5 +169,17 @@ faults =
     []))
     (0 ∷ 6 ∷ 6 ∷ 6 ∷ 6 ∷ 7 ∷ 0 ∷ 0 ∷ 7 ∷ 7 ∷ 7 ∷ 7 ∷ 7 ∷ [])
 
-pub worked-cases : (valid-papers && (shapes && (loops && (gaps && faults)))) ≡ true
+-- numbers 8 and 14 of barred gaps: gap 0, the last gap and one behind it, on one loop; on Q
+abbrev barFaults : Bool
+barFaults =
+    sameList
+    (barFault (paper-R .points) 0 ∷
+    barFault (paper-R .points) 7 ∷
+    barFault (paper-R .points) 8 ∷
+    barFault (paper-Q .points) 9 ∷
+    barFault (paper-Q .points) 10 ∷
+    [])
+    (8 ∷ 0 ∷ 8 ∷ 14 ∷ 8 ∷ [])
+
+pub worked-cases : (valid-papers && (shapes && (loops && (gaps && (faults && barFaults))))) ≡ true
 worked-cases = refl

@@ -15,11 +15,11 @@ use Rattle.laws.specs.Choice.{between}
 use Rattle.laws.specs.Members.{Among}
 use Rattle.laws.proofs.Ranges.{in-between, between-in}
 use Rattle.laws.proofs.Tests.{le-or, bool-by, and-intro, and-true, or-true, or-left, or-right}
-use Rattle.nests.specs.Kinds.{STATEMENT, ENDDO, INDEPENDENT, CARRIED, POINTS, DEPENDENCES}
+use Rattle.nests.specs.Kinds.{STATEMENT, ENDDO, INDEPENDENT, CARRIED, POINTS, DEPENDENCES, BARS}
 use Rattle.nests.specs.Nests.{Dep, Nest}
 use Rattle.nests.specs.Loops.{isDo, endOf, inLoop}
 use Rattle.nests.specs.Gaps.{hasGap}
-use Rattle.nests.specs.Valid.{isSource, isTarget, namesPoints, runsRight, isDep, areDeps, isShape, isValid}
+use Rattle.nests.specs.Valid.{isSource, isTarget, namesPoints, runsRight, isDep, areDeps, areBars, isShape, isValid}
 
 -- an independent dependence
 pub record Line (ps : List ℕ) (e : Dep) : Type 0 where
@@ -97,20 +97,28 @@ pub record Valid (n : Nest) : Type 0 where
   pub few-points : length (n .points) ≤ POINTS
   pub few-deps : length (n .deps) ≤ DEPENDENCES
   pub all-deps : areDeps (n .points) (n .deps) ≡ true
+  pub few-bars : length (n .barred) ≤ BARS
+  pub all-bars : areBars (n .points) (n .barred) ≡ true
 
 pub valid-is : (n : Nest) → isValid n ≡ true → Valid n
 valid-is n h =
     let points = leb (length (n .points)) POINTS in
     let many = leb (length (n .deps)) DEPENDENCES in
     let deps = areDeps (n .points) (n .deps) in
-    let a = and-true (isShape (n .points)) (points && (many && deps)) h in
-    let b = and-true points (many && deps) (a .1) in
-    let c = and-true many deps (b .1) in
+    let few = leb (length (n .barred)) BARS in
+    let bars = areBars (n .points) (n .barred) in
+    let a = and-true (isShape (n .points)) (points && (many && (deps && (few && bars)))) h in
+    let b = and-true points (many && (deps && (few && bars))) (a .1) in
+    let c = and-true many (deps && (few && bars)) (b .1) in
+    let d = and-true deps (few && bars) (c .1) in
+    let e = and-true few bars (d .1) in
     record {
       shape = a .0;
       few-points = leb-true (length (n .points)) POINTS (b .0);
       few-deps = leb-true (length (n .deps)) DEPENDENCES (c .0);
-      all-deps = c .1;
+      all-deps = d .0;
+      few-bars = leb-true (length (n .barred)) BARS (e .0);
+      all-bars = e .1;
     }
 
 pub is-valid : (n : Nest) → Valid n → isValid n ≡ true
@@ -119,7 +127,11 @@ is-valid n v =
     (v .shape)
     (and-intro
     (le-leb (length (n .points)) POINTS (v .few-points))
-    (and-intro (le-leb (length (n .deps)) DEPENDENCES (v .few-deps)) (v .all-deps)))
+    (and-intro
+    (le-leb (length (n .deps)) DEPENDENCES (v .few-deps))
+    (and-intro
+    (v .all-deps)
+    (and-intro (le-leb (length (n .barred)) BARS (v .few-bars)) (v .all-bars)))))
 
 -- the gaps of a well placed dependence, as facts
 pub line-gap : (ps : List ℕ) (e : Dep) (g : ℕ) → e .kind ≡ INDEPENDENT → hasGap ps e g ≡ true → (e .s < g) × (g ≤ e .t)

@@ -1,15 +1,17 @@
--- The refusals of a dependence, case by case in the order in which the code finds them.
+-- The refusals of a dependence and of a barred gap, case by case in the order in which the code finds them.
 -- Main statements: `no-source`, `no-target`, `no-loop`, `back-inside`, `source-outside`, `target-outside`,
--- `line-forward`, `line-back`.
+-- `line-forward`, `line-back`; `gap-zero`, `gap-behind`, `bar-alone`, `bar-of-several`.
 use mathlib.Core.Path.{_≡_}
 use mathlib.Core.Bool.{true, false}
 use mathlib.Core.List.{List}
 use Prim.Native.Nat.{ℕ, _≤_, _<_}
+use lib.ListN.{length}
 use borrow.Author.Tests.{eq-eqb, ne-eqb, lt-ltb, le-ltb}
 use Rattle.nests.specs.Kinds.{CARRIED}
 use Rattle.nests.specs.Nests.{Dep}
 use Rattle.nests.specs.Loops.{isDo, inLoop}
-use Rattle.nests.specs.Valid.{isSource, isTarget, depFault}
+use Rattle.nests.specs.Ring.{oneLoop}
+use Rattle.nests.specs.Valid.{isSource, isTarget, depFault, barFault}
 
 module _ (ps : List ℕ) (e : Dep) where
   pub no-source : isSource ps (e .s) ≡ false → 6 ≡ depFault ps e
@@ -38,3 +40,18 @@ module _ (ps : List ℕ) (e : Dep) where
 
         pub target-outside : inLoop ps (e .d) (e .s) ≡ true → inLoop ps (e .d) (e .t) ≡ false → 7 ≡ depFault ps e
         target-outside h i = rw (source, target, eq-eqb (e .kind) CARRIED k, starts, h, i)
+
+module _ (ps : List ℕ) (g : ℕ) where
+  pub gap-zero : g ≤ 0 → 8 ≡ barFault ps g
+  gap-zero h = rw (le-ltb 0 g h)
+
+  module _ (first : 0 < g) where
+    pub gap-behind : length ps ≤ g → 8 ≡ barFault ps g
+    gap-behind h = rw (lt-ltb 0 g first, le-ltb g (length ps) h)
+
+    module _ (inside : g < length ps) where
+      pub bar-alone : oneLoop ps ≡ true → 0 ≡ barFault ps g
+      bar-alone h = rw (lt-ltb 0 g first, lt-ltb g (length ps) inside, h)
+
+      pub bar-of-several : oneLoop ps ≡ false → 14 ≡ barFault ps g
+      bar-of-several h = rw (lt-ltb 0 g first, lt-ltb g (length ps) inside, h)

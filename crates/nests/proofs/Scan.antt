@@ -1,5 +1,7 @@
--- The scan for the ENDDO of a loop: from the DO on, with the depth, to the first ENDDO at depth 1.
--- Main statements: `Scanned`, what a turn keeps; `scan-start`, `scan-on`, `scan-found`, `scan-done`.
+-- The scan for the ENDDO of a loop: from the DO on, with the depth, to the first ENDDO at depth 1; and the scan for a
+-- DO inside.
+-- Main statements: `Scanned`, what a turn keeps; `scan-start`, `scan-on`, `scan-found`, `scan-done`; `do-found`,
+-- `no-do-on`, `no-do-left`.
 use mathlib.Core.Path.{_≡_, refl, sym, _∙_}
 use mathlib.Core.Bool.{Bool, true, false, _&&_}
 use mathlib.Core.List.{List}
@@ -12,7 +14,9 @@ use lib.ListN.{length, getD, drop, drop-of-length-le}
 use lib.Seq.{drop-cons}
 use borrow.Author.Tests.{eq-eqb, ne-eqb}
 use Rattle.laws.specs.Choice.{pick}
+use Rattle.nests.specs.Kinds.{DO}
 use Rattle.nests.specs.Loops.{deeper, endFrom, endOf}
+use Rattle.nests.specs.Ring.{noDo, oneLoop}
 
 -- one more point makes the depth at most one more
 pub deeper-grows : (d p : ℕ) → deeper d p ≤ d + 1
@@ -64,3 +68,20 @@ module _ (ps : List ℕ) (d depth i : ℕ) (p : Scanned ps d depth i) where
   scan-done h =
       let z : endFrom i depth (drop i ps) ≡ i = rw (drop-of-length-le ps h) in
       sym z ∙ p .rest
+
+-- no DO lies before i but the first point, so the points from i on decide
+module _ (ps : List ℕ) (i : ℕ) (rest : noDo (drop i ps) ≡ oneLoop ps) where
+  pub do-found : i < length ps → getD ps i 0 ≡ DO → false ≡ oneLoop ps
+  do-found h e =
+      let z : noDo (drop i ps) ≡ false = rw (drop-cons ps i 0 h, eq-eqb (getD ps i 0) DO e) in
+      sym z ∙ rest
+
+  pub no-do-on : i < length ps → (getD ps i 0 ≡ DO → ⊥) → noDo (drop (i + 1) ps) ≡ oneLoop ps
+  no-do-on h e =
+      let z : noDo (drop i ps) ≡ noDo (drop (suc i) ps) = rw (drop-cons ps i 0 h, ne-eqb (getD ps i 0) DO e) in
+      rw add-one (sym z ∙ rest)
+
+  pub no-do-left : length ps ≤ i → true ≡ oneLoop ps
+  no-do-left h =
+      let z : noDo (drop i ps) ≡ true = rw (drop-of-length-le ps h) in
+      sym z ∙ rest

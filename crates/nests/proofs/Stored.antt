@@ -1,5 +1,6 @@
--- Laws of the nest as the code stores it: what one more point or dependence makes of it, its dependences one by one.
--- Main statements: `point-added`, `dependence-added`, `depsIn-length`, `depsIn-at`, `counted-many`, `counted-points`.
+-- Laws of the nest as the code stores it: what one more point, dependence or barred gap makes of it, its dependences one
+-- by one.
+-- Main statements: `point-added`, `dependence-added`, `bar-added`, `depsIn-length`, `depsIn-at`, `counted-many`, `counted-points`.
 use mathlib.Core.Path.{_≡_, refl, ap}
 use mathlib.Core.List.{List, [], _∷_, _++_}
 use Prim.Native.Nat.{ℕ, zero, suc, _+_, _≤_, _<_}
@@ -9,9 +10,9 @@ use lib.ListN.{length, take, drop, set, getD, length-append, length-take}
 use lib.Seq.{take-suc-set, length-take-le}
 use Rattle.nests.specs.declared.Dependence as DE
 use Rattle.nests.specs.declared.Nest as DN
-use Rattle.nests.specs.Kinds.{POINTS, DEPENDENCES}
+use Rattle.nests.specs.Kinds.{POINTS, DEPENDENCES, BARS}
 use Rattle.nests.specs.Nests.{Dep}
-use Rattle.nests.specs.Stored.{depIn, depsIn, IsCounted, PointAdded, DependenceAdded}
+use Rattle.nests.specs.Stored.{depIn, depsIn, IsCounted, PointAdded, DependenceAdded, BarAdded}
 
 -- the first dependences are as many as asked
 pub depsIn-length : (n : ℕ) (xs : List DE.Dependence) → n ≤ length xs → length (depsIn n xs) ≡ n
@@ -54,7 +55,15 @@ counted-points n p = omega (arith, p .count-is, length-take (n .count) (n .point
 
 module _ (n : DN.Nest) (p : IsCounted n) where
   abbrev pub with-point : ℕ → DN.Nest
-  with-point k = record { count = n .count + 1; points = set (n .points) (n .count) k; many = n .many; deps = n .deps }
+  with-point k =
+      record {
+        count = n .count + 1;
+        points = set (n .points) (n .count) k;
+        many = n .many;
+        deps = n .deps;
+        bars = n .bars;
+        barred = n .barred;
+      }
 
   pub point-added : (k : ℕ) → n .count < POINTS → length (n .points) ≡ POINTS → PointAdded n k (with-point k)
   point-added k h e =
@@ -64,6 +73,7 @@ module _ (n : DN.Nest) (p : IsCounted n) where
         nest-is = rw pts;
         one-more = refl;
         same-many = refl;
+        same-bars = refl;
         counted =
             record {
               count-is =
@@ -77,12 +87,21 @@ module _ (n : DN.Nest) (p : IsCounted n) where
               count-fits = omega arith;
               many-is = p .many-is;
               many-fits = p .many-fits;
+              bars-is = p .bars-is;
+              bars-fit = p .bars-fit;
             };
       }
 
   abbrev pub with-dependence : DE.Dependence → DN.Nest
   with-dependence e =
-      record { count = n .count; points = n .points; many = n .many + 1; deps = set (n .deps) (n .many) e }
+      record {
+        count = n .count;
+        points = n .points;
+        many = n .many + 1;
+        deps = set (n .deps) (n .many) e;
+        bars = n .bars;
+        barred = n .barred;
+      }
 
   pub dependence-added
       : (e : DE.Dependence)
@@ -96,6 +115,7 @@ module _ (n : DN.Nest) (p : IsCounted n) where
         nest-is = rw ds;
         same-count = refl;
         one-more = refl;
+        same-bars = refl;
         counted =
             record {
               count-is = p .count-is;
@@ -109,5 +129,45 @@ module _ (n : DN.Nest) (p : IsCounted n) where
                     depsIn-length (n .many) (n .deps) (omega arith),
                   ));
               many-fits = omega arith;
+              bars-is = p .bars-is;
+              bars-fit = p .bars-fit;
+            };
+      }
+
+  abbrev pub with-bar : ℕ → DN.Nest
+  with-bar g =
+      record {
+        count = n .count;
+        points = n .points;
+        many = n .many;
+        deps = n .deps;
+        bars = n .bars + 1;
+        barred = set (n .barred) (n .bars) g;
+      }
+
+  pub bar-added : (g : ℕ) → n .bars < BARS → length (n .barred) ≡ BARS → BarAdded n g (with-bar g)
+  bar-added g h e =
+      let bs : take (n .bars + 1) (set (n .barred) (n .bars) g) ≡ take (n .bars) (n .barred) ++ (g ∷ []) =
+      rw add-one (take-suc-set (n .barred) (n .bars) g (omega arith)) in
+      record {
+        nest-is = rw bs;
+        same-count = refl;
+        same-many = refl;
+        one-more = refl;
+        counted =
+            record {
+              count-is = p .count-is;
+              count-fits = p .count-fits;
+              many-is = p .many-is;
+              many-fits = p .many-fits;
+              bars-is =
+                  rw
+                  bs
+                  (omega (
+                    arith,
+                    length-append (take (n .bars) (n .barred)) (g ∷ []),
+                    length-take-le (n .bars) (n .barred) (omega arith),
+                  ));
+              bars-fit = omega arith;
             };
       }

@@ -1,13 +1,18 @@
--- The gaps of a dependence.
--- Main definition: `hasGap`.
-use mathlib.Core.Bool.{Bool, _||_}
+-- The gaps of a nest, and those of a dependence.
+-- Main definitions: `isGap`, `hasGap`.
+use mathlib.Core.Bool.{Bool, _&&_, _||_}
 use mathlib.Core.List.{List}
 use Prim.Native.Nat.{ℕ, suc}
-use lib.Dec.{eqb}
+use lib.Dec.{eqb, ltb}
+use lib.ListN.{length}
 use Rattle.laws.specs.Choice.{pick, between}
 use Rattle.nests.specs.Kinds.{INDEPENDENT}
 use Rattle.nests.specs.Nests.{Dep}
 use Rattle.nests.specs.Loops.{endOf}
+
+-- 01, "The nest and its gaps": gaps 1 to n - 1
+abbrev pub isGap : List ℕ → ℕ → Bool
+isGap ps g = ltb 0 g && ltb g (length ps)
 
 -- 01, "The nest and its gaps": independent, s + 1 to t; carried by the loop of DO d and ENDDO e, d + 1 to t and
 -- s + 1 to e

@@ -18,6 +18,10 @@ INDEPENDENT = 17
 abbrev pub CARRIED : ℕ
 CARRIED = 18
 
+-- 02, job 7: a barred gap is 13 g
+abbrev pub BARRED : ℕ
+BARRED = 19
+
 -- 01, "Text": limits, fixed with the nest itself
 abbrev pub POINTS : ℕ
 POINTS = 256
@@ -27,3 +31,7 @@ DEPTH = 8
 
 abbrev pub DEPENDENCES : ℕ
 DEPENDENCES = 512
+
+-- 02, job 7: at most 255 barred gaps, repeats counted
+abbrev pub BARS : ℕ
+BARS = 255

@@ -1,5 +1,5 @@
--- When a nest is valid, and numbers 6 and 7 of a dependence.
--- Main definitions: `isShape`, `depFault`, `isDep`, `isValid`.
+-- When a nest is valid; numbers 6 and 7 of a dependence, 8 and 14 of a barred gap.
+-- Main definitions: `isShape`, `depFault`, `isDep`, `barFault`, `isBar`, `isValid`.
 use mathlib.Core.Path.{_≡_}
 use mathlib.Core.Bool.{Bool, true, false, _&&_, _||_, not}
 use mathlib.Core.List.{List, [], _∷_}
@@ -7,9 +7,11 @@ use Prim.Native.Nat.{ℕ, zero, suc}
 use lib.Dec.{eqb, ltb, leb}
 use lib.ListN.{length, getD}
 use Rattle.laws.specs.Choice.{pick, when, firstOf}
-use Rattle.nests.specs.Kinds.{DO, ENDDO, STATEMENT, INDEPENDENT, CARRIED, POINTS, DEPTH, DEPENDENCES}
+use Rattle.nests.specs.Kinds.{DO, ENDDO, STATEMENT, INDEPENDENT, CARRIED, POINTS, DEPTH, DEPENDENCES, BARS}
 use Rattle.nests.specs.Nests.{Dep, Nest}
 use Rattle.nests.specs.Loops.{isDo, endOf, inLoop}
+use Rattle.nests.specs.Gaps.{isGap}
+use Rattle.nests.specs.Ring.{oneLoop}
 
 -- the rest of a nest's points at depth d: every loop closes, none deeper than the limit, nothing after the outermost
 abbrev pub closes : ℕ → List ℕ → Bool
@@ -67,8 +69,22 @@ abbrev pub areDeps : List ℕ → List Dep → Bool
 areDeps ps [] = true
 areDeps ps (e ∷ es) = isDep ps e && areDeps ps es
 
+-- 02, job 7: 8, a barred gap out of range; then 14, more than one loop; 0 for none
+abbrev pub barFault : List ℕ → ℕ → ℕ
+barFault ps g = firstOf (when (not (isGap ps g)) 8) (when (not (oneLoop ps)) 14)
+
+-- a barred gap as the job says
+abbrev pub isBar : List ℕ → ℕ → Bool
+isBar ps g = isGap ps g && oneLoop ps
+
+abbrev pub areBars : List ℕ → List ℕ → Bool
+areBars ps [] = true
+areBars ps (g ∷ gs) = isBar ps g && areBars ps gs
+
 -- a nest that breaks no rule
 abbrev pub isValid : Nest → Bool
 isValid n =
     isShape (n .points) &&
-    (leb (length (n .points)) POINTS && (leb (length (n .deps)) DEPENDENCES && areDeps (n .points) (n .deps)))
+    (leb (length (n .points)) POINTS &&
+    (leb (length (n .deps)) DEPENDENCES &&
+    (areDeps (n .points) (n .deps) && (leb (length (n .barred)) BARS && areBars (n .points) (n .barred)))))

@@ -1,11 +1,12 @@
-// Nests: their points and dependences by value, and the tests of a dependence.
+// Nests: their points, dependences and barred gaps by value, and the tests of a dependence and of a barred gap.
 ghost use mathlib.Core.Path.{_≡_};
 ghost use mathlib.Core.Bool.{true};
 ghost use Prim.Native.Nat.{_+_, _^_, _<_, _≤_};
 ghost use lib.ListN.{length};
 ghost use Rattle.nests.specs.Kinds.{POINTS};
 ghost use Rattle.nests.specs.Loops.{deeper, endOf, HasEnds, ownerOf, isDo, isInside};
-ghost use Rattle.nests.specs.Valid.{isShape, isSource, isTarget, CarriedTo, depFault};
+ghost use Rattle.nests.specs.Ring.{oneLoop};
+ghost use Rattle.nests.specs.Valid.{isShape, isSource, isTarget, CarriedTo, depFault, barFault};
 ghost use Rattle.nests.specs.Stored.{depIn, IsCounted, IsEmpty, PointAdded};
 
 // The kinds of points.
@@ -20,6 +21,9 @@ pub const INDEPENDENT: u8 = 17;
 
 pub const CARRIED: u8 = 18;
 
+// The kind of barred gaps.
+pub const BARRED: u8 = 19;
+
 // A dependence from point s to point t, independent or carried by the loop of DO d.
 #[repr(C)]
 pub struct Dependence {
@@ -29,13 +33,15 @@ pub struct Dependence {
     pub t: u8,
 }
 
-// A nest: the first `count` points and the first `many` dependences.
+// A nest: the first `count` points, the first `many` dependences and the first `bars` barred gaps.
 #[repr(C)]
 pub struct Nest {
     pub count: usize,
     pub points: [u8; Nest::POINTS],
     pub many: usize,
     pub deps: [Dependence; Nest::DEPENDENCES],
+    pub bars: usize,
+    pub barred: [u8; Nest::BARS],
 }
 
 impl Nest {
@@ -44,6 +50,8 @@ impl Nest {
     pub const DEPTH: usize = 8;
 
     pub const DEPENDENCES: usize = 512;
+
+    pub const BARS: usize = 255;
 
     // A nest with no point.
     pub fn empty() -> Nest
@@ -59,6 +67,8 @@ impl Nest {
                 s: 0,
                 t: 0,
             }; Nest::DEPENDENCES],
+            bars: 0,
+            barred: [0; Nest::BARS],
         }
     }
 
@@ -166,6 +176,20 @@ pub fn is_do(points: &[u8], i: usize) -> bool
     false
 }
 
+// No point but the first is a DO.
+pub fn is_one_loop(points: &[u8]) -> bool
+    ensures { λ r. ⌜ r ≡ oneLoop (now (points .entry)) ⌝ }
+{
+    let mut i = 1;
+    while i < points.len() {
+        if points[i] == DO {
+            return false;
+        }
+        i += 1;
+    }
+    true
+}
+
 // The point may be the source of a dependence: a statement or a DO.
 pub fn is_source(points: &[u8], s: usize) -> bool
     ensures { λ r. ⌜ r ≡ isSource (now (points .entry)) s ⌝ }
@@ -237,4 +261,21 @@ pub fn dep_fault(points: &[u8], end: usize, e: Dependence) -> u8
         }
     }
     6
+}
+
+// The refusal of a barred gap, 8 or 14, or 0 for none; `single` says whether the nest has one loop only.
+pub fn bar_fault(points: &[u8], single: bool, g: u8) -> u8
+    requires { ⌜ single ≡ oneLoop (now points) ⌝ }
+    ensures { λ r. ⌜ r ≡ barFault (now (points .entry)) g ⌝ }
+{
+    let gap = g as usize;
+    if 0 < gap {
+        if gap < points.len() {
+            if single {
+                return 0;
+            }
+            return 14;
+        }
+    }
+    8
 }

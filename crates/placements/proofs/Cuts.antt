@@ -1,8 +1,8 @@
 -- Cuts: which gap cuts a dependence, the lowest uncut dependence, and correct placements taken apart.
--- Main statements: `cut-has-gap`, `gap-cuts`, `uncut-none`, `none-uncut`, `uncut-first`, `first-uncut`, `correct-by`,
--- `correct-gaps`, `correct-cuts`.
+-- Main statements: `cut-has-gap`, `gap-cuts`, `avoids-in`, `avoids-by`, `avoids-none`, `uncut-none`, `none-uncut`,
+-- `uncut-first`, `first-uncut`, `correct-by`, `correct-gaps`, `correct-avoids`, `correct-cuts`.
 use mathlib.Core.Path.{_≡_, refl}
-use mathlib.Core.Bool.{Bool, true, false}
+use mathlib.Core.Bool.{Bool, true, false, _&&_}
 use mathlib.Core.List.{List, [], _∷_}
 use mathlib.Core.Logic.{inl, inr, ⊎-elim}
 use Prim.Native.Nat.{ℕ, zero, suc, _+_, _<_}
@@ -16,7 +16,7 @@ use Rattle.laws.proofs.Tests.{never, and-intro, and-true, or-left, or-right, or
 use Rattle.laws.proofs.Members.{in-here, in-later, in-cons}
 use Rattle.nests.specs.Nests.{Dep, Nest}
 use Rattle.nests.specs.Gaps.{hasGap}
-use Rattle.placements.specs.Placements.{cuts, uncutFrom, uncut, areGaps, isCorrect}
+use Rattle.placements.specs.Placements.{cuts, uncutFrom, uncut, areGaps, isFree, avoids, isCorrect}
 
 -- a gap of the placement that is one of the dependence's
 pub record CutBy (ps : List ℕ) (e : Dep) (gs : List ℕ) : Type 0 where
@@ -104,6 +104,25 @@ module _ (ps gs : List ℕ) (e₀ : Dep) where
             lower = λ j l. r .lower (suc j) (omega arith);
           }
 
+-- a placement avoids barred gaps if each of its gaps is unbarred
+module _ (bs : List ℕ) where
+  pub avoids-in : (gs : List ℕ) → avoids bs gs ≡ true → (i : ℕ) → isIn i gs ≡ true → isFree bs i ≡ true
+  avoids-in [] h i p = never p
+  avoids-in (g ∷ gs) h i p =
+      let a = and-true (isFree bs g) (avoids bs gs) h in
+      ⊎-elim
+      (λ (z : i ≡ g). rw z (a .0))
+      (λ (z : isIn i gs ≡ true). avoids-in gs (a .1) i z)
+      (in-cons i g gs p)
+
+  pub avoids-by : (gs : List ℕ) → ((i : ℕ) → isIn i gs ≡ true → isFree bs i ≡ true) → avoids bs gs ≡ true
+  avoids-by [] h = refl
+  avoids-by (g ∷ gs) h = and-intro (h g (in-here g gs)) (avoids-by gs (λ i p. h i (in-later i g gs p)))
+
+-- where nothing is barred, each does
+pub avoids-none : (bs : List ℕ) → bs ≡ [] → (gs : List ℕ) → avoids bs gs ≡ true
+avoids-none bs e gs = avoids-by bs gs (λ i p. rw e refl)
+
 -- of a nest and a placement
 module _ (n : Nest) (gs : List ℕ) where
   pub uncut-none : uncut n gs ≡ 0 → AllCut (n .points) (n .deps) gs
@@ -122,14 +141,23 @@ module _ (n : Nest) (gs : List ℕ) where
   first-uncut e₀ k r = omega (arith, lowest-from (n .points) gs e₀ (n .deps) 0 k r)
 
   -- 01, "The nest and its gaps": a placement is correct if every dependence is cut
-  pub correct-by : areGaps n gs ≡ true → AllCut (n .points) (n .deps) gs → isCorrect n gs ≡ true
-  correct-by g h = and-intro g (eq-eqb (uncut n gs) 0 (none-uncut h))
+  pub correct-by
+      : areGaps n gs ≡ true → avoids (n .barred) gs ≡ true → AllCut (n .points) (n .deps) gs → isCorrect n gs ≡ true
+  correct-by g v h = and-intro g (and-intro v (eq-eqb (uncut n gs) 0 (none-uncut h)))
 
   pub correct-gaps : isCorrect n gs ≡ true → areGaps n gs ≡ true
-  correct-gaps h = and-true (areGaps n gs) (eqb (uncut n gs) 0) h .0
+  correct-gaps h = and-true (areGaps n gs) (avoids (n .barred) gs && eqb (uncut n gs) 0) h .0
+
+  avoids-and-cuts : isCorrect n gs ≡ true → (avoids (n .barred) gs ≡ true) × (eqb (uncut n gs) 0 ≡ true)
+  avoids-and-cuts h =
+      let rest = avoids (n .barred) gs && eqb (uncut n gs) 0 in
+      and-true (avoids (n .barred) gs) (eqb (uncut n gs) 0) (and-true (areGaps n gs) rest h .1)
+
+  pub correct-avoids : isCorrect n gs ≡ true → avoids (n .barred) gs ≡ true
+  correct-avoids h = avoids-and-cuts h .0
 
   pub correct-uncut : isCorrect n gs ≡ true → uncut n gs ≡ 0
-  correct-uncut h = eqb-true (uncut n gs) 0 (and-true (areGaps n gs) (eqb (uncut n gs) 0) h .1)
+  correct-uncut h = eqb-true (uncut n gs) 0 (avoids-and-cuts h .1)
 
   pub correct-cuts : isCorrect n gs ≡ true → AllCut (n .points) (n .deps) gs
   correct-cuts h = uncut-none (correct-uncut h)

@@ -1,5 +1,5 @@
 -- Keys: all keys of a nest have the same counts, and a key is least loop by loop (demand 3).
--- Main statements: `keys-agree`, `keys-same-tree`, `key-least-tree`, `same-counts-key`, `by-loops`.
+-- Main statements: `keys-agree`, `keys-same-tree`, `key-least-tree`, `same-counts-key`, `smallest-key`, `by-loops`.
 use mathlib.Core.Path.{_≡_, refl, sym}
 use mathlib.Core.Bool.{true, _&&_}
 use mathlib.Core.List.{List, [], _∷_}
@@ -22,7 +22,8 @@ use Rattle.placements.specs.Trees.{treeOf, asGoodTree}
 use Rattle.placements.specs.Keys.{IsKey, By-loops}
 use Rattle.placements.proofs.Cuts.{correct-gaps}
 use Rattle.placements.proofs.Inside.{inside-lies}
-use Rattle.placements.proofs.LoopOrder.{SameCounts, SameInside, asGood-elim, asGood-moved, asGood-both}
+use Rattle.placements.proofs.LoopOrder.{SameCounts, SameInside, asGood-elim, asGood-intro, asGood-moved}
+use Rattle.placements.proofs.LoopOrder.{asGood-both}
 use Rattle.placements.proofs.TreeOrder.{tree-order, equal-trees}
 
 -- each is as good as the other
@@ -80,6 +81,24 @@ module _ (n : Nest) (shape : isShape (n .points) ≡ true) (one : oneLoop (n .po
     where
       none : SameInside n key gs 0
       none x h i = absurd (omega (arith, only-loop x h, inside-lies (n .points) 0 x i))
+
+  -- and a smallest correct set of gaps is a key
+  pub smallest-key :
+      (key : List ℕ) → isCorrect n key ≡ true →
+      ((gs : List ℕ) → isCorrect n gs ≡ true → length key ≤ length gs) → IsKey n key
+  smallest-key key c smallest =
+      record { correct = c; least = λ gs h. asGood-intro n shape key gs (λ d k s. at-most gs h d k) }
+    where
+      at-most : (gs : List ℕ) → isCorrect n gs ≡ true → (d : ℕ) → isDo (n .points) d ≡ true →
+          loopCount n key d ≤ loopCount n gs d
+      at-most gs h d k =
+          rw (only-loop d k)
+          (omega (
+            arith,
+            one-loop-count key (correct-gaps n key c),
+            one-loop-count gs (correct-gaps n gs h),
+            smallest gs h,
+          ))
 
 -- demand 3, loop by loop from the inside
 pub by-loops : (n : Nest) → isShape (n .points) ≡ true → (key : List ℕ) → IsKey n key → By-loops n key

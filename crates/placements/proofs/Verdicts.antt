@@ -7,15 +7,13 @@ use mathlib.Core.List.{List}
 use mathlib.Core.Logic.{_↔_}
 use Prim.Native.Nat.{ℕ, zero, suc, _<_}
 use native.Mathlib.Omega.{arith}
-use borrow.Author.Tests.{eq-eqb}
-use Rattle.laws.proofs.Tests.{and-intro}
 use Rattle.nests.specs.Nests.{Dep, Nest}
 use Rattle.nests.specs.Loops.{isDo, endOf}
 use Rattle.nests.specs.Valid.{isShape}
-use Rattle.placements.specs.Placements.{uncut, differ, areGaps, isCorrect, loopCount}
+use Rattle.placements.specs.Placements.{uncut, differ, areGaps, avoids, isCorrect, loopCount}
 use Rattle.placements.specs.Keys.{IsKey}
 use Rattle.placements.specs.Verdicts.{Uncut, Dearer, Best, verdictBy, markOf}
-use Rattle.placements.proofs.Cuts.{correct-uncut, LowestUncut, uncut-first, first-uncut}
+use Rattle.placements.proofs.Cuts.{correct-uncut, correct-by, uncut-none, LowestUncut, uncut-first, first-uncut}
 use Rattle.placements.proofs.LoopLists.{Differ, differ-none, none-differ, differ-at}
 use Rattle.placements.proofs.LoopOrder.{asGood-elim}
 use Rattle.placements.proofs.Keys.{keys-agree, same-counts-key}
@@ -74,9 +72,10 @@ pub record IsDearer (n : Nest) (key gs : List ℕ) (loop theirs ours : ℕ) : Ty
 
 module _
     (n : Nest) (shape : isShape (n .points) ≡ true) (key gs : List ℕ) (k : IsKey n key) (gaps : areGaps n gs ≡ true)
+    (avoiding : avoids (n .barred) gs ≡ true)
   where
     correct-if : uncut n gs ≡ 0 → isCorrect n gs ≡ true
-    correct-if u = and-intro gaps (eq-eqb (uncut n gs) 0 u)
+    correct-if u = correct-by n gs gaps avoiding (uncut-none n gs u)
 
     pub best-key : markOf n key gs ≡ Best → IsKey n gs
     best-key h =

@@ -9,7 +9,7 @@ use Rattle.laws.specs.Members.{Among}
 use Rattle.nests.specs.Nests.{Dep, Nest}
 use Rattle.nests.specs.Loops.{isDo, inLoop}
 use Rattle.nests.specs.Ring.{oneLoop, Interval, Meets}
-use Rattle.placements.specs.Placements.{areGaps, isCorrect, loopCount, asGood}
+use Rattle.placements.specs.Placements.{areGaps, avoids, isCorrect, loopCount, asGood}
 
 -- 01, "Which placement is better": correct, and as good or better than every correct placement
 pub record IsKey (n : Nest) (key : List ℕ) : Type 0 where
@@ -27,12 +27,13 @@ pub record By-loops (n : Nest) (key : List ℕ) : Type 0 where
   pub one-loop : (gs : List ℕ) → oneLoop (n .points) ≡ true → isCorrect n gs ≡ true → length key ≤ length gs
 
 -- 01, "The nest and its gaps", of a nest of one loop: every dependence has its circular interval, the key meets each,
--- and no set of gaps that meets them all has fewer
+-- and no set of unbarred gaps that meets them all has fewer
 pub record LeastOnRing (n : Nest) (key : List ℕ) : Type 0 where
   pub interval : (e : Dep) → Among e (n .deps) → Interval (n .points) e
   pub meets : (e : Dep) → Among e (n .deps) → (i : Interval (n .points) e) → Meets (n .points) e i key
   pub no-fewer
       : (gs : List ℕ)
       → areGaps n gs ≡ true
+      → avoids (n .barred) gs ≡ true
       → ((e : Dep) → Among e (n .deps) → (i : Interval (n .points) e) × Meets (n .points) e i gs)
       → length key ≤ length gs

@@ -1,11 +1,11 @@
 -- Placements as rising lists of gaps: which dependences they cut, what they count, which of two is better.
--- Main definitions: `cuts`, `uncut`, `isCorrect`, `loopCount`, `loopsOf`, `differ`, `asGood`.
+-- Main definitions: `cuts`, `uncut`, `avoids`, `isCorrect`, `loopCount`, `loopsOf`, `differ`, `asGood`.
 use mathlib.Core.Bool.{Bool, true, false, _&&_, _||_, not}
 use mathlib.Core.List.{List, [], _∷_, _++_}
 use Prim.Native.Nat.{ℕ, zero, suc, _+_}
 use lib.Dec.{eqb, ltb, leb}
 use lib.ListN.{length, getD}
-use Rattle.laws.specs.Choice.{pick, when}
+use Rattle.laws.specs.Choice.{pick, when, isIn}
 use Rattle.nests.specs.Nests.{Dep, Nest}
 use Rattle.nests.specs.Loops.{isEnd, endOf, ownerOf, inLoop}
 use Rattle.nests.specs.Gaps.{hasGap}
@@ -36,9 +36,18 @@ areGapsFrom last n (g ∷ gs) = ltb last g && (ltb g n && areGapsFrom g n gs)
 abbrev pub areGaps : Nest → List ℕ → Bool
 areGaps n gs = areGapsFrom 0 (length (n .points)) gs
 
--- 01, "The nest and its gaps": a placement is correct if every dependence is cut
+-- a gap that is not barred
+abbrev pub isFree : List ℕ → ℕ → Bool
+isFree bs g = not (isIn g bs)
+
+-- a placement without barred gaps
+abbrev pub avoids : List ℕ → List ℕ → Bool
+avoids bs [] = true
+avoids bs (g ∷ gs) = isFree bs g && avoids bs gs
+
+-- 01, "The nest and its gaps": a placement is correct if every dependence is cut; 02, job 7: it avoids barred gaps
 abbrev pub isCorrect : Nest → List ℕ → Bool
-isCorrect n gs = areGaps n gs && eqb (uncut n gs) 0
+isCorrect n gs = areGaps n gs && (avoids (n .barred) gs && eqb (uncut n gs) 0)
 
 -- 01, "The nest and its gaps": a loop's count is the ones among its own gaps
 abbrev pub loopCount : Nest → List ℕ → ℕ → ℕ

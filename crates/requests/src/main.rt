@@ -1,5 +1,5 @@
 // Cases of the change requests, run over the desk's calls and compared; a line for each. Their numbers go on from those
-// of document 01: 14 to 16 are of request 4, 17 to 19 of request 5, 20 of request 6.
+// of document 01: 14 to 16 are of request 4, 17 to 19 of request 5, 20 of request 6, 21 to 23 of request 7.
 ghost use Rattle.desk.specs.Desks.{IsMade};
 use desk::Desk;
 use trials::after_back;
@@ -11,12 +11,16 @@ use trials::after_reset;
 use trials::empty_desk;
 use trials::gone_over;
 use trials::gone_over_with;
+use trials::has_count;
 use trials::has_key;
 use trials::is_best;
+use trials::is_refused;
+use trials::is_unread;
 use trials::lifts;
 use trials::paper_p;
 use trials::paper_r;
 use trials::planned;
+use trials::plans;
 use trials::puts;
 use trials::report;
 use trials::takes_back;
@@ -29,6 +33,9 @@ fn main() {
     report(18, case_18());
     report(19, case_19());
     report(20, case_20());
+    report(21, case_21());
+    report(22, case_22());
+    report(23, case_23());
 }
 
 // P at the screen: barriers put and lifted, and how many dependences remain uncut.
@@ -148,6 +155,52 @@ fn case_20() -> bool {
         && is_best(crossed, b"2102\n2104\n")
         && is_best(r, b"2104\n2107\n")
         && has_key(gone, b"2101\n2104\n")
+}
+
+// Gaps 1, 2 and 4 barred: the key avoids them, and a placement with one of them has number 16, after 8.
+fn case_21() -> bool {
+    let paper = barred_paper();
+    has_key(paper, b"2103\n2105\n")
+        && has_count(paper, 0, 2)
+        && is_best(paper, b"2105\n2106\n")
+        && is_unread(paper, b"2103\n2104\n", 16, 2)
+        && is_unread(paper, b"2104\n2104\n", 16, 1)
+        && is_unread(paper, b"2105\n2104\n", 8, 2)
+        && is_unread(paper, b"2107\n", 8, 1)
+}
+
+// Numbers on lines 13: 14 after 8 in a nest of several loops; 4 before all points, and 3 for a point behind. A dependence
+// whose only gap is barred leaves no key: 15, after 10.
+fn case_22() -> bool {
+    let blocked = after_load(empty_desk(), b"01\n03\n03\n02\n1302\n110102\n");
+    is_refused(b"01\n01\n02\n02\n1301\n", 14, 5)
+        && is_refused(b"01\n01\n02\n02\n1304\n", 8, 5)
+        && is_refused(b"01\n02\n1300\n", 8, 3)
+        && is_refused(b"01\n1301\n", 4, 2)
+        && is_refused(b"01\n02\n1301\n03\n", 3, 4)
+        && is_refused(b"01\n02\n1301\n1301\n", 0, 0)
+        && plans(blocked, 15)
+        && is_unread(after_plan(blocked), b"2101\n", 11, 0)
+        && plans(empty_desk(), 10)
+}
+
+// At the screen a barred gap is never there: Put gets 16, Lift 12.
+fn case_23() -> bool {
+    let paper = barred_paper();
+    let one = after_put(paper, 3);
+    puts(paper, 4, 16, 0)
+        && lifts(paper, 4, 12, 0)
+        && puts(paper, 7, 8, 0)
+        && puts(paper, 3, 0, 1)
+        && puts(one, 3, 12, 0)
+        && puts(one, 5, 0, 0)
+}
+
+// 01, five times 03, 02 with 12000503, 12000401, 110005 and gaps 1, 2 and 4 barred.
+fn barred_paper() -> Desk
+    ensures { λ r. ⌜ IsMade r ⌝ }
+{
+    planned(b"01\n03\n03\n03\n03\n03\n02\n12000503\n1301\n12000401\n1302\n110005\n1304\n")
 }
 
 // The desk after so many moves of gap 5, put and lifted in turn.

@@ -1,6 +1,6 @@
 -- Put and Lift: what each way through the code says of the reply.
--- Main statements: `refused-with`, `made-with`; `ready`; `put-refused`, `put-there`, `put-made`; `lift-refused`,
--- `lift-missing`, `lift-made`.
+-- Main statements: `refused-with`, `made-with`; `ready`; `put-refused`, `put-there`, `put-barred`, `put-made`;
+-- `lift-refused`, `lift-missing`, `lift-made`.
 use mathlib.Core.Path.{_≡_, refl, sym, _∙_, ap}
 use mathlib.Core.Bool.{Bool, true, false, _&&_, not}
 use mathlib.Core.List.{List}
@@ -119,11 +119,14 @@ module _ (d : DD.Desk) (g : ℕ) (made : IsMade d) (r : DM.Moved) where
   fault-told : told ≡ gapFault (deskIn d) g
   fault-told = rw (nest-only (d .loaded)) (ap (λ (n : ℕ). faultIn (d .loaded) n g) (made .counted .count-is))
 
+  -- 12 and 16 of a Put
+  abbrev put-later : ℕ
+  put-later = firstOf (when (isIn g (deskIn d .sitting)) 12) (when (isIn g (deskIn d .nest-is .barred)) 16)
+
   pub put-refused : (k : ℕ) → k ≡ told → (k ≡ 0 → ⊥) → r ≡ refusedAs k d → PutSays d g r
   put-refused k e h is =
       refused-with d made r (putFault (deskIn d) g) (afterPut (deskIn d) g) k
-      (first-set (gapFault (deskIn d) g) (when (isIn g (deskIn d .sitting)) 12) (λ q. h (e ∙ (fault-told ∙ q))) ∙
-      sym (e ∙ fault-told))
+      (first-set (gapFault (deskIn d) g) put-later (λ q. h (e ∙ (fault-told ∙ q))) ∙ sym (e ∙ fault-told))
       h is
 
   pub lift-refused : (k : ℕ) → k ≡ told → (k ≡ 0 → ⊥) → r ≡ refusedAs k d → LiftSays d g r
@@ -139,10 +142,14 @@ module _ (d : DD.Desk) (g : ℕ) (made : IsMade d) (r : DM.Moved) where
     there : (b : Bool) → holds ws g ≡ b → isIn g (deskIn d .sitting) ≡ b
     there b h = in-gaps ws g (below d g made none) ∙ h
 
-    put-number : (b : Bool) → holds ws g ≡ b → putFault (deskIn d) g ≡ when b 12
-    put-number b h =
-        first-none (gapFault (deskIn d) g) (when (isIn g (deskIn d .sitting)) 12) (when b 12) (sym fault-told ∙ none)
-        (ap (λ (t : Bool). when t 12) (there b h))
+    put-number
+        : (b c : Bool)
+        → holds ws g ≡ b
+        → isIn g (deskIn d .nest-is .barred) ≡ c
+        → putFault (deskIn d) g ≡ firstOf (when b 12) (when c 16)
+    put-number b c h k =
+        first-none (gapFault (deskIn d) g) put-later (firstOf (when b 12) (when c 16)) (sym fault-told ∙ none)
+        (rw (there b h, k))
 
     lift-number : (b : Bool) → holds ws g ≡ b → liftFault (deskIn d) g ≡ when (not b) 12
     lift-number b h =
@@ -152,7 +159,14 @@ module _ (d : DD.Desk) (g : ℕ) (made : IsMade d) (r : DM.Moved) where
 
     pub put-there : holds ws g ≡ true → r ≡ refusedAs 12 d → PutSays d g r
     put-there h =
-        refused-with d made r (putFault (deskIn d) g) (afterPut (deskIn d) g) 12 (put-number true h) (λ q. omega arith)
+        refused-with d made r (putFault (deskIn d) g) (afterPut (deskIn d) g) 12 (put-number true _ h refl)
+        (λ q. omega arith)
+
+    pub put-barred
+        : holds ws g ≡ false → isIn g (deskIn d .nest-is .barred) ≡ true → r ≡ refusedAs 16 d → PutSays d g r
+    put-barred h k =
+        refused-with d made r (putFault (deskIn d) g) (afterPut (deskIn d) g) 16 (put-number false true h k)
+        (λ q. omega arith)
 
     pub lift-missing : holds ws g ≡ false → r ≡ refusedAs 12 d → LiftSays d g r
     lift-missing h =
@@ -162,13 +176,14 @@ module _ (d : DD.Desk) (g : ℕ) (made : IsMade d) (r : DM.Moved) where
     pub put-made
         : (s : DS.Sitting) (v : DV.Moves)
         → holds ws g ≡ false
+        → isIn g (deskIn d .nest-is .barred) ≡ false
         → Kept.PutSays (nestIn (d .nest)) g (d .sitting) s
         → PushSays (d .moves) (putAt g) v
         → r ≡ movedTo d s v
         → PutSays d g r
-    put-made s v h p q =
+    put-made s v h k p q =
         let after = moved (sittingGame (nestIn (d .nest))) (playOn (deskIn d)) (putAt g) in
-        made-with d made r (putFault (deskIn d) g) after s v (put-number false h) (p .barriers-are) (p .kept)
+        made-with d made r (putFault (deskIn d) g) after s v (put-number false false h k) (p .barriers-are) (p .kept)
         (q .moves-are) (q .ring)
 
     pub lift-made

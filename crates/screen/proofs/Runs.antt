@@ -3,6 +3,7 @@
 -- Main statements: `taken-back`, `none-refused`, `sixty-fifth`, `latest-kept`, `latest-in-order`, `cleared`.
 use mathlib.Core.Path.{_≡_, refl, sym, _∙_, ap, subst}
 use mathlib.Core.Bool.{Bool, true, false}
+use mathlib.Core.Logic.{_⊎_, inl, inr}
 use mathlib.Core.List.{List, [], _∷_, _++_}
 use Prim.Native.Nat.{ℕ, zero, suc, _-_, _≤_, _<_}
 use native.Mathlib.Omega.{arith}
@@ -25,7 +26,7 @@ use Rattle.desk.specs.declared.Desk as DD
 use Rattle.desk.specs.declared.Reply as DR
 use Rattle.desk.specs.Desks.{Desk, playOn, withPlay, deskIn, IsMade}
 use Rattle.desk.specs.Says.{Holds, PlanSays}
-use Rattle.desk.proofs.Made.{loaded-holds, refused-keeps, plan-makes, plan-keeps, made-plan}
+use Rattle.desk.proofs.Made.{loaded-holds, refused-keeps, PlanMade, plan-either, made-plan}
 use Rattle.screen.specs.declared.Moved as DM
 use Rattle.screen.specs.Says.{putFault, liftFault, backFault, PutSays, LiftSays, BackSays}
 use Rattle.screen.specs.Runs.{Unmoved, Run, Backs, NoMove}
@@ -52,18 +53,17 @@ stays-same d e m z =
     }
 
 plan-stays : (d : DD.Desk) (r : DR.Reply) → IsMade d → PlanSays d r → Stays d (r .desk)
-plan-stays d r m h = go (d .loaded) refl
+plan-stays d r m h = go (plan-either d r h)
   where
-    go : (t : Bool) → d .loaded ≡ t → Stays d (r .desk)
-    go true a =
-        let p = plan-makes d r a h in
+    go : PlanMade d (r .desk) ⊎ (r .desk ≡ d) → Stays d (r .desk)
+    go (inl p) =
         record {
           made = made-plan d r m h;
-          has-nest = ap (λ (x : Desk). x .hasNest) (p .holds);
-          nest-is = ap (λ (x : Desk). x .nest-is) (p .holds);
+          has-nest = ap (λ (x : Desk). x .hasNest) (p .holds .holds);
+          nest-is = ap (λ (x : Desk). x .nest-is) (p .holds .holds);
           play-is = rw (h .sitting-is, h .moves-are);
         }
-    go false a = stays-same d (r .desk) m (plan-keeps d r a h)
+    go (inr e) = stays-same d (r .desk) m e
 
 unmoved-stays : (d e : DD.Desk) → IsMade d → Unmoved d e → Stays d e
 unmoved-stays d e m (Unmoved.planned r h) = plan-stays d r m h
@@ -124,7 +124,7 @@ module _ (d : DD.Desk) (k : ℕ) (ms : List DG.Move) (e : DD.Desk) (i : Along d 
       along-to (most k (suc (length ms))) (putAt g ∷ ms) p (made-put e g r (i .made) h)
       (move-makes (putFault (deskIn e) g) p e r h w)
       (standing-moved (gameOn d) (playIn d) k ms (playIn e) (putAt g) (i .standing)
-      (fits-along (putAt g) (put-fits (deskIn e) g (i .made .kept .gaps-fit) w)))
+      (fits-along (putAt g) (put-fits (deskIn e) g (i .made .kept .gaps-fit) (i .made .paper .avoiding) w)))
 
   along-lift : (g : ℕ) → LiftSays e g r → r .number ≡ 0 → Along d (most k (suc (length ms))) (liftAt g ∷ ms) (r .desk)
   along-lift g h z =
@@ -133,7 +133,7 @@ module _ (d : DD.Desk) (k : ℕ) (ms : List DG.Move) (e : DD.Desk) (i : Along d 
       along-to (most k (suc (length ms))) (liftAt g ∷ ms) p (made-lift e g r (i .made) h)
       (move-makes (liftFault (deskIn e) g) p e r h w)
       (standing-moved (gameOn d) (playIn d) k ms (playIn e) (liftAt g) (i .standing)
-      (fits-along (liftAt g) (lift-fits (deskIn e) g (i .made .kept .gaps-fit) w)))
+      (fits-along (liftAt g) (lift-fits (deskIn e) g (i .made .kept .gaps-fit) (i .made .paper .avoiding) w)))
 
 along-back
     : (d : DD.Desk) (k : ℕ) (ms : List DG.Move) (m : DG.Move) (e : DD.Desk) (r : DM.Moved)

@@ -1,12 +1,13 @@
 -- What the calls at the screen promise: reply and desk after.
 -- Main definitions: `putFault`, `liftFault`, `backFault`, `MoveSays`, `PutSays`, `LiftSays`, `BackSays`.
 use mathlib.Core.Path.{_≡_}
-use mathlib.Core.Bool.{Bool, false, _&&_, not}
+use mathlib.Core.Bool.{false, not}
 use Prim.Native.Nat.{ℕ}
-use lib.Dec.{eqb, ltb}
+use lib.Dec.{eqb}
 use lib.ListN.{length}
 use Rattle.laws.specs.Choice.{pick, pickT, when, firstOf, isIn}
 use Rattle.nests.specs.Nests.{Nest}
+use Rattle.nests.specs.Gaps.{isGap}
 use Rattle.sitting.specs.Counts.{uncutCount}
 use Rattle.sitting.specs.Kept.{barriers, Kept}
 use Rattle.sitting.specs.declared.Sitting as DS
@@ -19,17 +20,15 @@ use Rattle.desk.specs.Desks.{Desk, playOn, withPlay, deskIn, stateFault}
 use Rattle.desk.specs.Says.{Holds}
 use Rattle.screen.specs.declared.Moved as DM
 
--- 01, "The nest and its gaps": gaps 1 to n - 1
-abbrev pub isGap : Nest → ℕ → Bool
-isGap n g = ltb 0 g && ltb g (length (n .points))
-
 -- 02, job 4: 10, no nest; 8, a gap out of range
 abbrev pub gapFault : Desk → ℕ → ℕ
-gapFault x g = firstOf (stateFault false x) (when (not (isGap (x .nest-is) g)) 8)
+gapFault x g = firstOf (stateFault false x) (when (not (isGap (x .nest-is .points) g)) 8)
 
--- 02, job 4: 12, Put of a gap that is there or Lift of one that isn't, after 10 and 8
+-- 02, job 4: 12, Put of a gap that is there or Lift of one that isn't, after 10 and 8; 02, job 7: 16, Put of a barred
+-- gap, after 12
 abbrev pub putFault : Desk → ℕ → ℕ
-putFault x g = firstOf (gapFault x g) (when (isIn g (x .sitting)) 12)
+putFault x g =
+    firstOf (gapFault x g) (firstOf (when (isIn g (x .sitting)) 12) (when (isIn g (x .nest-is .barred)) 16))
 
 abbrev pub liftFault : Desk → ℕ → ℕ
 liftFault x g = firstOf (gapFault x g) (when (not (isIn g (x .sitting))) 12)

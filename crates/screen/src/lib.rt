@@ -25,7 +25,7 @@ pub struct Moved {
     pub desk: Desk,
 }
 
-// Puts a barrier at a gap of the sitting. Numbers 10, 8, 12.
+// Puts a barrier at a gap of the sitting. Numbers 10, 8, 12, 16.
 pub fn put_gap(desk: Desk, gap: usize) -> Moved
     requires { ⌜ IsMade desk ⌝ }
     ensures { λ r. ⌜ PutSays desk gap r ⌝ }
@@ -37,6 +37,10 @@ pub fn put_gap(desk: Desk, gap: usize) -> Moved
     let before = desk.sitting;
     if before.placement.holds(gap) {
         return refused(12, desk);
+    }
+    let barred = barred::barred_of(desk.nest);
+    if barred.holds(gap) {
+        return refused(16, desk);
     }
     let after = sitting::put(desk.nest, before, gap);
     accepted(desk, after, with_move(desk.moves, gap, true))

@@ -14,8 +14,9 @@ use Rattle.laws.specs.Bits.{one}
 use Rattle.laws.proofs.Tests.{and-intro, and-true}
 use Rattle.nests.specs.Nests.{Dep, Nest}
 use Rattle.nests.specs.Gaps.{hasGap}
-use Rattle.placements.specs.Placements.{cuts, uncutFrom, uncut, areGaps, isCorrect}
+use Rattle.placements.specs.Placements.{cuts, uncutFrom, areGaps, avoids, isCorrect}
 use Rattle.placements.specs.GapLists.{withGap}
+use Rattle.placements.proofs.Cuts.{uncut-none, correct-by, correct-uncut}
 use Rattle.sitting.specs.Counts.{cutCount, countAt, hasGapAt, uncutCount}
 
 -- ---- of one dependence
@@ -145,14 +146,15 @@ module _ (ps : List ℕ) where
       go true q rest = omega (arith, rest q)
       go false q rest = absurd (omega arith)
 
--- none uncut is correct
+-- none uncut and no barred gap is correct
 pub correct-by-count
-    : (n : Nest) (gs : List ℕ) → areGaps n gs ≡ true → uncutCount (n .points) (n .deps) gs ≡ 0 → isCorrect n gs ≡ true
-correct-by-count n gs h z =
-    and-intro h (eq-eqb (uncut n gs) 0 (none-first (n .points) 0 (n .deps) gs z))
+    : (n : Nest) (gs : List ℕ)
+    → areGaps n gs ≡ true
+    → avoids (n .barred) gs ≡ true
+    → uncutCount (n .points) (n .deps) gs ≡ 0
+    → isCorrect n gs ≡ true
+correct-by-count n gs h v z = correct-by n gs h v (uncut-none n gs (none-first (n .points) 0 (n .deps) gs z))
 
 pub count-of-correct
     : (n : Nest) (gs : List ℕ) → isCorrect n gs ≡ true → uncutCount (n .points) (n .deps) gs ≡ 0
-count-of-correct n gs h =
-    first-none (n .points) 0 (n .deps) gs
-    (eqb-true (uncut n gs) 0 (and-true (areGaps n gs) (eqb (uncut n gs) 0) h .1))
+count-of-correct n gs h = first-none (n .points) 0 (n .deps) gs (correct-uncut n gs h)

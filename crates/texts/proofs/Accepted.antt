@@ -1,8 +1,8 @@
 -- A nest text is accepted if and only if it breaks no rule: it is accepted with a nest exactly where it is empty and
 -- the nest is the blank paper, or it is the text of ordered pieces that make the nest, and the nest is valid. While
--- lines are read without a fault, the nest so far has points that begin a shape, and valid dependences only after all
--- points.
--- Main statements: `accepted-spelling`, `one-list`, `accepted-valid`; of the one spelling of a nest
+-- lines are read without a fault, the nest so far has points that begin a shape, and valid dependences and barred gaps
+-- only after all points.
+-- Main statements: `accepted-spelling`, `one-list`, `accepted-valid`; of the one spelling of a nest with nothing barred
 -- `accepted-nest-text`, `accepted-text`, `one-nest`, `one-spelling`.
 use mathlib.Core.Path.{_≡_, refl, sym, ap, _∙_}
 use mathlib.Core.Bool.{Bool, true, false, _&&_, _||_, not}
@@ -14,26 +14,29 @@ use lib.Dec.{eqb, leb}
 use lib.ListN.{length, length-append}
 use borrow.Author.Tests.{leb-false, le-leb, eqb-true, eqb-false, eq-eqb, not-false}
 use Rattle.laws.specs.Choice.{pick, when, firstOf}
-use Rattle.laws.proofs.Tests.{never-both, lt-by, and-intro, and-true, or-false}
+use Rattle.laws.proofs.Tests.{never-both, lt-by, and-intro, and-true, or-false, or-left, or-right}
 use Rattle.laws.proofs.Choices.{first-zero, when-zero, unless-zero}
-use Rattle.nests.specs.Kinds.{DO, POINTS, DEPTH, DEPENDENCES}
-use Rattle.nests.specs.Nests.{Dep, Nest, empty, withPoint, withDep}
+use Rattle.nests.specs.Kinds.{DO, POINTS, DEPTH, DEPENDENCES, BARS}
+use Rattle.nests.specs.Nests.{Dep, Nest, empty, withPoint, withDep, withBar}
 use Rattle.nests.specs.Loops.{depth, isClosed}
-use Rattle.nests.specs.Valid.{isOfKind, namesPoints, runsRight, isDep, areDeps, isValid, depFault}
+use Rattle.nests.specs.Gaps.{isGap}
+use Rattle.nests.specs.Ring.{oneLoop}
+use Rattle.nests.specs.Valid.{isOfKind, namesPoints, runsRight, isDep, areDeps, isBar, areBars, isValid}
+use Rattle.nests.specs.Valid.{depFault, barFault}
 use Rattle.nests.proofs.Deps.{Valid, is-valid}
 use Rattle.lines.specs.Lines.{Line, linesOf, isGood, frameOf}
 use Rattle.lines.proofs.Spelling.{linesText, lines-text, good-bytes}
-use Rattle.texts.specs.Pieces.{Piece, Point, Depend, Told, isPoint, pieceOf, pieceFrame, isPast, pointFault}
-use Rattle.texts.specs.Pieces.{dependenceFault, pieceFault, toldFault, withPiece, withTold}
+use Rattle.texts.specs.Pieces.{Piece, Point, Depend, Bar, Told, isPoint, pieceOf, pieceFrame, isPast}
+use Rattle.texts.specs.Pieces.{pointFault, dependenceFault, barredFault, pieceFault, toldFault, withPiece, withTold}
 use Rattle.texts.specs.Pieces.{piecesText, madeFrom, madeOf}
 use Rattle.texts.specs.NestTexts.{frameFault, withFrame, lineFault, Got, got, readLines, blank, readNest}
-use Rattle.texts.specs.NestTexts.{Spells, Means, pointPieces, depPieces, piecesOf, nestText}
+use Rattle.texts.specs.NestTexts.{Spells, Means, pointPieces, depPieces, barPieces, piecesOf, nestText}
 use Rattle.texts.proofs.BlankPaper.{blank-read}
 use Rattle.texts.proofs.Shapes.{Begins, begins-none, begins-first, begins-more, begins-closed}
 use Rattle.texts.proofs.Pieces.{isPiece, arePieces, told-by, one-pieces}
 use Rattle.texts.proofs.Refusals.{accepted-got}
-use Rattle.texts.proofs.Spelled.{InOrder, point-early, order-rest, start-order, pieces-good, spells-read}
-use Rattle.texts.proofs.Spelled.{valid-accepted}
+use Rattle.texts.proofs.Spelled.{grown, InOrder, point-early, order-rest, start-order, pieces-good}
+use Rattle.texts.proofs.Spelled.{spells-read, valid-accepted}
 
 -- ---- what is accepted spells a valid nest
 
@@ -43,9 +46,19 @@ pub record Begun (n : Nest) : Type 0 where
   pub few : length (n .points) ≤ POINTS
   pub many : length (n .deps) ≤ DEPENDENCES
   pub deps : areDeps (n .points) (n .deps) ≡ true
+  pub few-bars : length (n .barred) ≤ BARS
+  pub bars : areBars (n .points) (n .barred) ≡ true
 
 pub begun-empty : Begun empty
-begun-empty = record { shape = begins-none; few = omega arith; many = omega arith; deps = refl }
+begun-empty =
+    record {
+      shape = begins-none;
+      few = omega arith;
+      many = omega arith;
+      deps = refl;
+      few-bars = omega arith;
+      bars = refl;
+    }
 
 -- a point without a fault goes on with a shape
 point-begins
@@ -76,6 +89,10 @@ no-deps : (ps : List ℕ) (ds : List Dep) → leb 1 (length ds) ≡ false → ar
 no-deps ps [] h = refl
 no-deps ps (e ∷ ds) h = absurd (omega (arith, leb-false 1 (suc (length ds)) h))
 
+no-bars : (ps bs : List ℕ) → leb 1 (length bs) ≡ false → areBars ps bs ≡ true
+no-bars ps [] h = refl
+no-bars ps (b ∷ bs) h = absurd (omega (arith, leb-false 1 (suc (length bs)) h))
+
 point-begun : (n : Nest) (p : ℕ) → isPoint p ≡ true → Begun n → pointFault n p ≡ 0 → Begun (withPoint n p)
 point-begun n p point b h =
     let ps = n .points in
@@ -90,11 +107,14 @@ point-begun n p point b h =
     let y = or-false full deep (when-zero (full || deep) 4 (a .1)) in
     let room = leb-false POINTS (length ps) (y .0) in
     let long = length-append ps (p ∷ []) in
+    let none = or-false (leb 1 (length (n .deps))) (leb 1 (length (n .barred))) (when-zero (isPast n) 2 (z .0)) in
     record {
       shape = point-begins ps p (x .0) (x .1) (y .1) (b .shape) point;
       few = omega arith;
       many = b .many;
-      deps = no-deps (ps ++ (p ∷ [])) (n .deps) (when-zero (isPast n) 2 (z .0));
+      deps = no-deps (ps ++ (p ∷ [])) (n .deps) (none .0);
+      few-bars = b .few-bars;
+      bars = no-bars (ps ++ (p ∷ [])) (n .barred) (none .1);
     }
 
 deps-more
@@ -124,17 +144,56 @@ dep-begun n e kind b h =
       few = b .few;
       many = omega arith;
       deps = deps-more ps ds e (b .deps) (and-intro kind (and-intro names right));
+      few-bars = b .few-bars;
+      bars = b .bars;
+    }
+
+bars-more
+    : (ps bs : List ℕ) (g : ℕ)
+    → areBars ps bs ≡ true
+    → isBar ps g ≡ true
+    → areBars ps (bs ++ (g ∷ [])) ≡ true
+bars-more ps [] g h w = and-intro w refl
+bars-more ps (b ∷ bs) g h w =
+    let z = and-true (isBar ps b) (areBars ps bs) h in
+    and-intro (z .0) (bars-more ps bs g (z .1) w)
+
+bar-begun : (n : Nest) (g : ℕ) → Begun n → barredFault n g ≡ 0 → Begun (withBar n g)
+bar-begun n g b h =
+    let ps = n .points in
+    let bs = n .barred in
+    let full = when (leb BARS (length bs)) 5 in
+    let a = first-zero (when (not (isClosed ps)) 4) (firstOf full (barFault ps g)) h in
+    let x = first-zero full (barFault ps g) (a .1) in
+    let y = first-zero (when (not (isGap ps g)) 8) (when (not (oneLoop ps)) 14) (x .1) in
+    let room = leb-false BARS (length bs) (when-zero (leb BARS (length bs)) 4 (x .0)) in
+    let gap = unless-zero (isGap ps g) 7 (y .0) in
+    let one = unless-zero (oneLoop ps) 13 (y .1) in
+    let long = length-append bs (g ∷ []) in
+    record {
+      shape = b .shape;
+      few = b .few;
+      many = b .many;
+      deps = b .deps;
+      few-bars = omega arith;
+      bars = bars-more ps bs g (b .bars) (and-intro gap one);
     }
 
 piece-begun : (n : Nest) (x : Piece) → isPiece x ≡ true → Begun n → pieceFault n x ≡ 0 → Begun (withPiece n x)
 piece-begun n (Point k) g b h = point-begun n k g b h
 piece-begun n (Depend e) g b h = dep-begun n e g b h
+piece-begun n (Bar i) g b h = bar-begun n i b h
 
 -- a piece without a fault goes to the front of those that are in order behind it
 dep-past : (n : Nest) (e : Dep) → isPast (withDep n e) ≡ true
 dep-past n e =
     let long = length-append (n .deps) (e ∷ []) in
-    le-leb 1 (length (n .deps ++ (e ∷ []))) (omega arith)
+    or-left (leb 1 (length (n .barred))) (le-leb 1 (length (n .deps ++ (e ∷ []))) (omega arith))
+
+bar-past : (n : Nest) (g : ℕ) → isPast (withBar n g) ≡ true
+bar-past n g =
+    let long = length-append (n .barred) (g ∷ []) in
+    or-right (leb 1 (length (n .deps))) (le-leb 1 (length (n .barred ++ (g ∷ []))) (omega arith))
 
 point-late : (n : Nest) (p : ℕ) → pointFault n p ≡ 0 → isPast n ≡ true → ⊥
 point-late n p h z =
@@ -146,6 +205,9 @@ front-order
 front-order n (Point k) xs h o = record { ordered = o .ordered; late = λ z. absurd (point-late n k h z) }
 front-order n (Depend e) xs h o =
     let rest = o .late (dep-past n e) in
+    record { ordered = and-intro rest (o .ordered); late = λ z. rest }
+front-order n (Bar g) xs h o =
+    let rest = o .late (bar-past n g) in
     record { ordered = and-intro rest (o .ordered); late = λ z. rest }
 
 -- the pieces of the lines after a nest partly read
@@ -201,7 +263,14 @@ lines-accepted k n [] m b h = go (isClosed (n .points)) refl h
         let same : n ≡ m = ap (λ (g : Got). g .nest-is) q in
         let shape = begins-closed (n .points) (b .shape) e in
         let valid : Valid n =
-        record { shape = shape; few-points = b .few; few-deps = b .many; all-deps = b .deps } in
+        record {
+          shape = shape;
+          few-points = b .few;
+          few-deps = b .many;
+          all-deps = b .deps;
+          few-bars = b .few-bars;
+          all-bars = b .bars;
+        } in
         record {
           pieces = [];
           order = record { ordered = refl; late = λ z. refl };
@@ -268,7 +337,7 @@ accepted-valid s h = go (readNest s .nest-is) (accepted-means s h)
     go n (inl e) = rw (e .1)
     go n (inr e) = e .valid
 
--- ---- the spelling of a nest
+-- ---- the spelling of a nest with nothing barred
 
 -- pieces in order are those of the nest that they make, behind those of the nest before
 point-pieces-more
@@ -287,57 +356,101 @@ unfolding depPieces
 no-dep-pieces [] h = refl
 no-dep-pieces (e ∷ ds) h = absurd (omega (arith, leb-false 1 (suc (length ds)) h))
 
+-- nothing was barred before where nothing is barred behind
+none-before : (n : Nest) (xs : List Piece) → madeFrom n xs .barred ≡ [] → n .barred ≡ []
+none-before n xs h =
+    let g = grown n xs in
+    front-none (n .barred) (g .more-bars) (sym (g .bars-are) ∙ h)
+  where
+    front-none : (bs cs : List ℕ) → bs ++ cs ≡ [] → bs ≡ []
+    front-none [] cs e = refl
+    front-none (b ∷ bs) cs e = let z : _≡_ {A = ℕ} 0 1 = cc e in absurd (omega arith)
+
+some-barred : (n : Nest) (g : ℕ) → withBar n g .barred ≡ [] → ⊥
+some-barred n g h = omega (arith, ap length h, length-append (n .barred) (g ∷ []))
+
+module _ (n : Nest) (none : n .barred ≡ []) where
+  no-bar-pieces : barPieces (n .barred) ≡ []
+  unfolding barPieces
+  no-bar-pieces = ap barPieces none
+
+  -- so its pieces are points and dependences
+  two-kinds : piecesOf n ≡ pointPieces (n .points) ++ depPieces (n .deps)
+  two-kinds = rw (no-bar-pieces, append-nil (depPieces (n .deps)))
+
 piece-more
-    : (n : Nest) (x : Piece) (xs : List Piece) → InOrder n (x ∷ xs) → piecesOf (withPiece n x) ≡ piecesOf n ++ (x ∷ [])
-piece-more n (Point k) xs o =
-    let none = no-dep-pieces (n .deps) (point-early n k xs o) in
+    : (n : Nest) (x : Piece) (xs : List Piece)
+    → InOrder n (x ∷ xs)
+    → withPiece n x .barred ≡ []
+    → n .barred ≡ []
+    → piecesOf (withPiece n x) ≡ piecesOf n ++ (x ∷ [])
+piece-more n (Point k) xs o after before =
+    let none = no-dep-pieces (n .deps) (or-false (leb 1 (length (n .deps))) (leb 1 (length (n .barred)))
+    (point-early n k xs o) .0) in
+    two-kinds (withPoint n k) before ∙
     rw (
+      two-kinds n before,
       none,
       point-pieces-more (n .points) k,
       append-nil (pointPieces (n .points)),
       append-nil (pointPieces (n .points) ++ (Point k ∷ [])),
     )
-piece-more n (Depend e) xs o =
+piece-more n (Depend e) xs o after before =
     let same = append-assoc (pointPieces (n .points)) (depPieces (n .deps)) (Depend e ∷ []) in
-    rw (dep-pieces-more (n .deps) e) (sym same)
+    two-kinds (withDep n e) before ∙ rw (two-kinds n before, dep-pieces-more (n .deps) e) (sym same)
+piece-more n (Bar g) xs o after before = absurd (some-barred n g after)
 
-ordered-made : (n : Nest) (xs : List Piece) → InOrder n xs → piecesOf (madeFrom n xs) ≡ piecesOf n ++ xs
-ordered-made n [] o = sym (append-nil (piecesOf n))
-ordered-made n (x ∷ xs) o =
-    ordered-made (withPiece n x) xs (order-rest n x xs o)
-    ∙ rw (piece-more n x xs o) (append-assoc (piecesOf n) (x ∷ []) xs)
+ordered-made
+    : (n : Nest) (xs : List Piece)
+    → InOrder n xs
+    → madeFrom n xs .barred ≡ []
+    → piecesOf (madeFrom n xs) ≡ piecesOf n ++ xs
+ordered-made n [] o none = sym (append-nil (piecesOf n))
+ordered-made n (x ∷ xs) o none =
+    let after = none-before (withPiece n x) xs none in
+    let before = none-before n (x ∷ xs) none in
+    ordered-made (withPiece n x) xs (order-rest n x xs o) none
+    ∙ rw (piece-more n x xs o after before) (append-assoc (piecesOf n) (x ∷ []) xs)
 
-spells-text : (s : List ℕ) (n : Nest) → Spells s n → s ≡ nestText n
-unfolding nestText pointPieces depPieces
-spells-text s n h =
+spells-text : (s : List ℕ) (n : Nest) → n .barred ≡ [] → Spells s n → s ≡ nestText n
+unfolding nestText pointPieces depPieces barPieces
+spells-text s n none h =
+    let plain : madeOf (h .pieces) .barred ≡ [] = ap (λ (m : Nest). m .barred) (sym (h .nest-is)) ∙ none in
     let same : piecesOf (madeOf (h .pieces)) ≡ h .pieces =
-    ordered-made empty (h .pieces) (start-order (h .pieces) (h .ordered)) in
+    ordered-made empty (h .pieces) (start-order (h .pieces) (h .ordered)) plain in
     h .text ∙ ap piecesText (sym same) ∙ ap (λ (m : Nest). piecesText (piecesOf m)) (sym (h .nest-is))
 
--- so a text is accepted with a nest exactly where it is empty and the nest is 01, 02, or the nest is valid and the text
--- is its spelling
+-- so a text is accepted with a nest that has nothing barred exactly where it is empty and the nest is 01, 02, or the
+-- nest is valid and the text is its spelling
 pub accepted-nest-text
     : (s : List ℕ) (n : Nest)
+    → n .barred ≡ []
     → (readNest s ≡ got 0 0 n) ↔ (((s ≡ []) × (n ≡ blank)) ⊎ ((isValid n ≡ true) × (s ≡ nestText n)))
-accepted-nest-text s n = (λ h. to (text-accepted s n h), from)
+accepted-nest-text s n none = (λ h. to (text-accepted s n h), from)
   where
     to : Means s n → ((s ≡ []) × (n ≡ blank)) ⊎ ((isValid n ≡ true) × (s ≡ nestText n))
     to (inl e) = inl e
-    to (inr h) = inr (h .valid, spells-text s n h)
+    to (inr h) = inr (h .valid, spells-text s n none h)
 
     from : ((s ≡ []) × (n ≡ blank)) ⊎ ((isValid n ≡ true) × (s ≡ nestText n)) → readNest s ≡ got 0 0 n
     from (inl e) = meaning-accepted s n (inl e)
     from (inr h) = rw (h .1) (valid-accepted n (h .0))
 
 -- a text that is accepted and not empty is the spelling of its nest
-pub accepted-text : (s : List ℕ) → 0 < length s → readNest s .number ≡ 0 → s ≡ nestText (readNest s .nest-is)
-accepted-text s some h = go (accepted-means s h)
+pub accepted-text
+    : (s : List ℕ)
+    → 0 < length s
+    → readNest s .number ≡ 0
+    → readNest s .nest-is .barred ≡ []
+    → s ≡ nestText (readNest s .nest-is)
+accepted-text s some h none = go (accepted-means s h)
   where
     go : Means s (readNest s .nest-is) → s ≡ nestText (readNest s .nest-is)
     go (inl e) = absurd (omega (arith, ap length (e .0)))
-    go (inr e) = spells-text s (readNest s .nest-is) e
+    go (inr e) = spells-text s (readNest s .nest-is) none e
 
--- a valid nest has one spelling, and no other nest has it; of texts that are not empty no two give the same nest
+-- a valid nest is the only one with its spelling; of texts that are not empty no two give the same nest with nothing
+-- barred
 pub one-nest : (n m : Nest) → isValid n ≡ true → isValid m ≡ true → nestText n ≡ nestText m → n ≡ m
 one-nest n m v w h =
     let same : got 0 0 n ≡ got 0 0 m = sym (valid-accepted n v) ∙ ap readNest h ∙ valid-accepted m w in
@@ -350,5 +463,8 @@ pub one-spelling
     → readNest s .number ≡ 0
     → readNest t .number ≡ 0
     → readNest s .nest-is ≡ readNest t .nest-is
+    → readNest s .nest-is .barred ≡ []
     → s ≡ t
-one-spelling s t x y a b h = accepted-text s x a ∙ ap nestText h ∙ sym (accepted-text t y b)
+one-spelling s t x y a b h none =
+    let plain : readNest t .nest-is .barred ≡ [] = ap (λ (n : Nest). n .barred) (sym h) ∙ none in
+    accepted-text s x a none ∙ ap nestText h ∙ sym (accepted-text t y b plain)

@@ -1,7 +1,8 @@
--- Refusals of points, dependences and frames, from the numbers that the reader keeps.
--- Main statements: `point-is`, `dependence-open`, `dependence-full`, `dependence-own`.
+-- Refusals of points, dependences, barred gaps and frames, from the numbers that the reader keeps.
+-- Main statements: `point-is`, `dependence-open`, `dependence-full`, `dependence-own`, `barred-open`, `barred-full`,
+-- `barred-own`.
 use mathlib.Core.Path.{_≡_, sym, _∙_}
-use mathlib.Core.Bool.{Bool, true, false, not}
+use mathlib.Core.Bool.{Bool, true, false, _||_, not}
 use Prim.Native.Nat.{ℕ, _≤_, _<_}
 use native.Mathlib.Omega.{arith}
 use lib.Dec.{eqb, leb}
@@ -9,10 +10,10 @@ use borrow.Author.Tests.{le-leb, lt-leb, eq-eqb, ne-eqb, eqb-true}
 use Rattle.laws.specs.Choice.{when, firstOf}
 use Rattle.laws.proofs.Tests.{and-true}
 use Rattle.laws.proofs.Connectives.{or-off}
-use Rattle.nests.specs.Kinds.{DO, POINTS, DEPTH, DEPENDENCES}
+use Rattle.nests.specs.Kinds.{DO, POINTS, DEPTH, DEPENDENCES, BARS}
 use Rattle.nests.specs.Nests.{Dep, Nest}
-use Rattle.nests.specs.Valid.{depFault}
-use Rattle.texts.specs.Pieces.{pointFault, dependenceFault}
+use Rattle.nests.specs.Valid.{depFault, barFault}
+use Rattle.texts.specs.Pieces.{pointFault, dependenceFault, barredFault}
 use Rattle.texts.specs.Reads.{HasNumbers, closedBy, misplacedBy, tooManyBy}
 
 -- a line that is not good, and one that is
@@ -51,7 +52,7 @@ too-deep count deep kind h e = rw (lt-leb POINTS count h, eq-eqb kind DO e)
 pub not-too-many : (count deep kind : ℕ) → count < POINTS → (kind ≡ DO → ⊥) → false ≡ tooManyBy count deep kind
 not-too-many count deep kind h e = rw (lt-leb POINTS count h, ne-eqb kind DO e)
 
--- the order of a dependence's refusals
+-- the order of the refusals of a dependence or a barred gap
 when-open : (g m : Bool) (x : ℕ) → g ≡ false → 4 ≡ firstOf (when (not g) 4) (firstOf (when m 5) x)
 when-open g m x h = rw h
 
@@ -62,14 +63,14 @@ when-room : (g m : Bool) (x : ℕ) → g ≡ true → m ≡ false → x ≡ firs
 when-room g m x h e = rw (h, e)
 
 -- refusals by the numbers
-module _ (n : Nest) (count many deep : ℕ) (h : HasNumbers n count many deep) where
+module _ (n : Nest) (count many bars deep : ℕ) (h : HasNumbers n count many bars deep) where
   pub point-is
       : (kind : ℕ)
       → pointFault n kind
       ≡ firstOf
-      (when (leb 1 many) 3)
+      (when (leb 1 many || leb 1 bars) 3)
       (firstOf (when (misplacedBy count deep kind) 4) (when (tooManyBy count deep kind) 5))
-  point-is kind = rw (h .count-is, h .many-is, h .depth-is)
+  point-is kind = rw (h .count-is, h .many-is, h .bars-is, h .depth-is)
 
   pub dependence-is
       : (e : Dep)
@@ -94,3 +95,23 @@ module _ (n : Nest) (count many deep : ℕ) (h : HasNumbers n count many deep) w
   dependence-own e z m =
       when-room (closedBy count deep) (leb DEPENDENCES many) (depFault (n .points) e) z (lt-leb DEPENDENCES many m)
       ∙ sym (dependence-is e)
+
+  pub barred-is
+      : (g : ℕ)
+      → barredFault n g
+      ≡ firstOf (when (not (closedBy count deep)) 4) (firstOf (when (leb BARS bars) 5) (barFault (n .points) g))
+  barred-is g = rw (h .count-is, h .bars-is, h .depth-is)
+
+  pub barred-open : (g : ℕ) → closedBy count deep ≡ false → 4 ≡ barredFault n g
+  barred-open g z = when-open (closedBy count deep) (leb BARS bars) (barFault (n .points) g) z ∙ sym (barred-is g)
+
+  pub barred-full : (g : ℕ) → closedBy count deep ≡ true → BARS ≤ bars → 5 ≡ barredFault n g
+  barred-full g z m =
+      when-full (closedBy count deep) (leb BARS bars) (barFault (n .points) g) z (le-leb BARS bars m)
+      ∙ sym (barred-is g)
+
+  pub barred-own
+      : (g : ℕ) → closedBy count deep ≡ true → bars < BARS → barFault (n .points) g ≡ barredFault n g
+  barred-own g z m =
+      when-room (closedBy count deep) (leb BARS bars) (barFault (n .points) g) z (lt-leb BARS bars m)
+      ∙ sym (barred-is g)

@@ -1,6 +1,7 @@
 -- Nest texts read line by line: what a turn of the reader keeps, and one law for each way through a turn.
 -- Main statements: `at-blank`, `begun`, `at-end`, `at-refusal`; of a turn that comes to a frame (`Turn`)
--- `at-unknown`, `at-point`, `at-dependence`, `room-for-point`, `room-for-dependence`, `on-point`, `on-dependence`.
+-- `at-unknown`, `at-point`, `at-dependence`, `at-barred`, `room-for-point`, `room-for-dependence`, `room-for-bar`,
+-- `on-point`, `on-dependence`, `on-bar`.
 use mathlib.Core.Path.{_≡_, refl, sym, _∙_, ap}
 use mathlib.Core.Bool.{Bool, true, false, _&&_, not}
 use mathlib.Core.List.{List, [], _∷_}
@@ -13,10 +14,11 @@ use borrow.Author.Tests.{leb-false, ne-eqb}
 use Rattle.laws.specs.Choice.{pick, when, firstOf}
 use Rattle.laws.proofs.Tests.{or-false, never}
 use Rattle.laws.proofs.Choices.{first-zero, when-zero}
-use Rattle.nests.specs.Kinds.{DO, ENDDO, POINTS, DEPTH, DEPENDENCES}
-use Rattle.nests.specs.Nests.{Dep, Nest, nest, empty}
+use Rattle.nests.specs.Kinds.{DO, ENDDO, POINTS, DEPTH, DEPENDENCES, BARS}
+use Rattle.nests.specs.Nests.{Dep, Nest, empty}
 use Rattle.nests.specs.Loops.{deeper, depthFrom, depth, isClosed, HasEnds}
-use Rattle.nests.specs.Valid.{depFault}
+use Rattle.nests.specs.Ring.{oneLoop}
+use Rattle.nests.specs.Valid.{depFault, barFault}
 use Rattle.nests.specs.Stored.{depIn, nestIn, IsCounted, IsEmpty}
 use Rattle.nests.specs.declared.Dependence.{Dependence}
 use Rattle.nests.specs.declared.Nest as DN
@@ -29,10 +31,11 @@ use Rattle.lines.proofs.Reading.{no-line, bad-line, good-line, Good-line}
 use Rattle.texts.specs.declared.Reading.{Reading}
 use Rattle.texts.specs.declared.Piece as DP
 use Rattle.texts.specs.declared.Piece.the-variants as PV
-use Rattle.texts.specs.Pieces.{Told, pieceOf, isPast, pointFault, dependenceFault, toldFault, withTold}
+use Rattle.texts.specs.Pieces.{Told, pieceOf, isPast, pointFault, dependenceFault, barredFault}
+use Rattle.texts.specs.Pieces.{toldFault, withTold}
 use Rattle.texts.specs.NestTexts.{frameFault, withFrame, lineFault, Got, got, readLines, readNest}
 use Rattle.texts.specs.Reads.{IsRead, RefusedAs, EndedAs, HasNumbers, closedBy, misplacedBy, tooManyBy}
-use Rattle.texts.specs.Reads.{KnowsEnds, toldIn, IsPiece, PointFault, DependenceFault}
+use Rattle.texts.specs.Reads.{KnowsEnds, KnowsOne, toldIn, IsPiece, PointFault, DependenceFault, BarredFault}
 use Rattle.texts.proofs.BlankPaper.{lines-read}
 use Rattle.texts.proofs.Shapes.{depth-more}
 use Rattle.texts.proofs.Faults.{bad-first, good-first}
@@ -77,6 +80,14 @@ dependence-room n e h =
     first-zero many (depFault (n .points) e) (first-zero open-is (firstOf many (depFault (n .points) e)) h .1) .0 in
     leb-false DEPENDENCES (length (n .deps)) (when-zero (leb DEPENDENCES (length (n .deps))) 4 none)
 
+bar-room : (n : Nest) (g : ℕ) → barredFault n g ≡ 0 → length (n .barred) < BARS
+bar-room n g h =
+    let open-is = when (not (isClosed (n .points))) 4 in
+    let many = when (leb BARS (length (n .barred))) 5 in
+    let none : many ≡ 0 =
+    first-zero many (barFault (n .points) g) (first-zero open-is (firstOf many (barFault (n .points) g)) h .1) .0 in
+    leb-false BARS (length (n .barred)) (when-zero (leb BARS (length (n .barred))) 4 none)
+
 -- the rest of the reading, by the first line
 read-none : (k : ℕ) (n : Nest) → readLines k n [] ≡ pick (isClosed (n .points)) (got 0 0 n) (got 4 k empty)
 unfolding readLines
@@ -96,14 +107,16 @@ module _ (k : ℕ) (n : Nest) (l : Line) (ls : List Line) where
   read-on : lineFault n l ≡ 0 → readLines k n (l ∷ ls) ≡ readLines (suc k) (withFrame n (frameOf (l .bytes))) ls
   read-on h = read-by 0 h
 
--- what a turn keeps: the nest so far, its depth and its ends, and that the rest of the lines decides as the whole text
--- does
-pub record Loading (s : List ℕ) (n : DN.Nest) (ends : List ℕ) (deep at line : ℕ) : Type 0 where
+-- what a turn keeps: the nest so far, its depth and its ends, whether it is one loop, and that the rest of the lines
+-- decides as the whole text does
+pub record Loading (s : List ℕ) (n : DN.Nest) (ends : List ℕ) (single : Bool) (deep at line : ℕ) : Type 0 where
   pub counted : IsCounted n
   pub wide : length (n .points) ≡ POINTS
   pub long : length (n .deps) ≡ DEPENDENCES
+  pub broad : length (n .barred) ≡ BARS
   pub deep-is : deep ≡ depth (nestIn n .points)
   pub knows : KnowsEnds (nestIn n .points) deep ends
+  pub knows-one : KnowsOne (nestIn n .points) deep single
   pub inside : at ≤ length s
   pub lines : line ≤ at + 1
   pub rest : readLines line (nestIn n) (linesOf (drop at s)) ≡ readNest s
@@ -125,18 +138,21 @@ pub begun
     → 0 < length s
     → IsEmpty n
     → length (n .points) ≡ POINTS
+    → length (n .barred) ≡ BARS
     → length ends ≡ POINTS
-    → Loading s n ends 0 0 1
-begun s n ends some e w l =
+    → Loading s n ends true 0 0 1
+begun s n ends some e w v l =
     record {
       counted = e .counted;
       wide = w;
       long = e .long;
+      broad = v;
       knows =
           record {
             long = l;
             has-ends = λ z. no-do (nestIn n .points) ends (ap (λ (x : Nest). x .points) (e .nest-is));
           };
+      knows-one = λ z. ap (λ (x : Nest). oneLoop (x .points)) (sym (e .nest-is));
       deep-is = ap (λ (x : Nest). depth (x .points)) (sym (e .nest-is));
       inside = omega arith;
       lines = omega arith;
@@ -144,15 +160,21 @@ begun s n ends some e w l =
     }
 
 module _
-    (s : List ℕ) (n : DN.Nest) (ends : List ℕ) (deep at line : ℕ) (p : Loading s n ends deep at line)
+    (s : List ℕ) (n : DN.Nest) (ends : List ℕ) (single : Bool) (deep at line : ℕ)
+    (p : Loading s n ends single deep at line)
   where
     abbrev ps : List ℕ
     ps = take (n .count) (n .points)
 
-    numbers : HasNumbers (nestIn n) (n .count) (n .many) deep
+    numbers : HasNumbers (nestIn n) (n .count) (n .many) (n .bars) deep
     numbers =
         let c = p .counted in
-        record { count-is = sym (c .count-is); many-is = sym (c .many-is); depth-is = sym (p .deep-is) }
+        record {
+          count-is = sym (c .count-is);
+          many-is = sym (c .many-is);
+          bars-is = sym (c .bars-is);
+          depth-is = sym (p .deep-is);
+        }
 
     -- the points that are counted are there
     pub count-inside : n .count ≤ length (n .points)
@@ -190,8 +212,9 @@ module _
         }
 
 -- a turn that comes to a frame: the nest so far, the frame of a good line, and the piece that it tells
-pub record Turn (s : List ℕ) (n : DN.Nest) (ends : List ℕ) (deep at line : ℕ) (f : Frame) (x : DP.Piece) : Type 0 where
-  pub so-far : Loading s n ends deep at line
+pub record Turn (s : List ℕ) (n : DN.Nest) (ends : List ℕ) (single : Bool) (deep at line : ℕ) (f : Frame)
+    (x : DP.Piece) : Type 0 where
+  pub so-far : Loading s n ends single deep at line
   pub frame-is : lineAt s at ≡ RV.Frame f
   pub piece-is : IsPiece f x
 
@@ -199,12 +222,13 @@ module _
     {s : List ℕ}
     {n : DN.Nest}
     {ends : List ℕ}
+    {single : Bool}
     {deep at line : ℕ}
     {f : Frame}
     {x : DP.Piece}
-    (turn : Turn s n ends deep at line f x)
+    (turn : Turn s n ends single deep at line f x)
   where
-    abbrev p : Loading s n ends deep at line
+    abbrev p : Loading s n ends single deep at line
     p = turn .so-far
 
     good : Good-line s at f
@@ -237,22 +261,26 @@ module _
 
     -- the nest with what the frame tells
     on
-        : (m : DN.Nest) (ends′ : List ℕ) (d : ℕ)
+        : (m : DN.Nest) (ends′ : List ℕ) (single′ : Bool) (d : ℕ)
         → toldFault (nestIn n) (toldIn x) ≡ 0
         → nestIn m ≡ withTold (nestIn n) (toldIn x)
         → IsCounted m
         → length (m .points) ≡ POINTS
         → length (m .deps) ≡ DEPENDENCES
+        → length (m .barred) ≡ BARS
         → d ≡ depth (nestIn m .points)
         → KnowsEnds (nestIn m .points) d ends′
-        → Loading s m ends′ d (f .next) (line + 1)
-    on m ends′ d z added c v l w t =
+        → KnowsOne (nestIn m .points) d single′
+        → Loading s m ends′ single′ d (f .next) (line + 1)
+    on m ends′ single′ d z added c v l b w t u =
         record {
           counted = c;
           wide = v;
           long = l;
+          broad = b;
           deep-is = w;
           knows = t;
+          knows-one = u;
           inside = good .inside;
           lines = omega (arith, p .lines, good .on);
           rest =
@@ -269,9 +297,9 @@ module _
     at-unknown r is = at-fault 2 r (rw is) (omega arith)
 
     -- a point, with its refusal e
-    module _ (k e : ℕ) (is : x ≡ PV.Point k) (fault : PointFault (n .count) (n .many) deep k e) where
+    module _ (k e : ℕ) (is : x ≡ PV.Point k) (fault : PointFault (n .count) (n .many) (n .bars) deep k e) where
       point-told : e ≡ toldFault (nestIn n) (toldIn x)
-      point-told = fault (nestIn n) (numbers s n ends deep at line p) ∙ rw is
+      point-told = fault (nestIn n) (numbers s n ends single deep at line p) ∙ rw is
 
       pub at-point : (r : Reading) → (e ≡ 0 → ⊥) → RefusedAs e line r → IsRead s r
       at-point r = at-fault e r point-told
@@ -282,27 +310,38 @@ module _
           omega (arith, p .counted .count-is, point-room (nestIn n) k (rw is at none))
 
       pub on-point
-          : (ends′ : List ℕ) (d : ℕ)
+          : (ends′ : List ℕ) (single′ : Bool) (d : ℕ)
           → e ≡ 0
           → d ≡ deeper deep k
           → KnowsEnds (take (n .count + 1) (set (n .points) (n .count) k)) d ends′
-          → Loading s (stored.with-point n (p .counted) k) ends′ d (f .next) (line + 1)
-      on-point ends′ d z w t =
+          → KnowsOne (take (n .count + 1) (set (n .points) (n .count) k)) d single′
+          → Loading s (stored.with-point n (p .counted) k) ends′ single′ d (f .next) (line + 1)
+      on-point ends′ single′ d z w t u =
           let q = stored.point-added n (p .counted) k (room-for-point z) (p .wide) in
           on
           (stored.with-point n (p .counted) k)
           ends′
+          single′
           d
           (sym point-told ∙ z)
           (q .nest-is ∙ ap (λ (y : DP.Piece). withTold (nestIn n) (toldIn y)) (sym is))
           (q .counted)
           (length-set (n .points) (n .count) k ∙ p .wide)
           (p .long)
+          (p .broad)
           (w
           ∙ ap (λ (y : ℕ). deeper y k) (p .deep-is)
           ∙ sym (depth-more (nestIn n .points) k)
           ∙ ap (λ (y : Nest). depth (y .points)) (sym (q .nest-is)))
           t
+          u
+
+    -- the count is that of the points themselves
+    of-points
+        : HasNumbers (nestIn n) (n .count) (n .many) (n .bars) deep
+        → HasNumbers (nestIn n) (length (nestIn n .points)) (n .many) (n .bars) deep
+    of-points h =
+        record { count-is = refl; many-is = h .many-is; bars-is = h .bars-is; depth-is = h .depth-is }
 
     -- a dependence, with its refusal e
     module _
@@ -313,8 +352,7 @@ module _
       where
         dependence-told : e ≡ toldFault (nestIn n) (toldIn x)
         dependence-told =
-            let h = numbers s n ends deep at line p in
-            fault (nestIn n) refl (record { count-is = refl; many-is = h .many-is; depth-is = h .depth-is }) ∙ rw is
+            fault (nestIn n) (n .bars) refl (of-points (numbers s n ends single deep at line p)) ∙ rw is
 
         pub at-dependence : (r : Reading) → (e ≡ 0 → ⊥) → RefusedAs e line r → IsRead s r
         at-dependence r = at-fault e r dependence-told
@@ -325,17 +363,55 @@ module _
             omega (arith, p .counted .many-is, dependence-room (nestIn n) (depIn g) (rw is at none))
 
         pub on-dependence
-            : e ≡ 0 → Loading s (stored.with-dependence n (p .counted) g) ends deep (f .next) (line + 1)
+            : e ≡ 0 → Loading s (stored.with-dependence n (p .counted) g) ends single deep (f .next) (line + 1)
         on-dependence z =
             let q = stored.dependence-added n (p .counted) g (room-for-dependence z) (p .long) in
             on
             (stored.with-dependence n (p .counted) g)
             ends
+            single
             deep
             (sym dependence-told ∙ z)
             (q .nest-is ∙ ap (λ (y : DP.Piece). withTold (nestIn n) (toldIn y)) (sym is))
             (q .counted)
             (p .wide)
             (length-set (n .deps) (n .many) g ∙ p .long)
+            (p .broad)
             (p .deep-is)
             (p .knows)
+            (p .knows-one)
+
+    -- a barred gap, with its refusal e
+    module _
+        (g e : ℕ)
+        (is : x ≡ PV.Barred g)
+        (fault : BarredFault (take (n .count) (n .points)) (n .bars) deep g e)
+      where
+        bar-told : e ≡ toldFault (nestIn n) (toldIn x)
+        bar-told = fault (nestIn n) (n .many) refl (of-points (numbers s n ends single deep at line p)) ∙ rw is
+
+        pub at-barred : (r : Reading) → (e ≡ 0 → ⊥) → RefusedAs e line r → IsRead s r
+        at-barred r = at-fault e r bar-told
+
+        pub room-for-bar : e ≡ 0 → n .bars < BARS
+        room-for-bar z =
+            let none : toldFault (nestIn n) (toldIn x) ≡ 0 = sym bar-told ∙ z in
+            omega (arith, p .counted .bars-is, bar-room (nestIn n) g (rw is at none))
+
+        pub on-bar : e ≡ 0 → Loading s (stored.with-bar n (p .counted) g) ends single deep (f .next) (line + 1)
+        on-bar z =
+            let q = stored.bar-added n (p .counted) g (room-for-bar z) (p .broad) in
+            on
+            (stored.with-bar n (p .counted) g)
+            ends
+            single
+            deep
+            (sym bar-told ∙ z)
+            (q .nest-is ∙ ap (λ (y : DP.Piece). withTold (nestIn n) (toldIn y)) (sym is))
+            (q .counted)
+            (p .wide)
+            (p .long)
+            (length-set (n .barred) (n .bars) g ∙ p .broad)
+            (p .deep-is)
+            (p .knows)
+            (p .knows-one)

@@ -1,6 +1,6 @@
 -- Pieces and their frames stand for each other: what a frame tells is a piece with that frame, or nothing that is
 -- known; so a text of pieces is that of one list of pieces only. A new kind of frames is one clause in each law here.
--- Main statements: `told-by`, `piece-back`, `piece-long`, `one-pieces`, `dep-bytes`.
+-- Main statements: `told-by`, `piece-back`, `piece-long`, `one-pieces`, `dep-bytes`, `bar-bytes`.
 use mathlib.Core.Path.{_≡_, refl, sym, ap, subst, _∙_}
 use mathlib.Core.Bool.{Bool, true, _&&_, _||_}
 use mathlib.Core.Logic.{⊎-elim}
@@ -12,19 +12,22 @@ use lib.ListN.{length, getD, List·getD-eq-default}
 use borrow.Author.Tests.{ltb-true, leb-true, eqb-true, lt-ltb}
 use Rattle.laws.proofs.Tests.{lt-by, and-intro, and-true, or-true}
 use Rattle.laws.proofs.Choices.{pick-by}
-use Rattle.nests.specs.Kinds.{DO, ENDDO, STATEMENT, INDEPENDENT, CARRIED, POINTS}
+use Rattle.nests.specs.Kinds.{DO, ENDDO, STATEMENT, INDEPENDENT, CARRIED, BARRED, POINTS}
 use Rattle.nests.specs.Nests.{Dep, dep}
 use Rattle.nests.specs.Loops.{isDo}
+use Rattle.nests.specs.Gaps.{isGap}
 use Rattle.nests.specs.Valid.{isSource, isTarget, namesPoints, isOfKind}
+use Rattle.nests.proofs.Bars.{gap-within}
 use Rattle.lines.specs.Lines.{linesOf}
 use Rattle.lines.proofs.Spelling.{areBytes, areFrames, framesText, framesOf, frames-back}
-use Rattle.texts.specs.Pieces.{Piece, Point, Depend, Told, told, unknown, isPoint, pieceOf, depFrame, pieceFrame}
-use Rattle.texts.specs.Pieces.{piecesText}
+use Rattle.texts.specs.Pieces.{Piece, Point, Depend, Bar, Told, told, unknown, isPoint, pieceOf, depFrame}
+use Rattle.texts.specs.Pieces.{pieceFrame, piecesText}
 
 -- a piece of one of the kinds
 abbrev pub isPiece : Piece → Bool
 isPiece (Point k) = isPoint k
 isPiece (Depend e) = isOfKind e
+isPiece (Bar g) = true
 
 -- a list by its length
 of-one : (f : List ℕ) → length f ≡ 1 → f ≡ getD f 0 0 ∷ []
@@ -32,10 +35,13 @@ of-one [] e = absurd (omega arith)
 of-one (a ∷ []) e = refl
 of-one (a ∷ (b ∷ f)) e = absurd (omega arith)
 
+pub of-two : (f : List ℕ) → length f ≡ 2 → f ≡ getD f 0 0 ∷ (getD f 1 0 ∷ [])
+of-two [] e = absurd (omega arith)
+of-two (a ∷ f) e = ap {B = List ℕ} (λ r. a ∷ r) (of-one f (omega arith))
+
 of-three : (f : List ℕ) → length f ≡ 3 → f ≡ getD f 0 0 ∷ (getD f 1 0 ∷ (getD f 2 0 ∷ []))
 of-three [] e = absurd (omega arith)
-of-three (a ∷ []) e = absurd (omega arith)
-of-three (a ∷ (b ∷ f)) e = ap {B = List ℕ} (λ r. a ∷ (b ∷ r)) (of-one f (omega arith))
+of-three (a ∷ f) e = ap {B = List ℕ} (λ r. a ∷ r) (of-two f (omega arith))
 
 of-four : (f : List ℕ) → length f ≡ 4 → f ≡ getD f 0 0 ∷ (getD f 1 0 ∷ (getD f 2 0 ∷ (getD f 3 0 ∷ [])))
 of-four [] e = absurd (omega arith)
@@ -47,7 +53,7 @@ pub told-by
     → ((x : Piece) → isPiece x ≡ true → f ≡ pieceFrame x → P (told x))
     → P unknown
     → P (pieceOf f)
-told-by P f good none = pick-by P one (λ p. pick-by P three (λ q. pick-by P four (λ r. none)))
+told-by P f good none = pick-by P one (λ p. pick-by P three (λ q. pick-by P four (λ r. pick-by P two (λ t. none))))
   where
     one : (isPoint (getD f 0 0) && eqb (length f) 1) ≡ true → P (told (Point (getD f 0 0)))
     one h =
@@ -71,6 +77,13 @@ told-by P f good none = pick-by P one (λ p. pick-by P three (λ q. pick-by P fo
         let same = of-four f (eqb-true (length f) 4 (a .1)) in
         good (Depend (dep CARRIED (getD f 1 0) (getD f 2 0) (getD f 3 0))) refl
         (same ∙ ap {B = List ℕ} (λ k. k ∷ (getD f 1 0 ∷ (getD f 2 0 ∷ (getD f 3 0 ∷ [])))) is)
+
+    two : (eqb (getD f 0 0) BARRED && eqb (length f) 2) ≡ true → P (told (Bar (getD f 1 0)))
+    two h =
+        let a = and-true (eqb (getD f 0 0) BARRED) (eqb (length f) 2) h in
+        let is = eqb-true (getD f 0 0) BARRED (a .0) in
+        let same = of-two f (eqb-true (length f) 2 (a .1)) in
+        good (Bar (getD f 1 0)) refl (same ∙ ap {B = List ℕ} (λ k. k ∷ (getD f 1 0 ∷ [])) is)
 
 -- a dependence of one of the two kinds
 pub data DepSort : Dep → Type 0 where
@@ -102,6 +115,7 @@ dep-back (carry d s t) = refl
 pub piece-back : (x : Piece) → isPiece x ≡ true → pieceOf (pieceFrame x) ≡ told x
 piece-back (Point k) h = rw h
 piece-back (Depend e) h = dep-back (dep-sort e h)
+piece-back (Bar g) h = refl
 
 dep-long : {e : Dep} → DepSort e → leb 1 (length (depFrame e)) ≡ true
 dep-long (run s t) = refl
@@ -110,6 +124,7 @@ dep-long (carry d s t) = refl
 pub piece-long : (x : Piece) → isPiece x ≡ true → leb 1 (length (pieceFrame x)) ≡ true
 piece-long (Point k) h = refl
 piece-long (Depend e) h = dep-long (dep-sort e h)
+piece-long (Bar g) h = refl
 
 -- the points that a valid dependence names are points of the nest
 source-below : (ps : List ℕ) (s : ℕ) → isSource ps s ≡ true → s < length ps
@@ -149,6 +164,9 @@ pub point-bytes : (p : ℕ) → isPoint p ≡ true → areBytes (p ∷ []) ≡ t
 point-bytes p h =
     let z = and-true (leb DO p) (leb p STATEMENT) h in
     and-intro (lt-ltb p 256 (omega (arith, leb-true p STATEMENT (z .1)))) refl
+
+pub bar-bytes : (ps : List ℕ) (g : ℕ) → length ps ≤ POINTS → isGap ps g ≡ true → areBytes (BARRED ∷ (g ∷ [])) ≡ true
+bar-bytes ps g small h = and-intro (lt-ltb g 256 (omega (arith, gap-within ps g h .1))) refl
 
 -- pieces of the kinds whose numbers are bytes
 abbrev pub arePieces : List Piece → Bool

@@ -24,94 +24,94 @@ use Rattle.texts.proofs.Faults.{bad-first, good-first}
 use Rattle.texts.proofs.Barriers.{barrier-rises}
 
 -- a line's refusal
-fault-bad : (last n : ℕ) (l : Line) → isGood l ≡ false → placedFault last n l ≡ 1
-fault-bad last n l h = bad-first (isGood l) (barrierFault last n (frameOf (l .bytes))) h
+fault-bad : (last n : ℕ) (bs : List ℕ) (l : Line) → isGood l ≡ false → placedFault last n bs l ≡ 1
+fault-bad last n bs l h = bad-first (isGood l) (barrierFault last n bs (frameOf (l .bytes))) h
 
-fault-good : (last n : ℕ) (l : Line) → isGood l ≡ true → placedFault last n l ≡ barrierFault last n (frameOf (l .bytes))
-fault-good last n l h = good-first (isGood l) (barrierFault last n (frameOf (l .bytes))) h
+fault-good : (last n : ℕ) (bs : List ℕ) (l : Line) → isGood l ≡ true → placedFault last n bs l ≡ barrierFault last n bs (frameOf (l .bytes))
+fault-good last n bs l h = good-first (isGood l) (barrierFault last n bs (frameOf (l .bytes))) h
 
 -- the gap of a line's frame
 gapOf : Line → ℕ
 gapOf l = getD (frameOf (l .bytes)) 1 0
 
 -- the rest of the reading, by the first line
-place-none : (k last n : ℕ) (gs : List ℕ) → placeLines k last n gs [] ≡ placed 0 0 gs
+place-none : (k last n : ℕ) (bs gs : List ℕ) → placeLines k last n bs gs [] ≡ placed 0 0 gs
 unfolding placeLines
-place-none k last n gs = refl
+place-none k last n bs gs = refl
 
-module _ (k last n : ℕ) (gs : List ℕ) (l : Line) (ls : List Line) where
+module _ (k last n : ℕ) (bs gs : List ℕ) (l : Line) (ls : List Line) where
   place-by
       : (e : ℕ)
-      → placedFault last n l ≡ e
-      → placeLines k last n gs (l ∷ ls)
-      ≡ pick (eqb e 0) (placeLines (suc k) (gapOf l) n (gs ++ (gapOf l ∷ [])) ls) (placed e k [])
+      → placedFault last n bs l ≡ e
+      → placeLines k last n bs gs (l ∷ ls)
+      ≡ pick (eqb e 0) (placeLines (suc k) (gapOf l) n bs (gs ++ (gapOf l ∷ [])) ls) (placed e k [])
   unfolding placeLines gapOf
   place-by e h =
-      ap (λ (x : ℕ). pick (eqb x 0) (placeLines (suc k) (gapOf l) n (gs ++ (gapOf l ∷ [])) ls) (placed x k [])) h
+      ap (λ (x : ℕ). pick (eqb x 0) (placeLines (suc k) (gapOf l) n bs (gs ++ (gapOf l ∷ [])) ls) (placed x k [])) h
 
-  place-stop : (e : ℕ) → placedFault last n l ≡ e → (e ≡ 0 → ⊥) → placeLines k last n gs (l ∷ ls) ≡ placed e k []
+  place-stop : (e : ℕ) → placedFault last n bs l ≡ e → (e ≡ 0 → ⊥) → placeLines k last n bs gs (l ∷ ls) ≡ placed e k []
   place-stop e h z = place-by e h ∙ rw (ne-eqb e 0 z)
 
   place-next
-      : placedFault last n l ≡ 0
-      → placeLines k last n gs (l ∷ ls) ≡ placeLines (suc k) (gapOf l) n (gs ++ (gapOf l ∷ [])) ls
+      : placedFault last n bs l ≡ 0
+      → placeLines k last n bs gs (l ∷ ls) ≡ placeLines (suc k) (gapOf l) n bs (gs ++ (gapOf l ∷ [])) ls
   place-next h = place-by 0 h
 
 -- what a turn keeps: no gap above the last, and that the rest of the lines decides as the whole text does
-pub record Placing (n : ℕ) (s ws : List ℕ) (last at line : ℕ) : Type 0 where
+pub record Placing (n : ℕ) (bs s ws : List ℕ) (last at line : ℕ) : Type 0 where
   pub above : (i : ℕ) → last < i → holds ws i ≡ false
   pub inside : at ≤ length s
   pub lines : line ≤ at + 1
-  pub rest : placeLines line last n (gapsIn ws) (linesOf (drop at s)) ≡ readPlacement n s
+  pub rest : placeLines line last n bs (gapsIn ws) (linesOf (drop at s)) ≡ readPlacement n bs s
 
-pub placing : (n : ℕ) (s ws : List ℕ) → ((i : ℕ) → holds ws i ≡ false) → Placing n s ws 0 0 1
+pub placing : (n : ℕ) (bs s ws : List ℕ) → ((i : ℕ) → holds ws i ≡ false) → Placing n bs s ws 0 0 1
 unfolding readPlacement
-placing n s ws h =
+placing n bs s ws h =
     record {
       above = λ i a. h i;
       inside = omega arith;
       lines = omega arith;
-      rest = ap (λ (gs : List ℕ). placeLines 1 0 n gs (linesOf s)) (gaps-none ws (λ i a. h i));
+      rest = ap (λ (gs : List ℕ). placeLines 1 0 n bs gs (linesOf s)) (gaps-none ws (λ i a. h i));
     }
 
-module _ (n : ℕ) (s ws : List ℕ) (last at line : ℕ) (p : Placing n s ws last at line) where
-  pub placed-all : lineAt s at ≡ RV.End → placed 0 0 (gapsIn ws) ≡ readPlacement n s
+module _ (n : ℕ) (bs s ws : List ℕ) (last at line : ℕ) (p : Placing n bs s ws last at line) where
+  pub placed-all : lineAt s at ≡ RV.End → placed 0 0 (gapsIn ws) ≡ readPlacement n bs s
   placed-all h =
-      sym (place-none line last n (gapsIn ws))
-      ∙ ap (placeLines line last n (gapsIn ws)) (sym (no-line s at h))
+      sym (place-none line last n bs (gapsIn ws))
+      ∙ ap (placeLines line last n bs (gapsIn ws)) (sym (no-line s at h))
       ∙ p .rest
 
-  pub placed-bad : (k : ℕ) (r : PlacementReading) → lineAt s at ≡ RV.Refused k → UnplacedAs k line r → IsPlaced n s r
+  pub placed-bad : (k : ℕ) (r : PlacementReading) → lineAt s at ≡ RV.Refused k → UnplacedAs k line r → IsPlaced n bs s r
   placed-bad k r h e =
       let b = bad-line s at k h in
-      let fault = fault-bad last n (b .first) (b .bad) in
+      let fault = fault-bad last n bs (b .first) (b .bad) in
       record {
         placed-is =
             e .placed-is
             ∙ ap (λ (x : ℕ). placed x line []) (b .number)
-            ∙ sym (place-stop line last n (gapsIn ws) (b .first) (b .rest) 1 fault (omega arith))
-            ∙ ap (placeLines line last n (gapsIn ws)) (sym (b .lines))
+            ∙ sym (place-stop line last n bs (gapsIn ws) (b .first) (b .rest) 1 fault (omega arith))
+            ∙ ap (placeLines line last n bs (gapsIn ws)) (sym (b .lines))
             ∙ p .rest;
       }
 
   -- the frame of a good line
-  module _ (f : Frame) (h : lineAt s at ≡ RV.Frame f) (e : ℕ) (fault : BarrierFault last n f e) where
+  module _ (f : Frame) (h : lineAt s at ≡ RV.Frame f) (e : ℕ) (fault : BarrierFault last n bs f e) where
     good : Good-line s at f
     good = good-line s at f h
 
-    fault-is : e ≡ barrierFault last n (frameOf (good .first .bytes))
+    fault-is : e ≡ barrierFault last n bs (frameOf (good .first .bytes))
     fault-is = fault (frameOf (good .first .bytes)) (good .frame-is)
 
-    line-fault : placedFault last n (good .first) ≡ e
-    line-fault = fault-good last n (good .first) (good .good) ∙ sym fault-is
+    line-fault : placedFault last n bs (good .first) ≡ e
+    line-fault = fault-good last n bs (good .first) (good .good) ∙ sym fault-is
 
-    pub placed-fault : (r : PlacementReading) → (e ≡ 0 → ⊥) → UnplacedAs e line r → IsPlaced n s r
+    pub placed-fault : (r : PlacementReading) → (e ≡ 0 → ⊥) → UnplacedAs e line r → IsPlaced n bs s r
     placed-fault r z q =
         record {
           placed-is =
               q .placed-is
-              ∙ sym (place-stop line last n (gapsIn ws) (good .first) (linesOf (drop (f .next) s)) e line-fault z)
-              ∙ ap (placeLines line last n (gapsIn ws)) (sym (good .lines))
+              ∙ sym (place-stop line last n bs (gapsIn ws) (good .first) (linesOf (drop (f .next) s)) e line-fault z)
+              ∙ ap (placeLines line last n bs (gapsIn ws)) (sym (good .lines))
               ∙ p .rest;
         }
 
@@ -123,11 +123,11 @@ module _ (n : ℕ) (s ws : List ℕ) (last at line : ℕ) (p : Placing n s ws la
         → e ≡ 0
         → f .a < GAPS
         → ((i : ℕ) → holds vs i ≡ (eqb i (f .a) || holds ws i))
-        → Placing n s vs (f .a) (f .next) (line + 1)
+        → Placing n bs s vs (f .a) (f .next) (line + 1)
     unfolding gapOf
     place-on vs z g q =
         let same : f .a ≡ gapOf (good .first) = good .frame-is .a-is in
-        let rises = barrier-rises last n (frameOf (good .first .bytes)) (sym fault-is ∙ z) in
+        let rises = barrier-rises last n bs (frameOf (good .first .bytes)) (sym fault-is ∙ z) in
         let up : last < f .a = omega (arith, rises, same) in
         let lines = linesOf (drop (f .next) s) in
         let gaps : gapsIn vs ≡ gapsIn ws ++ (gapOf (good .first) ∷ []) =
@@ -138,10 +138,10 @@ module _ (n : ℕ) (s ws : List ℕ) (last at line : ℕ) (p : Placing n s ws la
           inside = good .inside;
           lines = omega (arith, p .lines, good .on);
           rest =
-              ap (λ (k : ℕ). placeLines k (f .a) n (gapsIn vs) lines) (add-one line)
-              ∙ ap (λ (x : ℕ). placeLines (suc line) x n (gapsIn vs) lines) same
-              ∙ ap (λ (gs : List ℕ). placeLines (suc line) (gapOf (good .first)) n gs lines) gaps
-              ∙ sym (place-next line last n (gapsIn ws) (good .first) lines (line-fault ∙ z))
-              ∙ ap (placeLines line last n (gapsIn ws)) (sym (good .lines))
+              ap (λ (k : ℕ). placeLines k (f .a) n bs (gapsIn vs) lines) (add-one line)
+              ∙ ap (λ (x : ℕ). placeLines (suc line) x n bs (gapsIn vs) lines) same
+              ∙ ap (λ (gs : List ℕ). placeLines (suc line) (gapOf (good .first)) n bs gs lines) gaps
+              ∙ sym (place-next line last n bs (gapsIn ws) (good .first) lines (line-fault ∙ z))
+              ∙ ap (placeLines line last n bs (gapsIn ws)) (sym (good .lines))
               ∙ p .rest;
         }

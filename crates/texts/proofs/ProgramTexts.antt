@@ -1,7 +1,7 @@
 -- What the program writes, case by case: a valid nest's spelling is never too long for it, so its key and counts are
 -- written.
--- Main statements: `spelling-short`, `program-accepted`, `program-blank`, `program-refused`, `program-long`,
--- `refusal-bytes`.
+-- Main statements: `spelling-short`, `program-accepted`, `program-blocked`, `program-blank`, `program-refused`,
+-- `program-long`, `refusal-bytes`.
 use mathlib.Core.Path.{_≡_, refl}
 use mathlib.Core.Bool.{Bool, true, false}
 use mathlib.Core.List.{List, [], _∷_, _++_}
@@ -18,15 +18,16 @@ use Rattle.nests.specs.Valid.{isValid}
 use Rattle.nests.proofs.Deps.{valid-is}
 use Rattle.lines.specs.Lines.{lineText}
 use Rattle.lines.proofs.Spelling.{areBytes}
+use Rattle.barred.specs.Reduced.{isBlocked}
 use Rattle.texts.specs.Pieces.{Piece, depFrame, piecesText}
-use Rattle.texts.specs.NestTexts.{blank, readNest, pointPieces, depPieces, nestText}
+use Rattle.texts.specs.NestTexts.{blank, readNest, pointPieces, depPieces, barPieces, nestText}
 use Rattle.texts.specs.PlacementTexts.{keyText}
 use Rattle.texts.specs.Counts.{countsText}
 use Rattle.texts.specs.Program.{REFUSAL, LONGEST, refusalText, programText}
-use Rattle.texts.proofs.Refusals.{numbers-to-7, place-within}
+use Rattle.texts.proofs.Refusals.{numbers-to-14, place-within}
 use Rattle.texts.proofs.Spelled.{valid-accepted}
 
--- a point's line has 3 bytes, a dependence's at most 9
+-- a point's line has 3 bytes, a dependence's at most 9, a barred gap's 5
 frame-length : (e : Dep) → length (lineText (depFrame e)) ≤ 9
 frame-length e = go (eqb (e .kind) INDEPENDENT)
   where
@@ -37,11 +38,23 @@ frame-length e = go (eqb (e .kind) INDEPENDENT)
     go true = omega arith
     go false = omega arith
 
-deps-length : (ds : List Dep) → length (piecesText (depPieces ds)) ≤ 9 * length ds
+bars-length : (bs : List ℕ) → length (piecesText (barPieces bs)) ≡ 5 * length bs
+unfolding barPieces piecesText
+bars-length [] = omega arith
+bars-length (b ∷ bs) = omega (arith, bars-length bs)
+
+deps-length
+    : (ds : List Dep) (xs : List Piece)
+    → length (piecesText (depPieces ds ++ xs)) ≤ 9 * length ds + length (piecesText xs)
 unfolding depPieces piecesText
-deps-length [] = omega arith
-deps-length (e ∷ ds) =
-    omega (arith, deps-length ds, frame-length e, length-append (lineText (depFrame e)) (piecesText (depPieces ds)))
+deps-length [] xs = omega arith
+deps-length (e ∷ ds) xs =
+    omega (
+      arith,
+      deps-length ds xs,
+      frame-length e,
+      length-append (lineText (depFrame e)) (piecesText (depPieces ds ++ xs)),
+    )
 
 points-length
     : (ps : List ℕ) (xs : List Piece)
@@ -55,17 +68,28 @@ pub spelling-short : (n : Nest) → isValid n ≡ true → length (nestText n) �
 unfolding nestText
 spelling-short n h =
     let v = valid-is n h in
-    let points = points-length (n .points) (depPieces (n .deps)) in
-    let deps = deps-length (n .deps) in
-    omega (arith, v .few-points, v .few-deps)
+    let points = points-length (n .points) (depPieces (n .deps) ++ barPieces (n .barred)) in
+    let deps = deps-length (n .deps) (barPieces (n .barred)) in
+    let bars = bars-length (n .barred) in
+    omega (arith, v .few-points, v .few-deps, v .few-bars)
 
 -- a valid nest: its key, then its counts
 pub program-accepted
     : (n : Nest) (key : List ℕ)
     → isValid n ≡ true
+    → isBlocked n ≡ false
     → programText (nestText n) key ≡ keyText key ++ countsText n key
 unfolding programText
-program-accepted n key h = rw (le-ltb LONGEST (length (nestText n)) (spelling-short n h), valid-accepted n h)
+program-accepted n key h b = rw (le-ltb LONGEST (length (nestText n)) (spelling-short n h), valid-accepted n h, b)
+
+-- 02, job 7: one that is blocked gives 2f0f0000
+pub program-blocked
+    : (n : Nest) (key : List ℕ)
+    → isValid n ≡ true
+    → isBlocked n ≡ true
+    → programText (nestText n) key ≡ 0x32 ∷ 0x66 ∷ 0x30 ∷ 0x66 ∷ 0x30 ∷ 0x30 ∷ 0x30 ∷ 0x30 ∷ 0x0a ∷ []
+unfolding programText
+program-blocked n key h b = rw (le-ltb LONGEST (length (nestText n)) (spelling-short n h), valid-accepted n h, b)
 
 -- the blank paper: the same
 pub program-blank : (key : List ℕ) → programText [] key ≡ keyText key ++ countsText blank key
@@ -95,7 +119,7 @@ pub refusal-bytes
     → length s ≤ LONGEST
     → areBytes (REFUSAL ∷ (readNest s .number ∷ (readNest s .place / 256 ∷ (readNest s .place % 256 ∷ [])))) ≡ true
 refusal-bytes s short =
-    let number = numbers-to-7 s in
+    let number = numbers-to-14 s in
     let place = place-within s in
     and-intro
     (lt-ltb (readNest s .number) 256 (omega arith))

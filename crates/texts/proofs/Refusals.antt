@@ -1,6 +1,6 @@
--- Refused nest texts: numbers are 1 to 7 with a line from 1 to the one after the last, and no nest is given; an
+-- Refused nest texts: numbers are 1 to 14 with a line from 1 to the one after the last, and no nest is given; an
 -- accepted text has number 0 and line 0.
--- Main statements: `nest-answer`, `numbers-to-7`, `place-within`, `accepted-got`.
+-- Main statements: `nest-answer`, `numbers-to-14`, `place-within`, `accepted-got`.
 use mathlib.Core.Path.{_≡_, refl}
 use mathlib.Core.Bool.{Bool, true, false, _&&_, _||_, not}
 use mathlib.Core.List.{List, [], _∷_}
@@ -11,50 +11,65 @@ use lib.ListN.{length}
 use borrow.Author.Tests.{eqb-false}
 use Rattle.laws.specs.Choice.{pick}
 use Rattle.laws.proofs.Choices.{first-le, when-le}
-use Rattle.nests.specs.Kinds.{DO, POINTS, DEPTH, DEPENDENCES}
+use Rattle.nests.specs.Kinds.{DO, POINTS, DEPTH, DEPENDENCES, BARS}
 use Rattle.nests.specs.Nests.{Dep, Nest, empty}
 use Rattle.nests.specs.Loops.{depth, isClosed}
-use Rattle.nests.specs.Valid.{namesPoints, runsRight, depFault}
+use Rattle.nests.specs.Gaps.{isGap}
+use Rattle.nests.specs.Ring.{oneLoop}
+use Rattle.nests.specs.Valid.{namesPoints, runsRight, depFault, barFault}
 use Rattle.lines.specs.Lines.{Line, linesOf, isGood, frameOf}
 use Rattle.lines.proofs.Spelling.{lines-few}
-use Rattle.texts.specs.Pieces.{Point, Depend, Told, told, unknown, pieceOf, isPast}
-use Rattle.texts.specs.Pieces.{pointFault, dependenceFault, toldFault}
+use Rattle.texts.specs.Pieces.{Point, Depend, Bar, Told, told, unknown, pieceOf, isPast}
+use Rattle.texts.specs.Pieces.{pointFault, dependenceFault, barredFault, toldFault}
 use Rattle.texts.specs.NestTexts.{withFrame, lineFault, Got, got, readLines, readNest}
 
--- the numbers of a line are at most 7
-dep-fault-to-7 : (ps : List ℕ) (e : Dep) → depFault ps e ≤ 7
-dep-fault-to-7 ps e =
-    let names = when-le (not (namesPoints ps e)) 6 7 (omega arith) in
-    let right = when-le (not (runsRight ps e)) 7 7 (omega arith) in
-    first-le _ _ 7 names right
+-- the numbers of a line are at most 14
+dep-fault-to-14 : (ps : List ℕ) (e : Dep) → depFault ps e ≤ 14
+dep-fault-to-14 ps e =
+    let names = when-le (not (namesPoints ps e)) 6 14 (omega arith) in
+    let right = when-le (not (runsRight ps e)) 7 14 (omega arith) in
+    first-le _ _ 14 names right
 
-point-fault-to-7 : (n : Nest) (p : ℕ) → pointFault n p ≤ 7
-point-fault-to-7 n p =
+point-fault-to-14 : (n : Nest) (p : ℕ) → pointFault n p ≤ 14
+point-fault-to-14 n p =
     let ps = n .points in
-    let late = when-le (isPast n) 3 7 (omega arith) in
-    let outside = when-le (isClosed ps || (eqb (length ps) 0 && not (eqb p DO))) 4 7 (omega arith) in
-    let beyond = when-le (leb POINTS (length ps) || (eqb p DO && leb DEPTH (depth ps))) 5 7 (omega arith) in
-    first-le _ _ 7 late (first-le _ _ 7 outside beyond)
+    let late = when-le (isPast n) 3 14 (omega arith) in
+    let outside = when-le (isClosed ps || (eqb (length ps) 0 && not (eqb p DO))) 4 14 (omega arith) in
+    let beyond = when-le (leb POINTS (length ps) || (eqb p DO && leb DEPTH (depth ps))) 5 14 (omega arith) in
+    first-le _ _ 14 late (first-le _ _ 14 outside beyond)
 
-dependence-fault-to-7 : (n : Nest) (e : Dep) → dependenceFault n e ≤ 7
-dependence-fault-to-7 n e =
-    let early = when-le (not (isClosed (n .points))) 4 7 (omega arith) in
-    let beyond = when-le (leb DEPENDENCES (length (n .deps))) 5 7 (omega arith) in
-    first-le _ _ 7 early (first-le _ _ 7 beyond (dep-fault-to-7 (n .points) e))
+dependence-fault-to-14 : (n : Nest) (e : Dep) → dependenceFault n e ≤ 14
+dependence-fault-to-14 n e =
+    let early = when-le (not (isClosed (n .points))) 4 14 (omega arith) in
+    let beyond = when-le (leb DEPENDENCES (length (n .deps))) 5 14 (omega arith) in
+    first-le _ _ 14 early (first-le _ _ 14 beyond (dep-fault-to-14 (n .points) e))
 
-told-fault-to-7 : (n : Nest) (x : Told) → toldFault n x ≤ 7
-told-fault-to-7 n (told (Point k)) = point-fault-to-7 n k
-told-fault-to-7 n (told (Depend e)) = dependence-fault-to-7 n e
-told-fault-to-7 n unknown = omega arith
+bar-fault-to-14 : (ps : List ℕ) (g : ℕ) → barFault ps g ≤ 14
+bar-fault-to-14 ps g =
+    let range = when-le (not (isGap ps g)) 8 14 (omega arith) in
+    let several = when-le (not (oneLoop ps)) 14 14 (omega arith) in
+    first-le _ _ 14 range several
 
-pub line-fault-to-7 : (n : Nest) (l : Line) → lineFault n l ≤ 7
-line-fault-to-7 n l =
-    let frame = told-fault-to-7 n (pieceOf (frameOf (l .bytes))) in
-    first-le _ _ 7 (when-le (not (isGood l)) 1 7 (omega arith)) frame
+barred-fault-to-14 : (n : Nest) (g : ℕ) → barredFault n g ≤ 14
+barred-fault-to-14 n g =
+    let early = when-le (not (isClosed (n .points))) 4 14 (omega arith) in
+    let beyond = when-le (leb BARS (length (n .barred))) 5 14 (omega arith) in
+    first-le _ _ 14 early (first-le _ _ 14 beyond (bar-fault-to-14 (n .points) g))
+
+told-fault-to-14 : (n : Nest) (x : Told) → toldFault n x ≤ 14
+told-fault-to-14 n (told (Point k)) = point-fault-to-14 n k
+told-fault-to-14 n (told (Depend e)) = dependence-fault-to-14 n e
+told-fault-to-14 n (told (Bar g)) = barred-fault-to-14 n g
+told-fault-to-14 n unknown = omega arith
+
+pub line-fault-to-14 : (n : Nest) (l : Line) → lineFault n l ≤ 14
+line-fault-to-14 n l =
+    let frame = told-fault-to-14 n (pieceOf (frameOf (l .bytes))) in
+    first-le _ _ 14 (when-le (not (isGood l)) 1 14 (omega arith)) frame
 
 -- what reading may answer, with lines from `first` to `last`
 pub record Answers (first last : ℕ) (g : Got) : Type 0 where
-  pub small : g .number ≤ 7
+  pub small : g .number ≤ 14
   pub accepted : g .number ≡ 0 → g .place ≡ 0
   pub refused : (g .number ≡ 0 → ⊥) → (g .nest-is ≡ empty) × (first ≤ g .place)
   pub within : g .place ≤ last
@@ -91,7 +106,7 @@ lines-answer k n (l ∷ ls) = go (eqb (lineFault n l) 0) refl (lines-answer (suc
         }
     go false e r =
         record {
-          small = line-fault-to-7 n l;
+          small = line-fault-to-14 n l;
           accepted = λ z. absurd (eqb-false (lineFault n l) 0 e z);
           refused = λ z. (refl, omega arith);
           within = omega arith;
@@ -104,8 +119,8 @@ nest-answer [] =
     record { small = omega arith; accepted = λ z. refl; refused = λ z. absurd (z refl); within = omega arith }
 nest-answer (b ∷ s) = lines-answer 1 empty (linesOf (b ∷ s))
 
-pub numbers-to-7 : (s : List ℕ) → readNest s .number ≤ 7
-numbers-to-7 s = nest-answer s .small
+pub numbers-to-14 : (s : List ℕ) → readNest s .number ≤ 14
+numbers-to-14 s = nest-answer s .small
 
 pub place-within : (s : List ℕ) → readNest s .place ≤ length s + 1
 place-within s = omega (arith, nest-answer s .within, lines-few s)

@@ -12,20 +12,22 @@ use lib.ListN.{length, length-append}
 use borrow.Author.Tests.{eqb-true, lt-leb, le-leb, ne-eqb, eq-eqb}
 use Rattle.laws.specs.Choice.{when, firstOf}
 use Rattle.laws.proofs.Tests.{never, false-by, and-intro, and-true}
-use Rattle.nests.specs.Kinds.{DO, POINTS, DEPTH, DEPENDENCES}
-use Rattle.nests.specs.Nests.{Dep, Nest, nest, empty, withPoint, withDep}
+use Rattle.nests.specs.Kinds.{DO, POINTS, DEPTH, DEPENDENCES, BARS}
+use Rattle.nests.specs.Nests.{Dep, Nest, empty, withPoint, withDep, withBar}
 use Rattle.nests.specs.Loops.{depth, isClosed}
-use Rattle.nests.specs.Valid.{isShape, isOfKind, namesPoints, runsRight, isDep, areDeps, isValid}
+use Rattle.nests.specs.Gaps.{isGap}
+use Rattle.nests.specs.Ring.{oneLoop}
+use Rattle.nests.specs.Valid.{isShape, isOfKind, namesPoints, runsRight, isDep, areDeps, isBar, areBars, isValid}
 use Rattle.nests.proofs.Deps.{Valid, valid-is}
 use Rattle.lines.specs.Lines.{linesOf, lineText}
 use Rattle.lines.proofs.Spelling.{areBytes, line-first, digits-good, frame-digits}
-use Rattle.texts.specs.Pieces.{Piece, Point, Depend, pieceFrame, isPast, pieceFault}
+use Rattle.texts.specs.Pieces.{Piece, Point, Depend, Bar, pieceFrame, isPast, pieceFault}
 use Rattle.texts.specs.Pieces.{withPiece, piecesText, noFirst, isOrdered, madeFrom, madeOf}
 use Rattle.texts.specs.NestTexts.{frameFault, withFrame, got, readLines, readNest, Spells}
-use Rattle.texts.specs.NestTexts.{pointPieces, depPieces, piecesOf, nestText}
+use Rattle.texts.specs.NestTexts.{pointPieces, depPieces, barPieces, piecesOf, nestText}
 use Rattle.texts.proofs.BlankPaper.{lines-read}
 use Rattle.texts.proofs.Shapes.{Follows, shape-follows, shape-closed}
-use Rattle.texts.proofs.Pieces.{isPiece, arePieces, piece-back, piece-long, dep-sort, dep-bytes, point-bytes}
+use Rattle.texts.proofs.Pieces.{isPiece, arePieces, piece-back, piece-long, dep-sort, dep-bytes, bar-bytes, point-bytes}
 
 -- ---- what pieces make
 
@@ -35,6 +37,8 @@ pub record Grown (n m : Nest) : Type 0 where
   pub points-are : m .points ≡ n .points ++ more-points
   pub more-deps : List Dep
   pub deps-are : m .deps ≡ n .deps ++ more-deps
+  pub more-bars : List ℕ
+  pub bars-are : m .barred ≡ n .barred ++ more-bars
 
 pub grown : (n : Nest) (xs : List Piece) → Grown n (madeFrom n xs)
 grown n [] =
@@ -43,6 +47,8 @@ grown n [] =
       points-are = sym (append-nil (n .points));
       more-deps = [];
       deps-are = sym (append-nil (n .deps));
+      more-bars = [];
+      bars-are = sym (append-nil (n .barred));
     }
 grown n (Point k ∷ xs) =
     let g = grown (withPoint n k) xs in
@@ -51,6 +57,8 @@ grown n (Point k ∷ xs) =
       points-are = g .points-are ∙ append-assoc (n .points) (k ∷ []) (g .more-points);
       more-deps = g .more-deps;
       deps-are = g .deps-are;
+      more-bars = g .more-bars;
+      bars-are = g .bars-are;
     }
 grown n (Depend e ∷ xs) =
     let g = grown (withDep n e) xs in
@@ -59,6 +67,18 @@ grown n (Depend e ∷ xs) =
       points-are = g .points-are;
       more-deps = e ∷ g .more-deps;
       deps-are = g .deps-are ∙ append-assoc (n .deps) (e ∷ []) (g .more-deps);
+      more-bars = g .more-bars;
+      bars-are = g .bars-are;
+    }
+grown n (Bar b ∷ xs) =
+    let g = grown (withBar n b) xs in
+    record {
+      more-points = g .more-points;
+      points-are = g .points-are;
+      more-deps = g .more-deps;
+      deps-are = g .deps-are;
+      more-bars = b ∷ g .more-bars;
+      bars-are = g .bars-are ∙ append-assoc (n .barred) (b ∷ []) (g .more-bars);
     }
 
 -- without a point among them the points stay
@@ -66,6 +86,7 @@ points-stay : (n : Nest) (xs : List Piece) → noFirst xs ≡ true → madeFrom 
 points-stay n [] h = refl
 points-stay n (Point k ∷ xs) h = never h
 points-stay n (Depend e ∷ xs) h = points-stay (withDep n e) xs h
+points-stay n (Bar g ∷ xs) h = points-stay (withBar n g) xs h
 
 -- ---- no fault
 
@@ -106,6 +127,10 @@ point-none (q ∷ ps) p few f = go (eqb p DO) refl
 deps-at : (ps : List ℕ) (ds : List Dep) (e : Dep) (r : List Dep) → areDeps ps (ds ++ (e ∷ r)) ≡ true → isDep ps e ≡ true
 deps-at ps [] e r h = and-true (isDep ps e) (areDeps ps r) h .0
 deps-at ps (x ∷ ds) e r h = deps-at ps ds e r (and-true (isDep ps x) (areDeps ps (ds ++ (e ∷ r))) h .1)
+
+bars-at : (ps bs : List ℕ) (g : ℕ) (r : List ℕ) → areBars ps (bs ++ (g ∷ r)) ≡ true → isBar ps g ≡ true
+bars-at ps [] g r h = and-true (isBar ps g) (areBars ps r) h .0
+bars-at ps (b ∷ bs) g r h = bars-at ps bs g r (and-true (isBar ps b) (areBars ps (bs ++ (g ∷ r))) h .1)
 
 -- the piece may stand after n: it is of a kind, its numbers are bytes, and it has no fault
 pub record Fitting (n : Nest) (x : Piece) : Type 0 where
@@ -171,6 +196,35 @@ module _ (n : Nest) (e : Dep) (xs : List Piece) (o : InOrder n (Depend e ∷ xs)
   dep-rest =
       record { ordered = and-true (noFirst xs) (isOrdered xs) (o .ordered) .1; late = λ z. dep-last }
 
+module _ (n : Nest) (b : ℕ) (xs : List Piece) (o : InOrder n (Bar b ∷ xs)) where
+  bar-last : noFirst xs ≡ true
+  bar-last = and-true (noFirst xs) (isOrdered xs) (o .ordered) .0
+
+  bar-fitting : Valid (madeFrom (withBar n b) xs) → Fitting n (Bar b)
+  bar-fitting v =
+      let m = madeFrom (withBar n b) xs in
+      let g = grown (withBar n b) xs in
+      let same : m .points ≡ n .points = points-stay (withBar n b) xs bar-last in
+      let closed : isClosed (n .points) ≡ true = rw same at (shape-closed (m .points) (v .shape)) in
+      let all : m .barred ≡ n .barred ++ (b ∷ g .more-bars) =
+      g .bars-are ∙ append-assoc (n .barred) (b ∷ []) (g .more-bars) in
+      let long = ap length all ∙ length-append (n .barred) (b ∷ g .more-bars) in
+      let few : length (n .barred) < BARS = omega (arith, long, v .few-bars) in
+      let room = lt-leb BARS (length (n .barred)) few in
+      let bars : areBars (n .points) (n .barred ++ (b ∷ g .more-bars)) ≡ true = rw (same, all) at (v .all-bars) in
+      let is = bars-at (n .points) (n .barred) b (g .more-bars) bars in
+      let a = and-true (isGap (n .points) b) (oneLoop (n .points)) is in
+      let small : length (n .points) ≤ POINTS = rw same at (v .few-points) in
+      record {
+        kind = refl;
+        bytes = bar-bytes (n .points) b small (a .0);
+        none = rw (closed, room, a .0, a .1);
+      }
+
+  bar-rest : InOrder (withBar n b) xs
+  bar-rest =
+      record { ordered = and-true (noFirst xs) (isOrdered xs) (o .ordered) .1; late = λ z. bar-last }
+
 -- a piece of a valid nest's text fits, and the rest is in order behind it
 pub fitting
     : (n : Nest) (x : Piece) (xs : List Piece)
@@ -179,10 +233,12 @@ pub fitting
     → Fitting n x
 fitting n (Point k) xs o v = point-fitting n k xs o (valid-is (madeFrom (withPoint n k) xs) v)
 fitting n (Depend e) xs o v = dep-fitting n e xs o (valid-is (madeFrom (withDep n e) xs) v)
+fitting n (Bar g) xs o v = bar-fitting n g xs o (valid-is (madeFrom (withBar n g) xs) v)
 
 pub order-rest : (n : Nest) (x : Piece) (xs : List Piece) → InOrder n (x ∷ xs) → InOrder (withPiece n x) xs
 order-rest n (Point k) xs o = point-rest n k xs o
 order-rest n (Depend e) xs o = dep-rest n e xs o
+order-rest n (Bar g) xs o = bar-rest n g xs o
 
 -- ---- texts
 
@@ -252,41 +308,55 @@ spells-read s n h =
 
 -- ---- the spelling of a nest
 
-deps-first : (ds : List Dep) → (noFirst (depPieces ds) ≡ true) × (isOrdered (depPieces ds) ≡ true)
+bars-first : (bs : List ℕ) → (noFirst (barPieces bs) ≡ true) × (isOrdered (barPieces bs) ≡ true)
+unfolding barPieces
+bars-first [] = (refl, refl)
+bars-first (b ∷ bs) = let r = bars-first bs in (r .0, and-intro (r .0) (r .1))
+
+deps-first
+    : (ds : List Dep) (bs : List ℕ)
+    → (noFirst (depPieces ds ++ barPieces bs) ≡ true) × (isOrdered (depPieces ds ++ barPieces bs) ≡ true)
 unfolding depPieces
-deps-first [] = (refl, refl)
-deps-first (e ∷ ds) = let r = deps-first ds in (r .0, and-intro (r .0) (r .1))
+deps-first [] bs = bars-first bs
+deps-first (e ∷ ds) bs = let r = deps-first ds bs in (r .0, and-intro (r .0) (r .1))
 
-points-first : (ps : List ℕ) (ds : List Dep) → isOrdered (pointPieces ps ++ depPieces ds) ≡ true
+points-first
+    : (ps : List ℕ) (ds : List Dep) (bs : List ℕ)
+    → isOrdered (pointPieces ps ++ (depPieces ds ++ barPieces bs)) ≡ true
 unfolding pointPieces
-points-first [] ds = deps-first ds .1
-points-first (p ∷ ps) ds = points-first ps ds
+points-first [] ds bs = deps-first ds bs .1
+points-first (p ∷ ps) ds bs = points-first ps ds bs
 
-points-made
-    : (n : Nest) (ps : List ℕ) (ds : List Dep)
-    → madeFrom n (pointPieces ps ++ depPieces ds) .points ≡ n .points ++ ps
-unfolding pointPieces
-points-made n [] ds = points-stay n (depPieces ds) (deps-first ds .0) ∙ sym (append-nil (n .points))
-points-made n (p ∷ ps) ds = points-made (withPoint n p) ps ds ∙ append-assoc (n .points) (p ∷ []) ps
+-- what is made of the pieces of each kind
+abbrev barsOn : Nest → List ℕ → Nest
+barsOn n bs = record { points = n .points; deps = n .deps; barred = n .barred ++ bs }
 
-deps-only : (n : Nest) (ds : List Dep) → madeFrom n (depPieces ds) .deps ≡ n .deps ++ ds
-unfolding depPieces
-deps-only n [] = sym (append-nil (n .deps))
-deps-only n (e ∷ ds) = deps-only (withDep n e) ds ∙ append-assoc (n .deps) (e ∷ []) ds
+bars-made : (n : Nest) (bs : List ℕ) → madeFrom n (barPieces bs) ≡ barsOn n bs
+unfolding barPieces
+bars-made n [] = rw (append-nil (n .barred))
+bars-made n (b ∷ bs) = bars-made (withBar n b) bs ∙ rw (append-assoc (n .barred) (b ∷ []) bs)
+
+abbrev depsOn : Nest → List Dep → Nest
+depsOn n ds = record { points = n .points; deps = n .deps ++ ds; barred = n .barred }
 
 deps-made
-    : (n : Nest) (ps : List ℕ) (ds : List Dep)
-    → madeFrom n (pointPieces ps ++ depPieces ds) .deps ≡ n .deps ++ ds
-unfolding pointPieces
-deps-made n [] ds = deps-only n ds
-deps-made n (p ∷ ps) ds = deps-made (withPoint n p) ps ds
+    : (n : Nest) (ds : List Dep) (bs : List ℕ) → madeFrom n (depPieces ds ++ barPieces bs) ≡ barsOn (depsOn n ds) bs
+unfolding depPieces
+deps-made n [] bs = bars-made n bs ∙ rw (append-nil (n .deps))
+deps-made n (e ∷ ds) bs = deps-made (withDep n e) ds bs ∙ rw (append-assoc (n .deps) (e ∷ []) ds)
 
-same-nest : (n m : Nest) → n .points ≡ m .points → n .deps ≡ m .deps → n ≡ m
-same-nest n m p q = ap (λ (ps : List ℕ). nest ps (n .deps)) p ∙ ap (λ (ds : List Dep). nest (m .points) ds) q
+abbrev pointsOn : Nest → List ℕ → Nest
+pointsOn n ps = record { points = n .points ++ ps; deps = n .deps; barred = n .barred }
+
+points-made
+    : (n : Nest) (ps : List ℕ) (ds : List Dep) (bs : List ℕ)
+    → madeFrom n (pointPieces ps ++ (depPieces ds ++ barPieces bs)) ≡ barsOn (depsOn (pointsOn n ps) ds) bs
+unfolding pointPieces
+points-made n [] ds bs = deps-made n ds bs ∙ rw (append-nil (n .points))
+points-made n (p ∷ ps) ds bs = points-made (withPoint n p) ps ds bs ∙ rw (append-assoc (n .points) (p ∷ []) ps)
 
 pub nest-made : (n : Nest) → madeOf (piecesOf n) ≡ n
-nest-made n =
-    same-nest (madeOf (piecesOf n)) n (points-made empty (n .points) (n .deps)) (deps-made empty (n .points) (n .deps))
+nest-made n = points-made empty (n .points) (n .deps) (n .barred)
 
 -- the spelling of a valid nest spells it, so it is accepted with that nest
 pub nest-spells : (n : Nest) → isValid n ≡ true → Spells (nestText n) n
@@ -294,7 +364,7 @@ unfolding nestText
 nest-spells n v =
     record {
       pieces = piecesOf n;
-      ordered = points-first (n .points) (n .deps);
+      ordered = points-first (n .points) (n .deps) (n .barred);
       text = refl;
       nest-is = sym (nest-made n);
       valid = v;

@@ -9,8 +9,10 @@ use lib.ListN.{length, replicate}
 use Rattle.nests.specs.Kinds.{INDEPENDENT, CARRIED}
 use Rattle.nests.specs.Nests.{dep, Nest, nest, empty, withDep}
 use Rattle.lines.specs.Lines.{linesOf, frameOf}
+use Rattle.placements.specs.Words.{gapsOf}
 use Rattle.lines.proofs.Spelling.{framesText}
-use Rattle.texts.specs.NestTexts.{got, readLines, blank, readNest, pointPieces, depPieces, nestText}
+use Rattle.texts.specs.NestTexts.{got, readLines, blank, readNest, pointPieces, depPieces, barPieces}
+use Rattle.texts.specs.NestTexts.{nestText}
 use Rattle.texts.specs.Pieces.{piecesText}
 use Rattle.texts.specs.PlacementTexts.{placed, placeLines, readPlacement, keyText}
 use Rattle.texts.specs.Counts.{countsFrom}
@@ -81,7 +83,7 @@ pub case-1-written
     0x32 ∷ 0x32 ∷ 0x30 ∷ 0x30 ∷ 0x30 ∷ 0x30 ∷ 0x0a ∷
     0x32 ∷ 0x32 ∷ 0x30 ∷ 0x31 ∷ 0x30 ∷ 0x31 ∷ 0x0a ∷
     0x32 ∷ 0x32 ∷ 0x30 ∷ 0x37 ∷ 0x30 ∷ 0x31 ∷ 0x0a ∷ [])
-unfolding programText readNest readLines linesOf frameOf keyText countsFrom
+unfolding programText readNest readLines linesOf frameOf keyText countsFrom gapsOf
 case-1-written = refl
 
 -- case 9: 01, 03, 02, 12000101
@@ -153,9 +155,67 @@ pub carried-of-three
 unfolding readNest readLines linesOf frameOf
 carried-of-three = refl
 
+-- 02, job 7: barred gaps stand anywhere among the dependences, and repeat
+abbrev bars-lines : List ℕ → List ℕ
+bars-lines f =
+    framesText
+    ((0x01 ∷ []) ∷ (0x03 ∷ []) ∷ (0x03 ∷ []) ∷ (0x02 ∷ []) ∷ (0x13 ∷ 0x02 ∷ []) ∷ (0x11 ∷ 0x01 ∷ 0x02 ∷ []) ∷
+    (0x13 ∷ 0x02 ∷ []) ∷ f ∷ [])
+
+pub bars-read
+    : readNest (bars-lines (0x12 ∷ 0x00 ∷ 0x02 ∷ 0x01 ∷ []))
+    ≡ got 0 0
+    (record {
+      points = 1 ∷ 3 ∷ 3 ∷ 2 ∷ [];
+      deps = dep INDEPENDENT 0 1 2 ∷ dep CARRIED 0 2 1 ∷ [];
+      barred = 2 ∷ 2 ∷ [];
+    })
+unfolding readNest readLines linesOf frameOf
+bars-read = refl
+
+-- a point behind them has number 3, a gap out of range 8, a frame of three bytes 2; before all points are there 4
+pub point-after-bar : readNest (bars-lines (0x03 ∷ [])) ≡ got 3 8 empty
+unfolding readNest readLines linesOf frameOf
+point-after-bar = refl
+
+pub bar-zero : readNest (bars-lines (0x13 ∷ 0x00 ∷ [])) ≡ got 8 8 empty
+unfolding readNest readLines linesOf frameOf
+bar-zero = refl
+
+pub bar-beyond : readNest (bars-lines (0x13 ∷ 0x04 ∷ [])) ≡ got 8 8 empty
+unfolding readNest readLines linesOf frameOf
+bar-beyond = refl
+
+pub bar-of-three : readNest (bars-lines (0x13 ∷ 0x01 ∷ 0x00 ∷ [])) ≡ got 2 8 empty
+unfolding readNest readLines linesOf frameOf
+bar-of-three = refl
+
+pub bar-first : readNest (framesText ((0x01 ∷ []) ∷ (0x13 ∷ 0x01 ∷ []) ∷ [])) ≡ got 4 2 empty
+unfolding readNest readLines linesOf frameOf
+bar-first = refl
+
+-- of several loops it has number 14, after 8; of one loop the 256th has number 5
+pub bar-of-P : readNest (P-lines ++ framesText ((0x13 ∷ 0x05 ∷ []) ∷ [])) ≡ got 14 21 empty
+unfolding readNest readLines linesOf frameOf
+bar-of-P = refl
+
+pub bar-beyond-P : readNest (P-lines ++ framesText ((0x13 ∷ 0x0e ∷ []) ∷ [])) ≡ got 8 21 empty
+unfolding readNest readLines linesOf frameOf
+bar-beyond-P = refl
+
+abbrev barring : ℕ → Nest
+barring k = record { points = 1 ∷ 3 ∷ 2 ∷ []; deps = []; barred = replicate k 1 }
+
+pub bars-255 : readNest (nestText (barring 255)) ≡ got 0 0 (barring 255)
+bars-255 = valid-accepted (barring 255) refl
+
+pub bar-256 : readNest (nestText (barring 256)) ≡ got 5 259 empty
+unfolding readNest readLines linesOf frameOf nestText pointPieces depPieces barPieces piecesText
+bar-256 = refl
+
 -- P's text is that of its pieces
 pub P-spelled : P-lines ≡ nestText P
-unfolding nestText pointPieces depPieces piecesText
+unfolding nestText pointPieces depPieces barPieces piecesText
 P-spelled = refl
 
 -- case 12: 256 points and 512 dependences are accepted; a 257th point with a loop still open, or a 513th dependence,
@@ -167,16 +227,16 @@ pub full-read : readNest (nestText full) ≡ got 0 0 full
 full-read = valid-accepted full refl
 
 pub point-257 : readNest (nestText (nest (1 ∷ replicate 256 3) [])) ≡ got 5 257 empty
-unfolding readNest readLines linesOf frameOf nestText pointPieces depPieces piecesText
+unfolding readNest readLines linesOf frameOf nestText pointPieces depPieces barPieces piecesText
 point-257 = refl
 
 pub dependence-513
     : readNest (nestText (nest (1 ∷ 3 ∷ 3 ∷ 2 ∷ []) (replicate 513 (dep INDEPENDENT 0 1 2)))) ≡ got 5 517 empty
-unfolding readNest readLines linesOf frameOf nestText pointPieces depPieces piecesText
+unfolding readNest readLines linesOf frameOf nestText pointPieces depPieces barPieces piecesText
 dependence-513 = refl
 
 pub point-after : readNest (nestText (nest (1 ∷ 2 ∷ 3 ∷ []) [])) ≡ got 4 3 empty
-unfolding readNest readLines linesOf frameOf nestText pointPieces depPieces piecesText
+unfolding readNest readLines linesOf frameOf nestText pointPieces depPieces barPieces piecesText
 point-after = refl
 
 -- loops 8 deep are accepted, 9 deep have number 5
@@ -187,17 +247,26 @@ pub deep-8 : readNest (nestText deep) ≡ got 0 0 deep
 deep-8 = valid-accepted deep refl
 
 pub deep-9 : readNest (nestText (nest (replicate 9 1 ++ replicate 9 2) [])) ≡ got 5 9 empty
-unfolding readNest readLines linesOf frameOf nestText pointPieces depPieces piecesText
+unfolding readNest readLines linesOf frameOf nestText pointPieces depPieces barPieces piecesText
 deep-9 = refl
 
 -- case 13: gap 13 of P is accepted, 14 has number 8; the key of P needs 10 bytes
-pub gap-13 : readPlacement (length (P .points)) (keyText (13 ∷ [])) ≡ placed 0 0 (13 ∷ [])
+pub gap-13 : readPlacement (length (P .points)) (P .barred) (keyText (13 ∷ [])) ≡ placed 0 0 (13 ∷ [])
 unfolding readPlacement placeLines keyText linesOf frameOf
 gap-13 = refl
 
-pub gap-14 : readPlacement (length (P .points)) (keyText (14 ∷ [])) ≡ placed 8 1 []
+pub gap-14 : readPlacement (length (P .points)) (P .barred) (keyText (14 ∷ [])) ≡ placed 8 1 []
 unfolding readPlacement placeLines keyText linesOf frameOf
 gap-14 = refl
+
+-- 02, job 7: a barred gap has number 16, after 8
+pub gap-barred : readPlacement 4 (2 ∷ 2 ∷ []) (keyText (1 ∷ 2 ∷ [])) ≡ placed 16 2 []
+unfolding readPlacement placeLines keyText linesOf frameOf
+gap-barred = refl
+
+pub gap-barred-again : readPlacement 4 (2 ∷ 2 ∷ []) (keyText (3 ∷ 2 ∷ [])) ≡ placed 8 2 []
+unfolding readPlacement placeLines keyText linesOf frameOf
+gap-barred-again = refl
 
 pub key-bytes : length (keyText (5 ∷ 11 ∷ [])) ≡ 10
 unfolding keyText

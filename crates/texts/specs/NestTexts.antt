@@ -1,4 +1,4 @@
--- Nest texts: read line by line with refusals 1 to 7, and spelled, a frame a line.
+-- Nest texts: read line by line with refusals 1 to 8 and 14, and spelled, a frame a line.
 -- Main definitions: `readNest`, `blank`, `Spells`, `Means`, `nestText`.
 use mathlib.Core.Path.{_≡_}
 use mathlib.Core.Bool.{true, not}
@@ -12,9 +12,10 @@ use Rattle.nests.specs.Nests.{Dep, Nest, nest, empty}
 use Rattle.nests.specs.Loops.{isClosed}
 use Rattle.nests.specs.Valid.{isValid}
 use Rattle.lines.specs.Lines.{Line, linesOf, isGood, frameOf}
-use Rattle.texts.specs.Pieces.{Piece, Point, Depend, pieceOf, toldFault, withTold, piecesText, isOrdered, madeOf}
+use Rattle.texts.specs.Pieces.{Piece, Point, Depend, Bar, pieceOf, toldFault, withTold, piecesText, isOrdered}
+use Rattle.texts.specs.Pieces.{madeOf}
 
--- 2 to 7 for a frame; 0 for none
+-- 2 to 8 and 14 for a frame; 0 for none
 abbrev pub frameFault : Nest → List ℕ → ℕ
 frameFault n f = toldFault n (pieceOf f)
 
@@ -22,7 +23,7 @@ frameFault n f = toldFault n (pieceOf f)
 abbrev pub withFrame : Nest → List ℕ → Nest
 withFrame n f = withTold n (pieceOf f)
 
--- 1 to 7 for a line; 0 for none
+-- 1 to 8 and 14 for a line; 0 for none
 abbrev pub lineFault : Nest → Line → ℕ
 lineFault n l = firstOf (when (not (isGood l)) 1) (frameFault n (frameOf (l .bytes)))
 
@@ -66,7 +67,7 @@ pub record Spells (s : List ℕ) (n : Nest) : Type 0 where
 abbrev pub Means : List ℕ → Nest → Type 0
 Means s n = ((s ≡ []) × (n ≡ blank)) ⊎ Spells s n
 
--- 01, "Text": the spelling of a nest, all points, then all dependences
+-- 01, "Text": a spelling of a nest, all points, then all dependences, then all barred gaps
 unfoldable pub pointPieces : List ℕ → List Piece
 pointPieces [] = []
 pointPieces (p ∷ ps) = Point p ∷ pointPieces ps
@@ -75,8 +76,12 @@ unfoldable pub depPieces : List Dep → List Piece
 depPieces [] = []
 depPieces (e ∷ es) = Depend e ∷ depPieces es
 
+unfoldable pub barPieces : List ℕ → List Piece
+barPieces [] = []
+barPieces (g ∷ gs) = Bar g ∷ barPieces gs
+
 abbrev pub piecesOf : Nest → List Piece
-piecesOf n = pointPieces (n .points) ++ depPieces (n .deps)
+piecesOf n = pointPieces (n .points) ++ (depPieces (n .deps) ++ barPieces (n .barred))
 
 unfoldable pub nestText : Nest → List ℕ
 nestText n = piecesText (piecesOf n)

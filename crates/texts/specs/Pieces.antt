@@ -8,15 +8,16 @@ use Prim.Native.Nat.{ℕ}
 use lib.Dec.{eqb, leb}
 use lib.ListN.{length, getD}
 use Rattle.laws.specs.Choice.{pick, when, firstOf, between}
-use Rattle.nests.specs.Kinds.{DO, STATEMENT, INDEPENDENT, CARRIED, POINTS, DEPTH, DEPENDENCES}
-use Rattle.nests.specs.Nests.{Dep, dep, Nest, empty, withPoint, withDep}
+use Rattle.nests.specs.Kinds.{DO, STATEMENT, INDEPENDENT, CARRIED, BARRED, POINTS, DEPTH, DEPENDENCES, BARS}
+use Rattle.nests.specs.Nests.{Dep, dep, Nest, empty, withPoint, withDep, withBar}
 use Rattle.nests.specs.Loops.{depth, isClosed}
-use Rattle.nests.specs.Valid.{depFault}
+use Rattle.nests.specs.Valid.{depFault, barFault}
 use Rattle.lines.specs.Lines.{lineText}
 
 pub data Piece : Type 0 where
   Point : ℕ → Piece
   Depend : Dep → Piece
+  Bar : ℕ → Piece
 
 -- what a frame tells: a piece, or nothing that is known
 pub data Told : Type 0 where
@@ -26,8 +27,8 @@ pub data Told : Type 0 where
 abbrev pub isPoint : ℕ → Bool
 isPoint k = between DO k STATEMENT
 
--- 01, "Text": a point is one byte alone, an independent dependence 11 s t, a carried one 12 d s t; by the kind byte k,
--- the length and the bytes after the kind
+-- 01, "Text": a point is one byte alone, an independent dependence 11 s t, a carried one 12 d s t; 02, job 7: a barred
+-- gap is 13 g; by the kind byte k, the length and the bytes after the kind
 abbrev pub pieceBy : ℕ → ℕ → ℕ → ℕ → ℕ → Told
 pieceBy k long a b c =
     pick
@@ -36,7 +37,10 @@ pieceBy k long a b c =
     (pick
     (eqb k INDEPENDENT && eqb long 3)
     (told (Depend (dep INDEPENDENT 0 a b)))
-    (pick (eqb k CARRIED && eqb long 4) (told (Depend (dep CARRIED a b c))) unknown))
+    (pick
+    (eqb k CARRIED && eqb long 4)
+    (told (Depend (dep CARRIED a b c)))
+    (pick (eqb k BARRED && eqb long 2) (told (Bar a)) unknown)))
 
 abbrev pub pieceOf : List ℕ → Told
 pieceOf f = pieceBy (getD f 0 0) (length f) (getD f 1 0) (getD f 2 0) (getD f 3 0)
@@ -52,15 +56,17 @@ depFrame e =
 abbrev pub pieceFrame : Piece → List ℕ
 pieceFrame (Point k) = k ∷ []
 pieceFrame (Depend e) = depFrame e
+pieceFrame (Bar g) = BARRED ∷ (g ∷ [])
 
 -- points stand first
 abbrev pub isFirst : Piece → Bool
 isFirst (Point k) = true
 isFirst (Depend e) = false
+isFirst (Bar g) = false
 
 -- the nest has more than points
 abbrev pub isPast : Nest → Bool
-isPast n = leb 1 (length (n .deps))
+isPast n = leb 1 (length (n .deps)) || leb 1 (length (n .barred))
 
 -- 01, "Numbers from the input": 3, 4 and 5 for a point
 abbrev pub pointFault : Nest → ℕ → ℕ
@@ -78,10 +84,18 @@ dependenceFault n e =
     (when (not (isClosed (n .points))) 4)
     (firstOf (when (leb DEPENDENCES (length (n .deps))) 5) (depFault (n .points) e))
 
--- 3 to 7 for a piece, and 2 for what is not known; 0 for none
+-- 02, job 7: 4, 5, 8 and 14 for a barred gap
+abbrev pub barredFault : Nest → ℕ → ℕ
+barredFault n g =
+    firstOf
+    (when (not (isClosed (n .points))) 4)
+    (firstOf (when (leb BARS (length (n .barred))) 5) (barFault (n .points) g))
+
+-- 3 to 8 and 14 for a piece, and 2 for what is not known; 0 for none
 abbrev pub pieceFault : Nest → Piece → ℕ
 pieceFault n (Point k) = pointFault n k
 pieceFault n (Depend e) = dependenceFault n e
+pieceFault n (Bar g) = barredFault n g
 
 abbrev pub toldFault : Nest → Told → ℕ
 toldFault n (told x) = pieceFault n x
@@ -91,6 +105,7 @@ toldFault n unknown = 2
 abbrev pub withPiece : Nest → Piece → Nest
 withPiece n (Point k) = withPoint n k
 withPiece n (Depend e) = withDep n e
+withPiece n (Bar g) = withBar n g
 
 abbrev pub withTold : Nest → Told → Nest
 withTold n (told x) = withPiece n x
@@ -101,7 +116,7 @@ unfoldable pub piecesText : List Piece → List ℕ
 piecesText [] = []
 piecesText (x ∷ xs) = lineText (pieceFrame x) ++ piecesText xs
 
--- 01, "Text": all points, then all dependences
+-- 01, "Text": all points, then all dependences; 02, job 7: with barred gaps among these
 abbrev pub noFirst : List Piece → Bool
 noFirst [] = true
 noFirst (x ∷ xs) = not (isFirst x) && noFirst xs

@@ -5,7 +5,9 @@ use Prim.Native.Nat.{ℕ, _/_, _%_}
 use lib.Dec.{eqb, ltb}
 use lib.ListN.{length}
 use Rattle.laws.specs.Choice.{pick}
+use Rattle.nests.specs.Nests.{Nest}
 use Rattle.lines.specs.Lines.{lineText}
+use Rattle.barred.specs.Reduced.{isBlocked}
 use Rattle.texts.specs.NestTexts.{Got, readNest}
 use Rattle.texts.specs.PlacementTexts.{keyText}
 use Rattle.texts.specs.Counts.{countsText}
@@ -22,10 +24,14 @@ LONGEST = 8192
 abbrev pub refusalText : ℕ → ℕ → List ℕ
 refusalText number place = lineText (REFUSAL ∷ (number ∷ (place / 256 ∷ (place % 256 ∷ []))))
 
--- of a text that was read: the key's frames, then the counts; or the refusal
+-- of a nest that was loaded: the key's frames, then the counts; 02, job 7: Plan refuses a nest that is blocked
+abbrev pub plannedText : Nest → List ℕ → List ℕ
+plannedText n key = pick (isBlocked n) (refusalText 15 0) (keyText key ++ countsText n key)
+
+-- of a text that was read: the key and the counts of its nest, or the refusal
 abbrev pub answerText : Got → List ℕ → List ℕ
 answerText g key =
-    pick (eqb (g .number) 0) (keyText key ++ countsText (g .nest-is) key) (refusalText (g .number) (g .place))
+    pick (eqb (g .number) 0) (plannedText (g .nest-is) key) (refusalText (g .number) (g .place))
 
 -- 01, "The program": what is written for an input, with the key of its nest; input above 8,192 bytes gives 2f050000
 unfoldable pub programText : List ℕ → List ℕ → List ℕ

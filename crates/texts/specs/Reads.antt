@@ -1,6 +1,6 @@
 -- What the readers of whole texts promise, and what their steps promise of the nest so far.
--- Main definitions: `IsRead`, `IsPlaced`, `HasNumbers`, `KnowsEnds`, `toldIn`, `IsPiece`,
--- `PointFault`, `DependenceFault`.
+-- Main definitions: `IsRead`, `IsPlaced`, `HasNumbers`, `KnowsEnds`, `KnowsOne`, `toldIn`, `IsPiece`, `PointFault`,
+-- `DependenceFault`, `BarredFault`.
 use mathlib.Core.Path.{_≡_}
 use mathlib.Core.Bool.{Bool, _&&_, _||_, not}
 use mathlib.Core.List.{List, []}
@@ -11,6 +11,7 @@ use Rattle.nests.specs.Kinds.{DO, POINTS, DEPTH}
 use Rattle.laws.specs.Choice.{pick}
 use Rattle.nests.specs.Nests.{Nest, empty}
 use Rattle.nests.specs.Loops.{depth, HasEnds}
+use Rattle.nests.specs.Ring.{oneLoop}
 use Rattle.nests.specs.Stored.{depIn, nestIn, IsCounted}
 use Rattle.nests.specs.declared.Dependence.{Dependence}
 use Rattle.nests.specs.declared.Nest as DN
@@ -21,8 +22,8 @@ use Rattle.texts.specs.declared.Reading.{Reading}
 use Rattle.texts.specs.declared.PlacementReading.{PlacementReading}
 use Rattle.texts.specs.declared.Piece as DP
 use Rattle.texts.specs.declared.Piece.the-variants as PV
-use Rattle.texts.specs.Pieces.{Point, Depend, Told, told, unknown, pieceOf}
-use Rattle.texts.specs.Pieces.{pointFault, dependenceFault}
+use Rattle.texts.specs.Pieces.{Point, Depend, Bar, Told, told, unknown, pieceOf}
+use Rattle.texts.specs.Pieces.{pointFault, dependenceFault, barredFault}
 use Rattle.texts.specs.NestTexts.{got, readNest}
 use Rattle.texts.specs.PlacementTexts.{barrierFault, placed, readPlacement}
 
@@ -52,10 +53,11 @@ pub record EndedAs (n : DN.Nest) (deep line : ℕ) (r : Reading) : Type 0 where
       ≡ pick (closedBy (n .count) deep) (got 0 0 (nestIn n)) (got 4 line empty)
   pub counted : IsCounted (r .nest)
 
--- the numbers that the reader keeps of the nest so far: points, dependences, depth
-pub record HasNumbers (n : Nest) (count many deep : ℕ) : Type 0 where
+-- the numbers that the reader keeps of the nest so far: points, dependences, barred gaps, depth
+pub record HasNumbers (n : Nest) (count many bars deep : ℕ) : Type 0 where
   pub count-is : length (n .points) ≡ count
   pub many-is : length (n .deps) ≡ many
+  pub bars-is : length (n .barred) ≡ bars
   pub depth-is : depth (n .points) ≡ deep
 
 -- the table that the reader keeps: once all points are there, it has the ENDDO of every DO
@@ -63,32 +65,42 @@ pub record KnowsEnds (ps : List ℕ) (deep : ℕ) (ends : List ℕ) : Type 0 whe
   pub long : length ends ≡ POINTS
   pub has-ends : deep ≡ 0 → HasEnds ps ends
 
+-- and whether they are one loop
+abbrev pub KnowsOne : List ℕ → ℕ → Bool → Type 0
+KnowsOne ps deep single = deep ≡ 0 → single ≡ oneLoop ps
+
 -- the piece of the code as what the frame tells
 abbrev pub toldIn : DP.Piece → Told
 toldIn (PV.Point k) = told (Point k)
 toldIn (PV.Dependence e) = told (Depend (depIn e))
+toldIn (PV.Barred g) = told (Bar g)
 toldIn PV.Refused = unknown
 
 -- x is what the frame tells
 abbrev pub IsPiece : Frame → DP.Piece → Type 0
 IsPiece f x = (l : List ℕ) → IsFrame f l → toldIn x ≡ pieceOf l
 
--- r is the refusal of a point, a dependence, in each nest with these numbers
-abbrev pub PointFault : ℕ → ℕ → ℕ → ℕ → ℕ → Type 0
-PointFault count many deep kind r = (n : Nest) → HasNumbers n count many deep → r ≡ pointFault n kind
+-- r is the refusal of a point, a dependence, a barred gap, in each nest with these numbers
+abbrev pub PointFault : ℕ → ℕ → ℕ → ℕ → ℕ → ℕ → Type 0
+PointFault count many bars deep kind r = (n : Nest) → HasNumbers n count many bars deep → r ≡ pointFault n kind
 
 abbrev pub DependenceFault : List ℕ → ℕ → ℕ → Dependence → ℕ → Type 0
 DependenceFault ps many deep e r =
-    (n : Nest) → n .points ≡ ps → HasNumbers n (length ps) many deep → r ≡ dependenceFault n (depIn e)
+    (n : Nest) (bars : ℕ) →
+    n .points ≡ ps → HasNumbers n (length ps) many bars deep → r ≡ dependenceFault n (depIn e)
+
+abbrev pub BarredFault : List ℕ → ℕ → ℕ → ℕ → ℕ → Type 0
+BarredFault ps bars deep g r =
+    (n : Nest) (many : ℕ) → n .points ≡ ps → HasNumbers n (length ps) many bars deep → r ≡ barredFault n g
 
 -- the reading of a placement text: its number and line, and the gaps, of which there is none where the text is refused
-pub record IsPlaced (n : ℕ) (s : List ℕ) (r : PlacementReading) : Type 0 where
-  pub placed-is : placed (r .number) (r .line) (gapsIn (r .placement .words)) ≡ readPlacement n s
+pub record IsPlaced (n : ℕ) (bs s : List ℕ) (r : PlacementReading) : Type 0 where
+  pub placed-is : placed (r .number) (r .line) (gapsIn (r .placement .words)) ≡ readPlacement n bs s
 
 -- the reading of a refused placement text
 pub record UnplacedAs (number line : ℕ) (r : PlacementReading) : Type 0 where
   pub placed-is : placed (r .number) (r .line) (gapsIn (r .placement .words)) ≡ placed number line []
 
--- r is the refusal of a barrier after the gap `last`, of a nest with n points
-abbrev pub BarrierFault : ℕ → ℕ → Frame → ℕ → Type 0
-BarrierFault last n f r = (l : List ℕ) → IsFrame f l → r ≡ barrierFault last n l
+-- r is the refusal of a barrier after the gap `last`, of a nest with n points and the barred gaps bs
+abbrev pub BarrierFault : ℕ → ℕ → List ℕ → Frame → ℕ → Type 0
+BarrierFault last n bs f r = (l : List ℕ) → IsFrame f l → r ≡ barrierFault last n bs l

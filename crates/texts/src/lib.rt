@@ -6,10 +6,11 @@ ghost use Prim.Native.Nat.{_*_, _≤_};
 ghost use lib.ListN.{length, take};
 ghost use Rattle.nests.specs.Kinds.{POINTS};
 ghost use Rattle.nests.specs.Loops.{HasEnds};
+ghost use Rattle.nests.specs.Ring.{oneLoop};
 ghost use Rattle.nests.specs.Valid.{isShape};
 ghost use Rattle.nests.specs.Stored.{IsCounted};
 ghost use Rattle.texts.specs.Reads.{IsRead, RefusedAs, EndedAs, closedBy, misplacedBy, tooManyBy, PointFault};
-ghost use Rattle.texts.specs.Reads.{KnowsEnds, IsPiece, DependenceFault};
+ghost use Rattle.texts.specs.Reads.{KnowsEnds, KnowsOne, IsPiece, DependenceFault, BarredFault};
 ghost use Rattle.lines.specs.Writing.{over};
 ghost use Rattle.placements.specs.Placements.{areGapsFrom};
 ghost use Rattle.placements.specs.Words.{GAPS, gapsIn};
@@ -20,6 +21,7 @@ use lines::Frame;
 use lines::Read;
 use lines::put_frame;
 use lines::read_line;
+use nests::BARRED;
 use nests::CARRIED;
 use nests::DO;
 use nests::Dependence;
@@ -27,9 +29,11 @@ use nests::ENDDO;
 use nests::INDEPENDENT;
 use nests::Nest;
 use nests::STATEMENT;
+use nests::bar_fault;
 use nests::deeper;
 use nests::dep_fault;
 use nests::ends_of;
+use nests::is_one_loop;
 use placements::Placement;
 use placements::count_of;
 
@@ -47,10 +51,11 @@ pub struct PlacementReading {
     pub placement: Placement,
 }
 
-// What a frame of a nest text tells: a point, a dependence, or nothing that is known.
+// What a frame of a nest text tells: a point, a dependence, a barred gap, or nothing that is known.
 pub enum Piece {
     Point(u8),
     Dependence(Dependence),
+    Barred(u8),
     Refused,
 }
 
@@ -69,6 +74,7 @@ pub fn read_nest(text: &[u8]) -> Reading
     }
     let mut nest = Nest::empty();
     let mut ends = [0; Nest::POINTS];
+    let mut single = true;
     let mut depth: usize = 0;
     let mut at: usize = 0;
     let mut line: usize = 1;
@@ -85,7 +91,7 @@ pub fn read_nest(text: &[u8]) -> Reading
                 match piece {
                     Piece::Point(kind) => {
                         let count = nest.count;
-                        let number = point_fault(count, nest.many, depth, kind);
+                        let number = point_fault(count, nest.many, nest.bars, depth, kind);
                         if number != 0 {
                             return refused(number, here);
                         }
@@ -94,6 +100,7 @@ pub fn read_nest(text: &[u8]) -> Reading
                         depth = deeper(depth, kind);
                         if depth == 0 {
                             ends = ends_within(&nest.points, nest.count);
+                            single = is_single(&nest.points, nest.count);
                         }
                     }
                     Piece::Dependence(e) => {
@@ -112,6 +119,15 @@ pub fn read_nest(text: &[u8]) -> Reading
                         nest.deps[many] = e;
                         nest.many = many + 1;
                     }
+                    Piece::Barred(g) => {
+                        let bars = nest.bars;
+                        let number = barred_fault(&nest.points, single, nest.count, bars, depth, g);
+                        if number != 0 {
+                            return refused(number, here);
+                        }
+                        nest.barred[bars] = g;
+                        nest.bars = bars + 1;
+                    }
                     Piece::Refused => return refused(2, here),
                 }
             }
@@ -119,9 +135,9 @@ pub fn read_nest(text: &[u8]) -> Reading
     }
 }
 
-// Reads a placement text, for a nest with so many points, up to its first faulty line.
-pub fn read_placement(points: usize, text: &[u8]) -> PlacementReading
-    ensures { λ r. ⌜ IsPlaced points (now (text .entry)) r ⌝ }
+// Reads a placement text, for a nest with so many points and these barred gaps, up to its first faulty line.
+pub fn read_placement(points: usize, barred: Placement, text: &[u8]) -> PlacementReading
+    ensures { λ r. ⌜ IsPlaced points (gapsIn (barred .words)) (now (text .entry)) r ⌝ }
 {
     let mut placement = Placement::empty();
     let mut last: usize = 0;
@@ -137,7 +153,7 @@ pub fn read_placement(points: usize, text: &[u8]) -> PlacementReading
             },
             Read::Refused(number) => return unplaced(number, line),
             Read::Frame(f) => {
-                let number = barrier_fault(last, points, f);
+                let number = barrier_fault(last, points, barred, f);
                 if number != 0 {
                     return unplaced(number, line);
                 }
@@ -202,9 +218,9 @@ fn unplaced(number: u8, line: usize) -> PlacementReading
     }
 }
 
-// The refusal of a barrier after the gap `last`, 2 or 8, or 0 for none.
-fn barrier_fault(last: usize, points: usize, f: Frame) -> u8
-    ensures { λ r. ⌜ BarrierFault last points f r ⌝ }
+// The refusal of a barrier after the gap `last`, 2, 8 or 16, or 0 for none.
+fn barrier_fault(last: usize, points: usize, barred: Placement, f: Frame) -> u8
+    ensures { λ r. ⌜ BarrierFault last points (gapsIn (barred .words)) f r ⌝ }
 {
     let kind = f.kind;
     match kind {
@@ -216,6 +232,9 @@ fn barrier_fault(last: usize, points: usize, f: Frame) -> u8
                 }
                 if points <= g {
                     return 8;
+                }
+                if barred.holds(g) {
+                    return 16;
                 }
                 return 0;
             }
@@ -259,15 +278,24 @@ fn piece_of(f: Frame) -> Piece
             }
             Piece::Refused
         }
+        BARRED => {
+            if f.len == 2 {
+                return Piece::Barred(f.a);
+            }
+            Piece::Refused
+        }
         _ => Piece::Refused,
     }
 }
 
 // The refusal of a point, 3, 4 or 5, or 0 for none.
-fn point_fault(count: usize, many: usize, depth: usize, kind: u8) -> u8
-    ensures { λ r. ⌜ PointFault count many depth kind r ⌝ }
+fn point_fault(count: usize, many: usize, bars: usize, depth: usize, kind: u8) -> u8
+    ensures { λ r. ⌜ PointFault count many bars depth kind r ⌝ }
 {
     if 1 <= many {
+        return 3;
+    }
+    if 1 <= bars {
         return 3;
     }
     if is_misplaced(count, depth, kind) {
@@ -298,6 +326,22 @@ fn dependence_fault(
         }
         let points = &all[..count];
         return dep_fault(points, ends[e.d as usize], e);
+    }
+    4
+}
+
+// The refusal of a barred gap after the first points, 4, 5, 8 or 14, or 0 for none.
+fn barred_fault(all: &[u8], single: bool, count: usize, bars: usize, depth: usize, g: u8) -> u8
+    requires { ⌜ count ≤ length (now all) ⌝ }
+    requires { ⌜ KnowsOne (take count (now all)) depth single ⌝ }
+    ensures { λ r. ⌜ BarredFault (take count (now (all .entry))) bars depth g r ⌝ }
+{
+    if is_closed(count, depth) {
+        if Nest::BARS <= bars {
+            return 5;
+        }
+        let points = &all[..count];
+        return bar_fault(points, single, g);
     }
     4
 }
@@ -343,6 +387,15 @@ fn ends_within(all: &[u8], count: usize) -> [usize; Nest::POINTS]
 {
     let points = &all[..count];
     ends_of(points)
+}
+
+// The first points are those of one loop.
+fn is_single(all: &[u8], count: usize) -> bool
+    requires { ⌜ count ≤ length (now all) ⌝ }
+    ensures { λ r. ⌜ r ≡ oneLoop (take count (now (all .entry))) ⌝ }
+{
+    let points = &all[..count];
+    is_one_loop(points)
 }
 
 // The length of a placement's text.

@@ -110,7 +110,7 @@ pub fn gone_over_with(desk: Desk, text: &[u8]) -> Desk
     ensures { λ r. ⌜ IsMade r ⌝ }
 {
     let nest = desk.nest;
-    let reading = texts::read_placement(nest.count, text);
+    let reading = texts::read_placement(nest.count, barred::barred_of(nest), text);
     let key = reading.placement;
     desk::go_over(PlainDesk {
         loaded: desk.loaded,
@@ -125,6 +125,14 @@ pub fn is_refused(text: &[u8], number: u8, line: usize) -> bool {
     let empty = Desk::empty();
     let reply = desk::load_nest(empty, text);
     reply.number == number && reply.line == line
+}
+
+// Plan replies this number.
+pub fn plans(desk: Desk, number: u8) -> bool
+    requires { ⌜ IsMade desk ⌝ }
+{
+    let reply = desk::plan_key(desk);
+    reply.number == number && reply.line == 0
 }
 
 // The key's text is this.

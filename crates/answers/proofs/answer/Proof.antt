@@ -1,8 +1,12 @@
 -- `answer` meets its contract: too long, refused or accepted, each with the program's text (Answering).
+use mathlib.Core.Path.{_≡_, sym, _∙_}
+use mathlib.Core.Bool.{true}
+use native.Mathlib.Omega.{arith}
 use borrow.Author.Needs.{needs}
+use Rattle.nests.specs.Valid.{isValid}
 use Rattle.nests.specs.Stored.{nestIn}
-use Rattle.answers.proofs.Answering.{planned-gaps, line-fits, accepted-nest}
-use Rattle.answers.proofs.Answering.{answer-long, answer-refused, answer-key}
+use Rattle.answers.proofs.Answering.{key-gaps, line-fits, accepted-nest}
+use Rattle.answers.proofs.Answering.{answer-long, answer-refused, answer-blocked, answer-key}
 use Rattle.answers.proofs.answer.Statement.{statement}
 use Rattle.answers.proofs.answer.Tie as tie
 
@@ -49,8 +53,8 @@ returns-2 c =
     answer-refused (a .input .now) (b6 .if1 .left) (g .result) (g .ensures) (a .out .now) (w .last .1 .1 .0) (w .result)
     (b4 .if2 .taken) (w .ensures .0) (w .ensures .1)
 
-plan-requires : tie.Need-plan-requires
-plan-requires c κs =
+plan-paper-requires : tie.Need-plan-paper-requires
+plan-paper-requires c κs =
     let b1 = c .before in
     let b2 = b1 .before in
     let b3 = b2 .before in
@@ -60,37 +64,54 @@ plan-requires c κs =
       accepted-nest (b6 .args .input .now) (b3 .if1 .left) (g .result) (g .ensures) (b1 .if2 .left),
     )
 
-write-both-requires : tie.Need-write-both-requires
-write-both-requires c κs =
-    let b1 = c .before in
-    let b3 = b1 .before .before in
-    let b4 = b3 .before in
-    let b5 = b4 .before in
-    let b8 = b5 .before .before .before in
-    let g = b4 .read-nest in
-    let k = b1 .plan in
-    let v = accepted-nest (b8 .args .input .now) (b5 .if1 .left) (g .result) (g .ensures) (b3 .if2 .left) in (
-      g .ensures .counted,
-      (v, (planned-gaps (nestIn (g .result .nest)) (k .result .words) v (k .ensures), b8 .pre)),
-    )
+-- the nest that was read is valid, and the paper planned is its
+abbrev start : tie.After-plan-paper → tie.Start
+start q = q .before .before .before .before .before .before .before
+
+read-valid : (q : tie.After-plan-paper) → isValid (nestIn (q .before .before .before .read-nest .result .nest)) ≡ true
+read-valid q =
+    let g = q .before .before .before .read-nest in
+    accepted-nest (start q .args .input .now) (q .before .before .before .before .if1 .left) (g .result) (g .ensures) (q .before .before .if2 .left)
+
+write-refusal-requires-3 : tie.Need-write-refusal-requires-3
+write-refusal-requires-3 c κs = (omega arith, c .before .before .before .before .before .before .before .before .before .pre)
 
 same-length-3 : tie.Need-same-length-3
 same-length-3 c = search needs
 
 returns-3 : tie.Need-returns-3
 returns-3 c =
-    let b2 = c .before .before in
-    let b4 = b2 .before .before in
-    let b6 = b4 .before .before in
-    let b7 = b6 .before in
-    let b8 = b7 .before in
-    let b11 = b8 .before .before .before in
-    let a = b11 .args in
-    let g = b7 .read-nest in
-    let k = b4 .plan in
-    let w = b2 .write-both in
-    answer-key (a .input .now) (b8 .if1 .left) (g .result) (g .ensures) (a .out .now) (w .last .1 .1 .0) (w .result)
-    (k .result .words) (b6 .if2 .left) (k .ensures) (w .ensures .0) (w .ensures .1)
+    let q = c .before .before .before .before .before in
+    let a = start q .args in
+    let g = q .before .before .before .read-nest in
+    let w = c .before .before .write-refusal3 in
+    answer-blocked (a .input .now) (q .before .before .before .before .if1 .left) (g .result) (g .ensures) (a .out .now) (w .last .1 .1 .0)
+    (w .result) (q .before .before .if2 .left) (sym (q .plan-paper .ensures .blocked-is) ∙ c .before .before .before .before .if3 .taken)
+    (w .ensures .0) (w .ensures .1)
+
+write-both-requires : tie.Need-write-both-requires
+write-both-requires c κs =
+    let q = c .before .before .before in
+    let g = q .before .before .before .read-nest in
+    let k = q .plan-paper in
+    let o = sym (k .ensures .blocked-is) ∙ c .before .before .if3 .left in (
+      g .ensures .counted,
+      (read-valid q, (key-gaps (nestIn (g .result .nest)) (k .result .key .words) (read-valid q) (rw o at (k .ensures .key-is)), c .before .before .before .before .before .before .before .before .before .before .pre)),
+    )
+
+same-length-4 : tie.Need-same-length-4
+same-length-4 c = search needs
+
+returns-4 : tie.Need-returns-4
+returns-4 c =
+    let q = c .before .before .before .before .before .before in
+    let a = start q .args in
+    let g = q .before .before .before .read-nest in
+    let k = q .plan-paper in
+    let o = sym (k .ensures .blocked-is) ∙ c .before .before .before .before .before .if3 .left in
+    let w = c .before .before .write-both in
+    answer-key (a .input .now) (q .before .before .before .before .if1 .left) (g .result) (g .ensures) (a .out .now) (w .last .1 .1 .0) (w .result)
+    (k .result .key .words) (q .before .before .if2 .left) o (rw o at (k .ensures .key-is)) (w .ensures .0) (w .ensures .1)
 
 pub answer-spec : {M : Type 1} → statement M
 answer-spec =
@@ -103,7 +124,10 @@ answer-spec =
     write-refusal-requires-2
     same-length-2
     returns-2
-    plan-requires
-    write-both-requires
+    plan-paper-requires
+    write-refusal-requires-3
     same-length-3
-    returns-3)
+    returns-3
+    write-both-requires
+    same-length-4
+    returns-4)

@@ -27,10 +27,10 @@ tested q =
     q .is-closed .ensures ∙ ap (λ (k : ℕ). closedBy k (s .args .depth)) (sym long)
 
 returns : tie.Need-returns
-returns c n p h =
+returns c n bars p h =
     let a = c .before .before .before .before .before .args in
     let closed = sym (tested (c .before .before)) ∙ c .before .if1 .taken in
-    dependence-full n _ (a .many) (a .depth) h (depIn (a .e)) closed (c .if2 .taken)
+    dependence-full n _ (a .many) bars (a .depth) h (depIn (a .e)) closed (c .if2 .taken)
 
 slice-aggregate-points : tie.Need-slice-aggregate-points
 slice-aggregate-points c =
@@ -58,20 +58,20 @@ dep-fault-requires c κs carried starts =
     s .pre .1 .has-ends (closed-deep (length ps) (s .args .depth) closed) (s .args .e .d) starts
 
 returns-2 : tie.Need-returns-2
-returns-2 c n p h =
+returns-2 c n bars p h =
     let b4 = c .before .before .before .before in
     let q = b4 .before .before in
     let a = q .before .before .before .args in
     let closed = sym (tested q) ∙ b4 .before .if1 .taken in
     c .dep-fault .ensures
     ∙ ap (λ (ps : List ℕ). depFault ps (depIn (a .e))) (sym p)
-    ∙ dependence-own n _ (a .many) (a .depth) h (depIn (a .e)) closed (b4 .if2 .left)
+    ∙ dependence-own n _ (a .many) bars (a .depth) h (depIn (a .e)) closed (b4 .if2 .left)
 
 returns-3 : tie.Need-returns-3
-returns-3 c n p h =
+returns-3 c n bars p h =
     let a = c .before .before .before .before .args in
     let closed = sym (tested (c .before)) ∙ c .if1 .left in
-    dependence-open n _ (a .many) (a .depth) h (depIn (a .e)) closed
+    dependence-open n _ (a .many) bars (a .depth) h (depIn (a .e)) closed
 
 pub dependence-fault-spec : {M : Type 1} → statement M
 dependence-fault-spec =

@@ -5,18 +5,19 @@ use Prim.Native.Nat.{_-_, _<_}
 use native.Mathlib.Omega.{arith}
 use lib.ListN.{length, length-set}
 use borrow.Author.Needs.{needs}
-use Rattle.nests.specs.Kinds.{POINTS, DEPENDENCES}
+use Rattle.nests.specs.Kinds.{POINTS, DEPENDENCES, BARS}
 use Rattle.texts.proofs.Loading.{Loading, Turn, at-blank, begun, count-inside, deep-fits, at-end, at-refusal}
-use Rattle.texts.proofs.Loading.{at-unknown, at-point, at-dependence, room-for-point, room-for-dependence}
-use Rattle.texts.proofs.Loading.{next-inside, on-point, on-dependence}
+use Rattle.texts.proofs.Loading.{at-unknown, at-point, at-dependence, at-barred, room-for-point}
+use Rattle.texts.proofs.Loading.{room-for-dependence, room-for-bar, next-inside, on-point, on-dependence, on-bar}
 use Rattle.texts.proofs.read_nest.Statement.{statement}
 use Rattle.texts.proofs.read_nest.Tie as tie
 
 abbrev Inv-loop : tie.InvT-loop
-Inv-loop text nest₀ ends₀ depth₀ at₀ line₀ nest ends depth at line = Loading text nest ends depth at line
+Inv-loop text nest₀ ends₀ single₀ depth₀ at₀ line₀ nest ends single depth at line =
+    Loading text nest ends single depth at line
 
 abbrev μ-loop : tie.MeasureT-loop
-μ-loop text nest₀ ends₀ depth₀ at₀ line₀ nest ends depth at line = length text - at
+μ-loop text nest₀ ends₀ single₀ depth₀ at₀ line₀ nest ends single depth at line = length text - at
 
 blank-requires : tie.Need-blank-requires Inv-loop μ-loop
 blank-requires c κs = tt
@@ -30,7 +31,7 @@ empty-requires c κs = tt
 loop-holds : tie.Need-loop-holds Inv-loop μ-loop
 loop-holds c =
     let s = c .before .before .before in
-    begun (s .args .text .now) (c .empty .result) _ (omega arith) (c .empty .ensures) (search needs) refl
+    begun (s .args .text .now) (c .empty .result) _ (omega arith) (c .empty .ensures) (search needs) (search needs) refl
 
 read-line-requires : tie.Need-read-line-requires Inv-loop μ-loop
 read-line-requires c κs = tt
@@ -50,6 +51,7 @@ returns-2 c =
     (s .args .text .now)
     (l .nest)
     (l .ends)
+    (l .single)
     (l .depth)
     (l .at)
     (l .line)
@@ -74,6 +76,7 @@ returns-3 c =
     (s .args .text .now)
     (l .nest)
     (l .ends)
+    (l .single)
     (l .depth)
     (l .at)
     (l .line)
@@ -105,7 +108,7 @@ turn
     → let l = head k .loop in
     let s = head k .before .before .before .before in
     let f = k .before .before .next2 .given .0 .0 in
-    Turn (s .args .text .now) (l .nest) (l .ends) (l .depth) (l .at) (l .line) f (k .piece-of .result)
+    Turn (s .args .text .now) (l .nest) (l .ends) (l .single) (l .depth) (l .at) (l .line) f (k .piece-of .result)
 turn k =
     let r = k .before .before .before .before in
     record {
@@ -114,12 +117,15 @@ turn k =
       piece-is = k .piece-of .ensures;
     }
 
--- what is told before the refusal of a point, of a dependence
+-- what is told before the refusal of a point, of a dependence, of a barred gap
 abbrev point : tie.After-point-fault Inv-loop μ-loop → tie.After-piece-of Inv-loop μ-loop
 point q = q .before .before .before .before
 
 abbrev dependence : tie.After-dependence-fault Inv-loop μ-loop → tie.After-piece-of Inv-loop μ-loop
 dependence q = q .before .before .before .before .before .before .before .before
+
+abbrev barred : tie.After-barred-fault Inv-loop μ-loop → tie.After-piece-of Inv-loop μ-loop
+barred q = q .before .before .before .before .before .before .before
 
 enum-known-piece : tie.Need-enum-known-piece Inv-loop μ-loop
 enum-known-piece c = c .match2 .keys1
@@ -155,7 +161,7 @@ deeper-requires c κs =
     let a = head (point (c .before)) in
     let l = a .loop in
     let s = a .before .before .before .before in
-    deep-fits (s .args .text .now) (l .nest) (l .ends) (l .depth) (l .at) (l .line) (l .inv)
+    deep-fits (s .args .text .now) (l .nest) (l .ends) (l .single) (l .depth) (l .at) (l .line) (l .inv)
 
 ends-within-requires : tie.Need-ends-within-requires Inv-loop μ-loop
 ends-within-requires c κs =
@@ -165,21 +171,31 @@ ends-within-requires c κs =
     let same = length-set (l .nest .points) (l .nest .count) (t .before .before .before .piece .given .0 .0) in
     (omega (arith, few, l .inv .wide, same), omega (arith, few))
 
+is-single-requires : tie.Need-is-single-requires Inv-loop μ-loop
+is-single-requires c κs =
+    let t = c .before .before .before .before .before .before .before .before .before in
+    let l = head (point (t .before)) .loop in
+    let few = point-fits t in
+    let same = length-set (l .nest .points) (l .nest .count) (t .before .before .before .piece .given .0 .0) in
+    omega (arith, few, l .inv .wide, same)
+
 loop-less : tie.Need-loop-less Inv-loop μ-loop
 loop-less c =
-    let q = c .before .before .before .before .before .before .before in
+    let q = c .before .before .before .before .before .before .before .before .before .before .before in
     let n = next-inside (turn (point q)) in
     omega (arith, n .0, n .1)
 
 loop-again : tie.Need-loop-again Inv-loop μ-loop
 loop-again c =
-    let d = c .before .before .before .before .before in
+    let e = c .before .before .before .before in
+    let d = e .before .before .before .before .before in
     let t = d .before in
     let q = t .before in
     let is = q .before .before .piece .given .1 in
     on-point (turn (point q)) _ (q .point-fault .result) is (q .point-fault .ensures)
-    (c .ends-within .result) (d .deeper .result) (t .if2 .left) (d .deeper .ensures)
-    (record { long = search needs; has-ends = λ z. c .ends-within .ensures })
+    (e .ends-within .result) (c .is-single .result) (d .deeper .result) (t .if2 .left) (d .deeper .ensures)
+    (record { long = search needs; has-ends = λ z. e .ends-within .ensures })
+    (λ z. c .is-single .ensures)
 
 loop-less-2 : tie.Need-loop-less-2 Inv-loop μ-loop
 loop-less-2 c =
@@ -195,8 +211,9 @@ loop-again-2 c =
     let l = head (point q) .loop in
     let is = q .before .before .piece .given .1 in
     on-point (turn (point q)) _ (q .point-fault .result) is (q .point-fault .ensures)
-    (l .ends) (d .deeper .result) (t .if2 .left) (d .deeper .ensures)
+    (l .ends) (l .single) (d .deeper .result) (t .if2 .left) (d .deeper .ensures)
     (record { long = l .inv .knows .long; has-ends = λ z. absurd (c .if3 .left z) })
+    (λ z. absurd (c .if3 .left z))
 
 enum-known-piece-2 : tie.Need-enum-known-piece-2 Inv-loop μ-loop
 enum-known-piece-2 c = c .match2 .keys2
@@ -211,7 +228,7 @@ dependence-fault-requires c κs =
     let a = head (c .before .before .before .before .before .before .before) in
     let l = a .loop in
     let s = a .before .before .before .before in (
-      count-inside (s .args .text .now) (l .nest) (l .ends) (l .depth) (l .at) (l .line) (l .inv),
+      count-inside (s .args .text .now) (l .nest) (l .ends) (l .single) (l .depth) (l .at) (l .line) (l .inv),
       l .inv .knows,
     )
 
@@ -254,16 +271,63 @@ loop-again-3 c =
     let is = q .before .before .before .before .before .before .piece2 .given .1 in
     on-dependence (turn (dependence q)) _ (q .dependence-fault .result) is (q .dependence-fault .ensures) (c .if4 .left)
 
-enum-told-2 : tie.Need-enum-told-2 Inv-loop μ-loop
-enum-told-2 c = c .match2 .keys3
+enum-known-piece-3 : tie.Need-enum-known-piece-3 Inv-loop μ-loop
+enum-known-piece-3 c = c .match2 .keys3
+
+barred-fault-requires : tie.Need-barred-fault-requires Inv-loop μ-loop
+barred-fault-requires c κs =
+    let a = head (c .before .before .before .before .before .before) in
+    let l = a .loop in
+    let s = a .before .before .before .before in (
+      count-inside (s .args .text .now) (l .nest) (l .ends) (l .single) (l .depth) (l .at) (l .line) (l .inv),
+      l .inv .knows-one,
+    )
 
 refused-requires-4 : tie.Need-refused-requires-4 Inv-loop μ-loop
 refused-requires-4 c κs = tt
 
 returns-6 : tie.Need-returns-6 Inv-loop μ-loop
 returns-6 c =
+    let q = c .before .before in
+    let is = q .before .before .before .before .before .piece3 .given .1 in
+    at-barred (turn (barred q)) _ (q .barred-fault .result) is (q .barred-fault .ensures)
+    (c .refused4 .result) (c .before .if5 .taken) (c .refused4 .ensures)
+
+-- a barred gap has room
+bar-fits : (c : tie.Else5 Inv-loop μ-loop) → head (barred (c .before)) .loop .nest .bars < BARS
+bar-fits c =
+    let q = c .before in
+    let is = q .before .before .before .before .before .piece3 .given .1 in
+    room-for-bar (turn (barred q)) _ (q .barred-fault .result) is (q .barred-fault .ensures) (c .if5 .left)
+
+element-write-nest-2 : tie.Need-element-write-nest-2 Inv-loop μ-loop
+element-write-nest-2 c = bar-fits c
+
+add-nest-3 : tie.Need-add-nest-3 Inv-loop μ-loop
+add-nest-3 c = omega (arith, bar-fits c)
+
+loop-less-4 : tie.Need-loop-less-4 Inv-loop μ-loop
+loop-less-4 c =
+    let q = c .before in
+    let n = next-inside (turn (barred q)) in
+    omega (arith, n .0, n .1)
+
+loop-again-4 : tie.Need-loop-again-4 Inv-loop μ-loop
+loop-again-4 c =
+    let q = c .before in
+    let is = q .before .before .before .before .before .piece3 .given .1 in
+    on-bar (turn (barred q)) _ (q .barred-fault .result) is (q .barred-fault .ensures) (c .if5 .left)
+
+enum-told-2 : tie.Need-enum-told-2 Inv-loop μ-loop
+enum-told-2 c = c .match2 .keys4
+
+refused-requires-5 : tie.Need-refused-requires-5 Inv-loop μ-loop
+refused-requires-5 c κs = tt
+
+returns-7 : tie.Need-returns-7 Inv-loop μ-loop
+returns-7 c =
     let k = c .before .before .before in
-    at-unknown (turn k) (c .refused4 .result) (c .before .enum-told2 .given .1) (c .refused4 .ensures)
+    at-unknown (turn k) (c .refused5 .result) (c .before .enum-told2 .given .1) (c .refused5 .ensures)
 
 pub read-nest-spec : {M : Type 1} → statement M
 read-nest-spec =
@@ -293,6 +357,7 @@ read-nest-spec =
     add-nest
     deeper-requires
     ends-within-requires
+    is-single-requires
     loop-less
     loop-again
     loop-less-2
@@ -307,6 +372,14 @@ read-nest-spec =
     add-nest-2
     loop-less-3
     loop-again-3
-    enum-told-2
+    enum-known-piece-3
+    barred-fault-requires
     refused-requires-4
-    returns-6)
+    returns-6
+    element-write-nest-2
+    add-nest-3
+    loop-less-4
+    loop-again-4
+    enum-told-2
+    refused-requires-5
+    returns-7)

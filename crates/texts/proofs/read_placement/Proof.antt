@@ -4,16 +4,17 @@ use mathlib.Core.Path.{sym, _∙_}
 use Prim.Native.Nat.{_-_}
 use native.Mathlib.Omega.{arith}
 use lib.ListN.{length}
+use Rattle.placements.specs.Words.{gapsIn}
 use Rattle.texts.proofs.Placing.{Placing, placing, placed-all, placed-bad, placed-fault, next-inside, place-on}
 use Rattle.texts.proofs.read_placement.Statement.{statement}
 use Rattle.texts.proofs.read_placement.Tie as tie
 
 abbrev Inv-loop : tie.InvT-loop
-Inv-loop points text placement₀ last₀ at₀ line₀ placement last at line =
-    Placing points text (placement .words) last at line
+Inv-loop points barred text placement₀ last₀ at₀ line₀ placement last at line =
+    Placing points (gapsIn (barred .words)) text (placement .words) last at line
 
 abbrev μ-loop : tie.MeasureT-loop
-μ-loop points text placement₀ last₀ at₀ line₀ placement last at line = length text - at
+μ-loop points barred text placement₀ last₀ at₀ line₀ placement last at line = length text - at
 
 empty-requires : tie.Need-empty-requires Inv-loop μ-loop
 empty-requires c κs = tt
@@ -21,7 +22,7 @@ empty-requires c κs = tt
 loop-holds : tie.Need-loop-holds Inv-loop μ-loop
 loop-holds c =
     let s = c .before .before in
-    placing (s .args .points) (s .args .text .now) (c .empty .result .words) (c .empty .ensures)
+    placing (s .args .points) (gapsIn (s .args .barred .words)) (s .args .text .now) (c .empty .result .words) (c .empty .ensures)
 
 read-line-requires : tie.Need-read-line-requires Inv-loop μ-loop
 read-line-requires c κs = tt
@@ -39,6 +40,7 @@ returns c =
       placed-is =
           placed-all
           (s .args .points)
+          (gapsIn (s .args .barred .words))
           (s .args .text .now)
           (l .placement .words)
           (l .last)
@@ -62,6 +64,7 @@ returns-2 c =
     let s = r .before .before .before .before in
     placed-bad
     (s .args .points)
+    (gapsIn (s .args .barred .words))
     (s .args .text .now)
     (l .placement .words)
     (l .last)
@@ -91,6 +94,7 @@ returns-3 c =
     let s = r .before .before .before .before in
     placed-fault
     (s .args .points)
+    (gapsIn (s .args .barred .words))
     (s .args .text .now)
     (l .placement .words)
     (l .last)
@@ -127,6 +131,7 @@ loop-less c =
     let s = r .before .before .before .before in
     let n = next-inside
     (s .args .points)
+    (gapsIn (s .args .barred .words))
     (s .args .text .now)
     (l .placement .words)
     (l .last)
@@ -148,6 +153,7 @@ loop-again c =
     let s = r .before .before .before .before in
     place-on
     (s .args .points)
+    (gapsIn (s .args .barred .words))
     (s .args .text .now)
     (l .placement .words)
     (l .last)
