@@ -24,7 +24,7 @@ use Rattle.planner.proofs.Claim.{count}
 use Rattle.exchange.proofs.Totals.{total, total-same, total-put}
 use Rattle.exchange.proofs.Prices.{Prices, callsAt, calls}
 use Rattle.keys.proofs.Predicates.{memberOf, list-count}
-use Rattle.calls.specs.Calls.{turnsOf, timesAt, callsOf, turnsFit}
+use Rattle.calls.specs.Calls.{INNER, OUTER, turnsOf, timesAt, callsIn, callsOf, turnsFit}
 use Rattle.calls.proofs.Turns.{turns-least}
 use Rattle.calls.proofs.Times.{times-own, times-do}
 
@@ -81,7 +81,7 @@ module _ (n : Nest) (shape : isShape (n .points) ≡ true) (ts : List ℕ) where
 
   calls-from : (last : ℕ) (gs : List ℕ) → areGapsFrom last (length ps) gs ≡ true →
       callsOf n ts gs ≡ total (atLoop n ts gs) (endOf ps 0)
-  unfolding callsOf
+  unfolding callsIn
   calls-from last [] h = sym (none-at (endOf ps 0))
   calls-from last (g ∷ gs) h = go (rises last (length ps) g gs h) (calls-from g gs)
     where
@@ -134,5 +134,5 @@ module _ (n : Nest) (shape : isShape (n .points) ≡ true) (ts : List ℕ) where
       twice l h i =
           let e : timesAt ps ts l ≡ priceOf ps ts (ownerOf ps l) = times-own ps shape ts l i (point-in ps l 0 h) in
           let t : 2 * timesAt ps ts l ≤ turnsOf ps ts l * timesAt ps ts l =
-          mul-le-mul-right (timesAt ps ts l) (turns-least n shape ts fit l h i) in
+          mul-le-mul-right (timesAt ps ts l) (turns-least OUTER INNER ps ts fit shape l h i) in
           omega (arith, times-do ps shape ts l h)

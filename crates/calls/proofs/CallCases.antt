@@ -15,7 +15,7 @@ use Rattle.planner.specs.Sweep.{childSome, someOf, costOf, frontOf, leftOf, cho
 use Rattle.planner.specs.Plan.{tableOf, tableFrom, withRow, noTables}
 use Rattle.planner.specs.Plan as Plan
 use Rattle.keys.specs.KeyOf.{plainKey, keyOf}
-use Rattle.calls.specs.Calls.{CALLS, dosBefore, timesFrom, callsOf, turnsFit}
+use Rattle.calls.specs.Calls.{CALLS, dosBefore, timesFrom, callsIn, callsOf, turnsFit}
 
 -- 01 03 01 03 03 03 02 03 02 with 110104, 110307
 abbrev pub paper-once : Nest
@@ -33,7 +33,7 @@ pub record Worked : Type 0 where
 pub worked-calls : Worked
 unfolding plainKey keyOf gapsOf keyIn leastEnd reachOf limitOf hasAt Plan.keyOf tableOf tableFrom withRow noTables
     needOf put stepPlain seek free inner outer childAt stepChild next step walk sweep close value least better best
-    childSome someOf costOf frontOf leftOf choiceOf layOf dosBefore timesFrom callsOf
+    childSome someOf costOf frontOf leftOf choiceOf layOf dosBefore timesFrom callsIn
 worked-calls =
     record {
       valid = refl;
@@ -47,7 +47,7 @@ worked-calls =
 -- with one turn inside the key has more: two turns are needed
 pub once-fewer :
     (callsOf paper-once (1 ∷ 1 ∷ []) (2 ∷ 7 ∷ []) ≡ 2) × (callsOf paper-once (1 ∷ 1 ∷ []) (4 ∷ []) ≡ 1)
-unfolding dosBefore timesFrom callsOf
+unfolding dosBefore timesFrom callsIn
 once-fewer = (refl, refl)
 
 -- turns that fit the nest, and lists that do not: of 1 inside, of 0, of 17, one too short, one too long

@@ -1,6 +1,6 @@
--- Turns that fit: each loop has its own, at most 16, and every loop but the outermost at least 2.
--- Main statements: `fit-is`, `turns-most`, `turns-least`.
-use mathlib.Core.Path.{_≡_}
+-- Turns that fit: each loop has its own, at most 16, and every loop but the outermost at least the lower bound.
+-- Main statements: `dos-at`, `each-turn`, `fit-is`, `fit-lower`, `in-list`, `turns-most`, `turns-least`.
+use mathlib.Core.Path.{_≡_, refl}
 use mathlib.Core.Bool.{true}
 use mathlib.Core.List.{List, [], _∷_}
 use mathlib.Core.Logic.{_⊎_, inl, inr}
@@ -10,18 +10,17 @@ use lib.Dec.{eqb}
 use lib.ListN.{length, getD}
 use borrow.Author.Tests.{eqb-true}
 use Rattle.laws.specs.Choice.{between}
-use Rattle.laws.proofs.Tests.{eq-or, and-true}
-use Rattle.laws.proofs.Ranges.{in-between}
-use Rattle.nests.specs.Nests.{Nest}
+use Rattle.laws.proofs.Tests.{eq-or, and-true, and-intro}
+use Rattle.laws.proofs.Ranges.{in-between, between-in}
 use Rattle.nests.specs.Loops.{isDo}
 use Rattle.nests.specs.Valid.{isShape}
 use Rattle.nests.proofs.Levels.{starts-with-do, point-in}
-use Rattle.calls.specs.Calls.{TURNS, INNER, OUTER, dosBefore, turnsOf, areTurns, turnsFit}
+use Rattle.calls.specs.Calls.{TURNS, dosBefore, turnsOf, areTurns, fitIn}
 
 -- ---- the DOs before a point
 
 -- a DO counts after itself
-dos-at : (ps : List ℕ) (d k : ℕ) → isDo ps d ≡ true → d < k → dosBefore ps d < dosBefore ps k
+pub dos-at : (ps : List ℕ) (d k : ℕ) → isDo ps d ≡ true → d < k → dosBefore ps d < dosBefore ps k
 unfolding dosBefore
 dos-at ps d zero h l = absurd (omega arith)
 dos-at ps d (suc k) h l = go (eq-or d k) (dos-at ps d k h)
@@ -35,7 +34,7 @@ dos-at ps d (suc k) h l = go (eq-or d k) (dos-at ps d k h)
 -- ---- the list
 
 -- one of them: within its bounds
-each-turn : (low : ℕ) (ts : List ℕ) → areTurns low low ts ≡ true → (i : ℕ) → i < length ts →
+pub each-turn : (low : ℕ) (ts : List ℕ) → areTurns low low ts ≡ true → (i : ℕ) → i < length ts →
     (low ≤ getD ts i 1) × (getD ts i 1 ≤ TURNS)
 each-turn low [] h i l = absurd (omega arith)
 each-turn low (t ∷ ts) h zero l = in-between low t TURNS (and-true (between low t TURNS) (areTurns low low ts) h .0)
@@ -59,31 +58,43 @@ module _ (first inner : ℕ) where
 
 -- ---- of a nest
 
-pub record Fits (n : Nest) (ts : List ℕ) : Type 0 where
-  pub as-many : length ts ≡ dosBefore (n .points) (length (n .points))
-  pub bounds : areTurns OUTER INNER ts ≡ true
+pub record Fits (first inner : ℕ) (ps ts : List ℕ) : Type 0 where
+  pub as-many : length ts ≡ dosBefore ps (length ps)
+  pub bounds : areTurns first inner ts ≡ true
 
-pub fit-is : (n : Nest) (ts : List ℕ) → turnsFit n ts ≡ true → Fits n ts
-fit-is n ts h =
-    let many = dosBefore (n .points) (length (n .points)) in
-    let z = and-true (eqb (length ts) many) (areTurns OUTER INNER ts) h in
+pub fit-is : (first inner : ℕ) (ps ts : List ℕ) → fitIn first inner ps ts ≡ true → Fits first inner ps ts
+fit-is first inner ps ts h =
+    let many = dosBefore ps (length ps) in
+    let z = and-true (eqb (length ts) many) (areTurns first inner ts) h in
     record { as-many = eqb-true (length ts) many (z .0); bounds = z .1 }
 
-module _ (n : Nest) (shape : isShape (n .points) ≡ true) (ts : List ℕ) (fit : turnsFit n ts ≡ true) where
-  in-list : (d : ℕ) → isDo (n .points) d ≡ true → dosBefore (n .points) d < length ts
-  in-list d h =
-      omega (
-        arith,
-        fit-is n ts fit .as-many,
-        dos-at (n .points) d (length (n .points)) h (point-in (n .points) d 0 h),
-      )
+-- lower bounds may be dropped
+lower-turns : (a b : ℕ) (ts : List ℕ) → areTurns a b ts ≡ true → areTurns 0 0 ts ≡ true
+lower-turns a b [] h = refl
+lower-turns a b (t ∷ ts) h =
+    let z = and-true (between a t TURNS) (areTurns b b ts) h in
+    and-intro
+    (between-in 0 t TURNS (omega arith) (in-between a t TURNS (z .0) .1))
+    (lower-turns b b ts (z .1))
 
-  pub turns-most : (d : ℕ) → isDo (n .points) d ≡ true → turnsOf (n .points) ts d ≤ TURNS
-  turns-most d h = list-most OUTER INNER ts (fit-is n ts fit .bounds) (dosBefore (n .points) d) (in-list d h)
+pub fit-lower : (a b : ℕ) (ps ts : List ℕ) → fitIn a b ps ts ≡ true → fitIn 0 0 ps ts ≡ true
+fit-lower a b ps ts h =
+    let many = dosBefore ps (length ps) in
+    let z = and-true (eqb (length ts) many) (areTurns a b ts) h in
+    and-intro (z .0) (lower-turns a b ts (z .1))
 
-  pub turns-least : (d : ℕ) → isDo (n .points) d ≡ true → 0 < d → INNER ≤ turnsOf (n .points) ts d
-  turns-least d h l = list-least OUTER INNER ts (fit-is n ts fit .bounds) (dosBefore (n .points) d) later (in-list d h)
+module _ (first inner : ℕ) (ps ts : List ℕ) (fit : fitIn first inner ps ts ≡ true) where
+  -- a loop's turns are in the list
+  pub in-list : (d : ℕ) → isDo ps d ≡ true → dosBefore ps d < length ts
+  in-list d h = omega (arith, fit-is first inner ps ts fit .as-many, dos-at ps d (length ps) h (point-in ps d 0 h))
+
+  pub turns-most : (d : ℕ) → isDo ps d ≡ true → turnsOf ps ts d ≤ TURNS
+  turns-most d h = list-most first inner ts (fit-is first inner ps ts fit .bounds) (dosBefore ps d) (in-list d h)
+
+  pub turns-least : isShape ps ≡ true → (d : ℕ) → isDo ps d ≡ true → 0 < d → inner ≤ turnsOf ps ts d
+  turns-least shape d h l =
+      list-least first inner ts (fit-is first inner ps ts fit .bounds) (dosBefore ps d) later (in-list d h)
     where
       -- the outermost loop's DO stands before
-      later : 0 < dosBefore (n .points) d
-      later = omega (arith, dos-at (n .points) 0 d (starts-with-do (n .points) shape) l)
+      later : 0 < dosBefore ps d
+      later = omega (arith, dos-at ps 0 d (starts-with-do ps shape) l)

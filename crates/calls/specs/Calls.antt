@@ -1,5 +1,5 @@
 -- Barrier calls in a run: each barrier counts the product of the turns of the loops around it.
--- Main definitions: `turnsOf`, `timesAt`, `callsOf`, `turnsFit`, `CALLS`.
+-- Main definitions: `turnsOf`, `timesAt`, `callsIn`, `callsOf`, `fitIn`, `turnsFit`, `CALLS`.
 use mathlib.Core.Bool.{Bool, true, _&&_}
 use mathlib.Core.List.{List, [], _∷_}
 use Prim.Native.Nat.{ℕ, zero, suc, _+_, _-_, _*_, _^_}
@@ -41,9 +41,12 @@ abbrev pub timesAt : List ℕ → List ℕ → ℕ → ℕ
 timesAt ps ts g = timesFrom ps ts g g
 
 -- a placement's barrier calls
-unfoldable pub callsOf : Nest → List ℕ → List ℕ → ℕ
-callsOf n ts [] = 0
-callsOf n ts (g ∷ gs) = timesAt (n .points) ts g + callsOf n ts gs
+unfoldable pub callsIn : List ℕ → List ℕ → List ℕ → ℕ
+callsIn ps ts [] = 0
+callsIn ps ts (g ∷ gs) = timesAt ps ts g + callsIn ps ts gs
+
+abbrev pub callsOf : Nest → List ℕ → List ℕ → ℕ
+callsOf n ts gs = callsIn (n .points) ts gs
 
 -- the most calls of a placement: a barrier at every gap of the longest nest, each under the most loops
 abbrev pub CALLS : ℕ
@@ -54,6 +57,9 @@ abbrev pub areTurns : ℕ → ℕ → List ℕ → Bool
 areTurns first inner [] = true
 areTurns first inner (t ∷ ts) = between first t TURNS && areTurns inner inner ts
 
--- as many turns as there are loops
+-- as many turns as there are loops, within their bounds
+abbrev pub fitIn : ℕ → ℕ → List ℕ → List ℕ → Bool
+fitIn first inner ps ts = eqb (length ts) (dosBefore ps (length ps)) && areTurns first inner ts
+
 abbrev pub turnsFit : Nest → List ℕ → Bool
-turnsFit n ts = eqb (length ts) (dosBefore (n .points) (length (n .points))) && areTurns OUTER INNER ts
+turnsFit n ts = fitIn OUTER INNER (n .points) ts

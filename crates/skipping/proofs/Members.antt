@@ -1,0 +1,68 @@
+-- The list of the listed loops, and the flagged loops as bits.
+-- Main statements: `in-listed`, `in-listed-iff`; `flag-dos`, `in-words`, `own-flags`.
+use mathlib.Core.Path.{_≡_, sym, ap, _∙_}
+use mathlib.Core.Bool.{Bool, true, false}
+use mathlib.Core.List.{List, [], append-nil}
+use mathlib.Core.Logic.{_↔_, ⊎-elim}
+use Prim.Native.Nat.{ℕ, _+_, _-_, _≤_, _<_}
+use native.Mathlib.Omega.{arith}
+use lib.ListN.{length}
+use Rattle.laws.specs.Choice.{isIn}
+use Rattle.laws.proofs.Tests.{le-or, false-by, never-both}
+use Rattle.nests.specs.Nests.{Dep}
+use Rattle.nests.proofs.Levels.{point-in}
+use Rattle.placements.specs.Words.{GAPS, holds, gapsOf, gapsIn}
+use Rattle.placements.proofs.Words.{gapsOf-in, gapsOf-to, gapsOf-add, gapsOf-none, in-gaps, in-gaps-beyond}
+use Rattle.skipping.specs.Foreign.{AreFlags}
+use Rattle.skipping.specs.Listed.{isListed, listedOf, NeedsBarrier}
+use Rattle.skipping.specs.Says.{AreDos, FlagBits}
+use Rattle.skipping.proofs.Foreign.{foreign-flagged}
+use Rattle.skipping.proofs.Listed.{listed-iff}
+
+-- where none is left behind k, the list ends there
+pub gaps-up-to :
+    (x : ℕ → Bool) (k n : ℕ) → k ≤ n → ((d : ℕ) → k ≤ d → d < n → x d ≡ false) → gapsOf x n 0 ≡ gapsOf x k 0
+gaps-up-to x k n h none =
+    let past : gapsOf x (n - k) (0 + k) ≡ [] =
+    gapsOf-none x (n - k) (0 + k) (λ d a l. none d (omega arith) (omega arith)) in
+    ap (λ (j : ℕ). gapsOf x j 0) (omega arith) ∙ gapsOf-add x k (n - k) 0 ∙ rw past (append-nil (gapsOf x k 0))
+
+module _ (ps : List ℕ) (ds : List Dep) (fs gs : List ℕ) (flags : AreFlags ps fs) where
+  -- a listed loop is one of the points
+  pub listed-below : (d : ℕ) → length ps ≤ d → isListed ps ds fs gs d ≡ false
+  listed-below d h = false-by λ z.
+      let n = listed-iff ps fs gs ds d .0 z in
+      omega (arith, point-in ps d 0 (flags d (foreign-flagged ps fs (n .dep) d (n .foreign))))
+
+  -- the list has the listed loops
+  pub in-listed : (d : ℕ) → isIn d (listedOf ps ds fs gs) ≡ isListed ps ds fs gs d
+  unfolding listedOf
+  in-listed d = ⊎-elim
+      (λ (z : length ps ≤ d).
+      gapsOf-to (isListed ps ds fs gs) (length ps) 0 d (omega arith) ∙ sym (listed-below d z))
+      (λ (z : d < length ps). gapsOf-in (isListed ps ds fs gs) (length ps) 0 d (omega arith) (omega arith))
+      (le-or (length ps) d)
+
+  pub in-listed-iff : (d : ℕ) → (isIn d (listedOf ps ds fs gs) ≡ true) ↔ NeedsBarrier ps ds fs gs d
+  in-listed-iff d =
+      let z = listed-iff ps fs gs ds d in
+      (λ h. z .0 (sym (in-listed d) ∙ h), λ n. in-listed d ∙ z .1 n)
+
+-- flagged bits are DOs
+pub flag-dos : (ps fs ws : List ℕ) → FlagBits ps fs ws → AreDos ps ws
+flag-dos ps fs ws f d l h = f .flags d (sym (f .bits-are d l) ∙ h)
+
+-- a member of the words' list is a bit of the words
+pub in-words : (ws : List ℕ) (d : ℕ) → isIn d (gapsIn ws) ≡ true → (d < GAPS) × (holds ws d ≡ true)
+in-words ws d h = ⊎-elim
+    (λ (z : GAPS ≤ d). never-both h (in-gaps-beyond ws d z))
+    (λ (z : d < GAPS). (z, sym (in-gaps ws d z) ∙ h))
+    (le-or GAPS d)
+
+-- words that are DOs have the flagged loops of their own list
+pub own-flags : (ps ws : List ℕ) → AreDos ps ws → FlagBits ps (gapsIn ws) ws
+own-flags ps ws dos =
+    record {
+      flags = λ d h. let z = in-words ws d h in dos d (z .0) (z .1);
+      bits-are = λ d l. sym (in-gaps ws d l);
+    }

@@ -1,0 +1,2 @@
+-- Tables of a run: how often the gaps of each loop are passed.
+pub mod Prices

@@ -1,0 +1,120 @@
+// Turns of a nest's loops: whether a list of them fits, and how many barrier calls a placement has under them.
+ghost use mathlib.Core.Path.{_≡_};
+ghost use mathlib.Core.Bool.{true};
+ghost use Prim.Native.Nat.{_<_, _≤_};
+ghost use lib.ListN.{length};
+ghost use Rattle.laws.specs.Choice.{when};
+ghost use Rattle.nests.specs.Kinds.{POINTS};
+ghost use Rattle.nests.specs.Valid.{isShape};
+ghost use Rattle.placements.specs.Placements.{areGapsFrom};
+ghost use Rattle.placements.specs.Words.{GAPS, holds, gapsIn};
+ghost use Rattle.calls.specs.Calls.{dosBefore, areTurns, fitIn, callsIn};
+ghost use Rattle.owners.specs.Tables.{OwnersAre};
+ghost use Rattle.turns.specs.Prices.{PricesAre};
+use nests::Nest;
+use owners::owners_of;
+use placements::Placement;
+
+// The most turns of a loop, and the fewest of one inside another and of the outermost.
+pub const MOST: u8 = 16;
+
+pub const INNER: u8 = 2;
+
+pub const OUTER: u8 = 1;
+
+// As many turns as there are loops, the first from `first`, the others from `inner`, none above 16.
+pub fn turns_fit(points: &[u8], turns: &[u8], first: u8, inner: u8) -> bool
+    ensures { λ r. ⌜ r ≡ fitIn first inner (now (points .entry)) (now (turns .entry)) ⌝ }
+{
+    if turns.len() == loops_in(points) {
+        return are_turns(turns, first, inner);
+    }
+    false
+}
+
+// The placement's barrier calls: each barrier counts the product of the turns of the loops around it.
+pub fn calls_of(points: &[u8], p: Placement, turns: &[u8]) -> u64
+    requires { ⌜ (isShape (now points) ≡ true) × (length (now points) ≤ POINTS) ⌝ }
+    requires { ⌜ areGapsFrom 0 (length (now points)) (gapsIn (p .words)) ≡ true ⌝ }
+    requires { ⌜ fitIn 0 0 (now points) (now turns) ≡ true ⌝ }
+    ensures { λ r. ⌜ r ≡ callsIn (now (points .entry)) (now (turns .entry)) (gapsIn (p .words)) ⌝ }
+{
+    let owners = owners_of(points);
+    let prices = prices_of(points, &owners, turns);
+    let mut calls: u64 = 0;
+    let mut g: usize = 0;
+    while g < points.len() {
+        let d = owners[g];
+        calls += called(p, g, prices[d]);
+        g += 1;
+    }
+    calls
+}
+
+// How many loops there are.
+fn loops_in(points: &[u8]) -> usize
+    ensures { λ r. ⌜ r ≡ dosBefore (now (points .entry)) (length (now (points .entry))) ⌝ }
+{
+    let mut loops: usize = 0;
+    let mut d: usize = 0;
+    while d < points.len() {
+        if points[d] == nests::DO {
+            loops += 1;
+            d += 1;
+        } else {
+            d += 1;
+        }
+    }
+    loops
+}
+
+// All turns are within their bounds.
+fn are_turns(turns: &[u8], first: u8, inner: u8) -> bool
+    ensures { λ r. ⌜ r ≡ areTurns first inner (now (turns .entry)) ⌝ }
+{
+    let mut low = first;
+    let mut i: usize = 0;
+    while i < turns.len() {
+        let t = turns[i];
+        if t < low {
+            return false;
+        }
+        if MOST < t {
+            return false;
+        }
+        low = inner;
+        i += 1;
+    }
+    true
+}
+
+// How often a barrier at a loop's own gaps is called, by the loop's DO.
+fn prices_of(points: &[u8], owners: &[usize], turns: &[u8]) -> [u64; Nest::POINTS]
+    requires { ⌜ (isShape (now points) ≡ true) × (length (now points) ≤ POINTS) ⌝ }
+    requires { ⌜ (OwnersAre (now points) (now owners)) × (length (now owners) ≡ POINTS) ⌝ }
+    requires { ⌜ fitIn 0 0 (now points) (now turns) ≡ true ⌝ }
+    ensures { λ r. ⌜ PricesAre (now (points .entry)) (now (turns .entry)) r ⌝ }
+{
+    let mut prices = [1; Nest::POINTS];
+    let mut next: usize = 0;
+    let mut d: usize = 0;
+    while d < points.len() {
+        if points[d] == nests::DO {
+            let around = owners[d];
+            prices[d] = turns[next] as u64 * prices[around];
+            next += 1;
+            d += 1;
+        } else {
+            d += 1;
+        }
+    }
+    prices
+}
+
+// The price where the placement holds the gap, else 0.
+fn called(p: Placement, g: usize, price: u64) -> u64
+    requires { ⌜ g < GAPS ⌝ }
+    ensures { λ r. ⌜ r ≡ when (holds (p .words) g) price ⌝ }
+{
+    if p.holds(g) { price } else { 0 }
+}
