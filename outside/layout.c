@@ -66,6 +66,10 @@ AT(DeskMark, verdict, 16, 1);
 AT(DeskMark, a, 24, 8);
 AT(DeskMark, b, 32, 8);
 AT(DeskMark, c, 40, 8);
+SIZE(DeskChosen, 48);
+AT(DeskChosen, number, 0, 1);
+AT(DeskChosen, line, 8, 8);
+AT(DeskChosen, gaps, 16, 32);
 
 static int passed, failed;
 
@@ -117,6 +121,7 @@ static void sizes(Desk desk, DeskPlain plain) {
     GIVES(OnNumber, desk_lift, sizeof(DeskMoved), room, desk, 5);
     GIVES(OnDesk, desk_take_back, sizeof(DeskMoved), room, desk);
     GIVES(OnPlain, desk_go_over, sizeof(Desk), room, plain);
+    GIVES(OnDesk, desk_textbook, sizeof(DeskChosen), room, desk);
 }
 
 static void fields(Desk desk) {
@@ -150,6 +155,8 @@ static void barred(Desk desk) {
     desk = desk_plan(desk).desk;
     that("key beside barred gaps", desk.planned && desk.key.words[0] == (1u << 3 | 1u << 5));
     that("Put of a barred gap", desk_put(desk, 4).number == 16);
+    DeskChosen chosen = desk_textbook(desk);
+    that("textbook", chosen.number == 0 && chosen.gaps.words[0] == (1u << 3 | 1u << 6) && chosen.gaps.words[3] == 0);
     DeskPlain plain = {.loaded = true, .nest = desk.nest, .planned = true};
     desk = desk_go_over(plain);
     that("gone over", desk.planned && desk.nest.bars == 3 && desk.key.words[0] == (1u << 3 | 1u << 5));

@@ -20,8 +20,8 @@
     11   no key
     12   Put of a gap that is there, Lift of one that is not
     13   no move to take back
-    14   a barred gap in a nest of more than one loop
-    15   Plan of a nest in which some dependence has all its gaps barred: it has no key
+    14   a barred gap in a nest of more than one loop; the textbook method of such a nest
+    15   Plan, or the textbook method, of a nest in which some dependence has all its gaps barred: it has no key
     16   a barred gap in a placement text, or Put of one
 
    A text or a buffer is lent as a pointer and a length in bytes. A thread with a stack of 160 KiB has room for every
@@ -131,6 +131,13 @@ typedef struct DeskMoved {
     Desk desk;
 } DeskMoved;
 
+/* A set of gaps, empty where the call is refused. */
+typedef struct DeskChosen {
+    uint8_t number;
+    size_t line;
+    DeskPlacement gaps;
+} DeskChosen;
+
 /* DESK_UNCUT: dependence a, from 0, is the first that is uncut. DESK_DEARER: loop a has b barriers, and c in the key.
    All that is not named is 0. */
 typedef struct DeskMark {
@@ -173,6 +180,10 @@ DeskMoved desk_take_back(Desk desk);
 
 /* Writes the candidate's barriers as a placement text, as desk_write writes the key. Numbers 10, 9. */
 DeskAnswer desk_sitting(Desk desk, uint8_t *out, size_t length);
+
+/* The placement of the textbook method for a nest of one loop: each gap is tried as a first barrier, the line behind it is
+   cut greedily, and the smallest result is kept. It has as many barriers as the key. Numbers 10, 14, 15. */
+DeskChosen desk_textbook(Desk desk);
 
 /* A desk in use goes over from the kind before sittings: the nest is kept, the sitting is empty, and where there was a
    key it is worked out anew, unless Plan would refuse. `old` has a nest that desk_load accepted, or none (count, many

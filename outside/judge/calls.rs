@@ -2,6 +2,7 @@
 
 use crate::host::{self, Desk, Placement, PlainDesk, WORDS};
 use crate::texts::shown;
+use crate::textbook;
 
 /// A call with what is lent to it: a text, a list, a buffer. Over takes the desk's nest as a desk of the kind before
 /// sittings, with a key or not, and other words in the key's place where some are given.
@@ -20,6 +21,7 @@ pub enum Call {
     TakeBack,
     Sitting(Vec<u8>),
     Over(bool, Option<[u64; WORDS]>),
+    Textbook,
 }
 
 impl Call {
@@ -38,6 +40,7 @@ impl Call {
             Call::TakeBack => "take back",
             Call::Sitting(_) => "sitting",
             Call::Over(..) => "go over",
+            Call::Textbook => "textbook",
         }
     }
 
@@ -57,6 +60,13 @@ impl Call {
 /// What a call answered: number, line, the values of its reply in order; what was lent, with the bytes around it.
 #[derive(Clone, Debug, PartialEq)]
 pub struct Reply { pub number: u8, pub line: usize, pub values: Vec<usize>, pub lent: Vec<u8> }
+
+impl From<host::Chosen> for Reply {
+    fn from(c: host::Chosen) -> Reply {
+        let values = c.gaps.words.iter().map(|&word| word as usize).collect();
+        Reply { number: c.number, line: c.line, values, lent: Vec::new() }
+    }
+}
 
 /// Bytes that stand before and behind whatever is lent.
 const GUARD: [u8; 16] = *b"<-- not lent -->";
@@ -112,6 +122,7 @@ pub fn play(desk: &mut Desk, call: &Call) -> Reply {
                 *desk = host::desk_go_over(PlainDesk { loaded, nest, planned, key });
                 reply(0, 0, &[])
             }
+            Call::Textbook => textbook::play(*desk),
         }
     }
 }

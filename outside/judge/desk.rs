@@ -5,6 +5,7 @@ use crate::calls::{guarded, Call, Reply};
 use crate::host::{self, gaps_of, KEPT};
 use crate::nests::*;
 use crate::order::{first_key, mark, Mark};
+use crate::textbook;
 use crate::texts::{line, read_nest, read_placement};
 use std::collections::{BTreeSet, VecDeque};
 
@@ -87,6 +88,7 @@ impl Desk {
                 *self = Desk { nest, ..Desk::new() };
                 if *planned { self.plan(); }
             }
+            Call::Textbook => (number, values) = textbook::answer(self.nest.as_ref()),
         }
         Reply { number, line, values, lent }
     }

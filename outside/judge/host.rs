@@ -62,6 +62,9 @@ pub struct Moved { pub number: u8, pub line: usize, pub uncut: usize, pub desk: 
 #[repr(C)]
 pub struct Mark { pub number: u8, pub line: usize, pub verdict: u8, pub a: usize, pub b: usize, pub c: usize }
 
+#[repr(C)]
+pub struct Chosen { pub number: u8, pub line: usize, pub gaps: Placement }
+
 extern "C" {
     pub fn desk_new() -> Desk;
     pub fn desk_reset(desk: Desk) -> Desk;
@@ -76,6 +79,12 @@ extern "C" {
     pub fn desk_take_back(desk: Desk) -> Moved;
     pub fn desk_sitting(desk: Desk, out: *mut u8, length: usize) -> Answer;
     pub fn desk_go_over(old: PlainDesk) -> Desk;
+    pub fn desk_textbook(desk: Desk) -> Chosen;
+}
+
+/// A set of gaps as four words.
+pub fn words_of(gaps: &[usize]) -> Vec<usize> {
+    (0..WORDS).map(|word| gaps.iter().filter(|&g| g / 64 == word).fold(0, |bits, g| bits | 1 << (g % 64))).collect()
 }
 
 /// The gaps of four words, rising.

@@ -102,11 +102,12 @@ fn random_call(random: &mut Random, desk: &Desk, mix: Mix, edges: &[Vec<u8>]) ->
 }
 
 fn random_ask(random: &mut Random, desk: &Desk) -> Call {
-    match random.below(10) {
+    match random.below(11) {
         0 => Call::Count(random_point(random, desk)),
         1 | 2 => Call::Write(buffer(random, desk.key().len())),
         3 => Call::Sitting(buffer(random, desk.sitting.len())),
         4..=6 => Call::List(list(random, desk)),
+        7 => Call::Textbook,
         _ => Call::Mark(placement_text(random, desk)),
     }
 }

@@ -8,6 +8,7 @@ use crate::nests::*;
 use crate::order::*;
 use crate::papers::*;
 use crate::program::*;
+use crate::textbook::check_textbook;
 use crate::texts::*;
 
 pub struct Checks { passed: usize, failed: usize }
@@ -30,6 +31,7 @@ pub fn self_check() -> bool {
     check_first(&mut checks);
     check_desk(&mut checks);
     check_barred(&mut checks);
+    check_textbook(&mut checks);
     (0..400).for_each(|case| check_random(&mut checks, &mut Random::new(7, case)));
     finish(checks.passed, checks.failed)
 }

@@ -1,5 +1,5 @@
 -- What the public calls promise: reply, desk after, every lent byte.
--- Main definitions: `EmptySays`, `LoadSays`, `PlanSays`, `CountSays`, `MarkSays`, `WriteSays`, `OverSays`.
+-- Main definitions: `EmptySays`, `LoadSays`, `PlanSays`, `ChosenSays`, `CountSays`, `MarkSays`, `WriteSays`, `OverSays`.
 use mathlib.Core.Path.{_≡_}
 use mathlib.Core.Bool.{Bool, true, false, not}
 use mathlib.Core.List.{List, [], _∷_}
@@ -12,6 +12,7 @@ use Rattle.nests.specs.Loops.{isDo}
 use Rattle.nests.specs.Stored.{nestIn, IsCounted}
 use Rattle.lines.specs.Writing.{over}
 use Rattle.placements.specs.Placements.{loopCount}
+use Rattle.placements.specs.Words.{gapsIn}
 use Rattle.placements.specs.Verdicts.{Verdict, Uncut, Dearer, Best, markOf}
 use Rattle.sitting.specs.Kept.{Kept}
 use Rattle.moves.specs.Ring.{IsRing}
@@ -21,6 +22,7 @@ use Rattle.desk.specs.declared.Desk as DD
 use Rattle.desk.specs.declared.PlainDesk as OD
 use Rattle.desk.specs.declared.Reply as DR
 use Rattle.desk.specs.declared.Answer as DA
+use Rattle.desk.specs.declared.Chosen as DC
 use Rattle.desk.specs.declared.Marked as DM
 use Rattle.desk.specs.declared.Verdict as DV
 use Rattle.desk.specs.declared.Verdict.the-variants as VV
@@ -60,6 +62,17 @@ pub record RefusedAs (number : ℕ) (r : DA.Answer) : Type 0 where
   pub number-is : r .number ≡ number
   pub line-is : r .line ≡ 0
   pub value-is : r .value ≡ 0
+
+-- a reply that chooses nothing, and one that chooses a set
+pub record NotChosen (number : ℕ) (r : DC.Chosen) : Type 0 where
+  pub number-is : r .number ≡ number
+  pub line-is : r .line ≡ 0
+  pub gaps-are : gapsIn (r .gaps .words) ≡ []
+
+pub record ChosenSays (number : ℕ) (gs : List ℕ) (r : DC.Chosen) : Type 0 where
+  pub number-is : r .number ≡ number
+  pub line-is : r .line ≡ 0
+  pub gaps-are : gapsIn (r .gaps .words) ≡ pick (eqb number 0) gs []
 
 -- Count: 10, 11, 6; the loop's count in the key
 abbrev pub countFault : Desk → ℕ → ℕ

@@ -10,7 +10,7 @@ ghost use Rattle.placements.specs.Placements.{areGaps};
 ghost use Rattle.placements.specs.Words.{gapsIn};
 ghost use Rattle.placements.specs.Verdicts.{markOf};
 ghost use Rattle.desk.specs.Says.{EmptySays, LoadSays, PlanSays, CountSays, MarkSays, WriteSays, OverSays};
-ghost use Rattle.desk.specs.Says.{RefusedAs, verdictIn};
+ghost use Rattle.desk.specs.Says.{RefusedAs, NotChosen, verdictIn};
 use moves::Moves;
 use nests::Nest;
 use placements::Compared;
@@ -53,6 +53,14 @@ pub struct Answer {
     pub number: u8,
     pub line: usize,
     pub value: usize,
+}
+
+// The number and the line of a refusal, 0 and 0 for none, and a set of gaps or of DOs.
+#[repr(C)]
+pub struct Chosen {
+    pub number: u8,
+    pub line: usize,
+    pub gaps: Placement,
 }
 
 // The number and the line of a refusal.
@@ -295,5 +303,16 @@ pub fn refused(number: u8) -> Answer
         number: number,
         line: 0,
         value: 0,
+    }
+}
+
+// The reply that chooses nothing.
+pub fn not_chosen(number: u8) -> Chosen
+    ensures { λ r. ⌜ NotChosen number r ⌝ }
+{
+    Chosen {
+        number: number,
+        line: 0,
+        gaps: Placement::empty(),
     }
 }

@@ -4,11 +4,13 @@ ghost use Rattle.desk.specs.Desks.{IsMade, IsMadePlain};
 ghost use Rattle.desk.specs.Says.{EmptySays, LoadSays, PlanSays, CountSays, WriteSays, ListSays, OverSays};
 ghost use Rattle.desk.specs.Says.{markIn, verdictIn};
 ghost use Rattle.screen.specs.Says.{PutSays, LiftSays, BackSays};
+ghost use Rattle.textbook.specs.Says.{TextbookSays};
 ghost use Rattle.host.specs.Says.{MarkSays, SittingSays};
 ghost use Rattle.host.specs.Marks.{coded, markOut, verdictOut};
 ghost use Rattle.host.specs.Records.{recordsOf};
 ghost use mathlib.Core.Path.{_≡_};
 use desk::Answer;
+use desk::Chosen;
 use desk::Desk;
 use desk::Marked;
 use desk::PlainDesk;
@@ -157,6 +159,14 @@ pub extern "C" fn desk_sitting(desk: Desk, out: &mut [u8]) -> Answer
     d.planned = true;
     d.key = placement;
     desk::write_key(d, out)
+}
+
+#[no_mangle]
+pub extern "C" fn desk_textbook(desk: Desk) -> Chosen
+    requires { ⌜ IsMade desk ⌝ }
+    ensures { λ r. ⌜ TextbookSays desk r ⌝ }
+{
+    textbook::textbook(desk)
 }
 
 #[no_mangle]

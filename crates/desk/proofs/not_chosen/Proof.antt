@@ -1,0 +1,16 @@
+-- `not_chosen` meets its contract: the empty placement has no gap (`gaps-none`).
+use mathlib.Core.Path.{refl}
+use borrow.Author.Needs.{needs}
+use Rattle.placements.proofs.Words.{gaps-none}
+use Rattle.desk.proofs.not_chosen.Statement.{statement}
+use Rattle.desk.proofs.not_chosen.Tie as tie
+
+empty-requires : tie.Need-empty-requires
+empty-requires c κs = search needs
+
+returns : tie.Need-returns
+returns c =
+    record { number-is = refl; line-is = refl; gaps-are = gaps-none (c .empty .result .words) (λ i l. c .empty .ensures i) }
+
+pub not-chosen-spec : {M : Type 1} → statement M
+not-chosen-spec = tie.close (tie.spec empty-requires returns)
