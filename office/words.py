@@ -10,7 +10,7 @@ RULES = {
     6: 's, t or d names no point, or a point of the wrong sort',
     7: 'an independent dependence has its s at or after its t, or a carried one has a point outside its loop',
     8: 'a gap is 0 or not below the number of points, or not above the gap before it',
-    9: 'the buffer is shorter than the text of the key',
+    9: 'the buffer is shorter than the text that would be written',
     10: 'there is no nest: Load comes first',
     11: 'there is a nest but no key: Plan comes first',
     12: 'Put of a gap that is there, or Lift of one that is not',

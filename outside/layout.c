@@ -84,7 +84,7 @@ static void that(const char *what, bool holds) {
 
 /* A struct of more than 16 bytes is given through a pointer, the first argument. Called so, with other bytes in the
    room each time, the archive must set the struct's last byte and leave the byte behind it. */
-static uint8_t room[4096];
+static uint8_t room[4096], lent[4096];
 
 static void given(const char *what, size_t size, uint8_t filled) {
     that(what, room[size - 1] != filled && room[size] == filled && room[sizeof room - 1] == filled);
@@ -108,6 +108,7 @@ typedef void *OnDesk(void *, Desk);
 typedef void *OnText(void *, Desk, const uint8_t *, size_t);
 typedef void *OnNumber(void *, Desk, size_t);
 typedef void *OnPlain(void *, DeskPlain);
+typedef void *OnBoth(void *, Desk, const uint8_t *, size_t, uint8_t *, size_t);
 
 static void sizes(Desk desk, DeskPlain plain) {
     GIVES(Fresh, desk_new, sizeof(Desk), room);
@@ -122,6 +123,8 @@ static void sizes(Desk desk, DeskPlain plain) {
     GIVES(OnDesk, desk_take_back, sizeof(DeskMoved), room, desk);
     GIVES(OnPlain, desk_go_over, sizeof(Desk), room, plain);
     GIVES(OnDesk, desk_textbook, sizeof(DeskChosen), room, desk);
+    GIVES(OnBoth, desk_candidate_slip, sizeof(DeskAnswer), room, desk, P, 0, lent, sizeof lent);
+    GIVES(OnBoth, desk_examiner_slip, sizeof(DeskAnswer), room, desk, P, 0, lent, sizeof lent);
 }
 
 static void fields(Desk desk) {
@@ -141,6 +144,10 @@ static void fields(Desk desk) {
     that("moves", desk.moves.many == 1 && latest.gap == 5 && latest.put);
     DeskMark mark = desk_mark(desk, (const uint8_t *)"2105\n210a\n210b\n", 15);
     that("Dearer", mark.number == 0 && mark.verdict == DESK_DEARER && mark.a == 7 && mark.b == 2 && mark.c == 1);
+    DeskAnswer slip = desk_candidate_slip(desk, (const uint8_t *)"2103\n2109\n", 10, lent, 28);
+    that("slip", slip.value == 28 && memcmp(lent, "230004\n220000\n220101\n220701\n", 28) == 0);
+    slip = desk_examiner_slip(desk, (const uint8_t *)"2105\n210b\n", 10, lent, sizeof lent);
+    that("examiner's slip", slip.value == 69 && memcmp(lent + 28, "2402000000\n2505\n", 16) == 0);
     DeskReply refused = desk_load(desk, (const uint8_t *)"01\n", 3);
     that("refused", refused.number == 4 && refused.line == 2);
     that("nest kept", memcmp(&refused.desk.nest, &desk.nest, sizeof desk.nest) == 0);

@@ -52,6 +52,9 @@ enum { DESK_UNCUT = 0, DESK_DEARER = 1, DESK_BEST = 2 };
 /* No placement's text is longer: 255 lines of 5 bytes. */
 enum { DESK_TEXT = 1275 };
 
+/* No slip is longer. */
+enum { DESK_SLIP = 3474 };
+
 /* A Desk has so many words of 8 bytes, and a DeskPlain: for hosts that only hand them on. */
 enum { DESK_WORDS = 416, DESK_PLAIN_WORDS = 329 };
 
@@ -184,6 +187,11 @@ DeskAnswer desk_sitting(Desk desk, uint8_t *out, size_t length);
 /* The placement of the textbook method for a nest of one loop: each gap is tried as a first barrier, the line behind it is
    cut greedily, and the smallest result is kept. It has as many barriers as the key. Numbers 10, 14, 15. */
 DeskChosen desk_textbook(Desk desk);
+
+/* Slips about a placement text: written as desk_write writes the key, the value is the length. The candidate's shows
+   nothing of a key. Numbers 10, then 1, 2, 8, 16 with their line, then 9; the examiner's also 11, after 10. */
+DeskAnswer desk_candidate_slip(Desk desk, const uint8_t *text, size_t length, uint8_t *out, size_t room);
+DeskAnswer desk_examiner_slip(Desk desk, const uint8_t *text, size_t length, uint8_t *out, size_t room);
 
 /* A desk in use goes over from the kind before sittings: the nest is kept, the sitting is empty, and where there was a
    key it is worked out anew, unless Plan would refuse. `old` has a nest that desk_load accepted, or none (count, many

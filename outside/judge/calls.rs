@@ -1,8 +1,9 @@
 //! The calls of the library: what each is given, and what the library does with it.
 
 use crate::host::{self, Desk, Placement, PlainDesk, WORDS};
-use crate::texts::shown;
+use crate::slips;
 use crate::textbook;
+use crate::texts::shown;
 
 /// A call with what is lent to it: a text, a list, a buffer. Over takes the desk's nest as a desk of the kind before
 /// sittings, with a key or not, and other words in the key's place where some are given.
@@ -22,6 +23,8 @@ pub enum Call {
     Sitting(Vec<u8>),
     Over(bool, Option<[u64; WORDS]>),
     Textbook,
+    /// The examiner's slip or the candidate's, of a text, into a buffer.
+    Slip(bool, Vec<u8>, Vec<u8>),
 }
 
 impl Call {
@@ -41,6 +44,8 @@ impl Call {
             Call::Sitting(_) => "sitting",
             Call::Over(..) => "go over",
             Call::Textbook => "textbook",
+            Call::Slip(false, ..) => "candidate's slip",
+            Call::Slip(true, ..) => "examiner's slip",
         }
     }
 
@@ -51,6 +56,7 @@ impl Call {
             Call::Write(out) | Call::Sitting(out) => format!("a buffer of {} bytes", out.len()),
             Call::Count(n) | Call::Put(n) | Call::Lift(n) => n.to_string(),
             Call::Over(planned, key) => format!("with a key: {planned}, words {key:?}"),
+            Call::Slip(_, text, out) => format!("{}, a buffer of {} bytes", shown(text), out.len()),
             _ => String::new(),
         };
         format!("{} {given}", self.name())
@@ -69,15 +75,17 @@ impl From<host::Chosen> for Reply {
 }
 
 /// Bytes that stand before and behind whatever is lent.
-const GUARD: [u8; 16] = *b"<-- not lent -->";
+pub const GUARD: [u8; 16] = *b"<-- not lent -->";
 
 pub fn guarded(bytes: &[u8]) -> Vec<u8> { [&GUARD[..], bytes, &GUARD[..]].concat() }
+
+/// What is lent, in its guards, and how long it is.
+pub fn lend(bytes: &[u8]) -> (Vec<u8>, usize) { (guarded(bytes), bytes.len()) }
 
 /// Plays a call through the library; the desk becomes the one that it gives.
 pub fn play(desk: &mut Desk, call: &Call) -> Reply {
     let reply = |number, line, values: &[usize]| Reply { number, line, values: values.to_vec(), lent: Vec::new() };
     let answer = |a: host::Answer, lent| Reply { number: a.number, line: a.line, values: vec![a.value], lent };
-    let lend = |bytes: &Vec<u8>| (guarded(bytes), bytes.len());
     let moved = |m: host::Moved, desk: &mut Desk| { *desk = m.desk; reply(m.number, m.line, &[m.uncut]) };
     unsafe {
         match call {
@@ -123,6 +131,7 @@ pub fn play(desk: &mut Desk, call: &Call) -> Reply {
                 reply(0, 0, &[])
             }
             Call::Textbook => textbook::play(*desk),
+            Call::Slip(examiner, text, out) => slips::play(*desk, *examiner, text, out),
         }
     }
 }

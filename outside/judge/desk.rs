@@ -5,6 +5,7 @@ use crate::calls::{guarded, Call, Reply};
 use crate::host::{self, gaps_of, KEPT};
 use crate::nests::*;
 use crate::order::{first_key, mark, Mark};
+use crate::slips;
 use crate::textbook;
 use crate::texts::{line, read_nest, read_placement};
 use std::collections::{BTreeSet, VecDeque};
@@ -40,7 +41,7 @@ impl Desk {
     fn uncut(&self) -> usize { self.counts().iter().filter(|&&c| c == 0).count() }
 
     /// 10, then 11.
-    fn fault(&self, wants_key: bool) -> u8 {
+    pub fn fault(&self, wants_key: bool) -> u8 {
         if self.nest.is_none() { 10 } else if wants_key && self.key == Key::None { 11 } else { 0 }
     }
 
@@ -89,6 +90,7 @@ impl Desk {
                 if *planned { self.plan(); }
             }
             Call::Textbook => (number, values) = textbook::answer(self.nest.as_ref()),
+            Call::Slip(examiner, text, out) => return slips::answer(self, *examiner, text, out),
         }
         Reply { number, line, values, lent }
     }
@@ -186,10 +188,13 @@ impl Desk {
     }
 }
 
-/// "Each frame is written from the place where the one before ended; later bytes stay; the length is given."
 fn write(fault: u8, gaps: &[usize], out: &[u8]) -> (u8, Vec<usize>, Vec<u8>) {
-    let text: Vec<u8> = gaps.iter().flat_map(|&g| line(&[BARRIER, g as u8])).collect();
+    write_text(fault, &gaps.iter().flat_map(|&g| line(&[BARRIER, g as u8])).collect::<Vec<u8>>(), out)
+}
+
+/// "Each frame is written from the place where the one before ended; later bytes stay; the length is given."
+pub fn write_text(fault: u8, text: &[u8], out: &[u8]) -> (u8, Vec<usize>, Vec<u8>) {
     let number = if fault == 0 && out.len() < text.len() { 9 } else { fault };
     if number != 0 { return (number, vec![0], guarded(out)) }
-    (0, vec![text.len()], guarded(&[&text[..], &out[text.len()..]].concat()))
+    (0, vec![text.len()], guarded(&[text, &out[text.len()..]].concat()))
 }

@@ -80,6 +80,8 @@ extern "C" {
     pub fn desk_sitting(desk: Desk, out: *mut u8, length: usize) -> Answer;
     pub fn desk_go_over(old: PlainDesk) -> Desk;
     pub fn desk_textbook(desk: Desk) -> Chosen;
+    pub fn desk_candidate_slip(desk: Desk, text: *const u8, length: usize, out: *mut u8, room: usize) -> Answer;
+    pub fn desk_examiner_slip(desk: Desk, text: *const u8, length: usize, out: *mut u8, room: usize) -> Answer;
 }
 
 /// A set of gaps as four words.

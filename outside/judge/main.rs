@@ -31,6 +31,7 @@ mod papers;
 mod program;
 mod scripts;
 mod self_check;
+mod slips;
 mod textbook;
 mod texts;
 

@@ -8,6 +8,7 @@ use crate::nests::*;
 use crate::order::key_fault;
 use crate::papers::*;
 use crate::program::{finish, THREADS};
+use crate::slips::slip_length;
 use crate::texts::line;
 use std::collections::BTreeMap;
 use std::sync::atomic::{AtomicUsize, Ordering::SeqCst};
@@ -102,12 +103,17 @@ fn random_call(random: &mut Random, desk: &Desk, mix: Mix, edges: &[Vec<u8>]) ->
 }
 
 fn random_ask(random: &mut Random, desk: &Desk) -> Call {
-    match random.below(11) {
+    match random.below(14) {
         0 => Call::Count(random_point(random, desk)),
-        1 | 2 => Call::Write(buffer(random, desk.key().len())),
-        3 => Call::Sitting(buffer(random, desk.sitting.len())),
+        1 | 2 => Call::Write(buffer(random, 5 * desk.key().len())),
+        3 => Call::Sitting(buffer(random, 5 * desk.sitting.len())),
         4..=6 => Call::List(list(random, desk)),
         7 => Call::Textbook,
+        8..=10 => {
+            let (text, examiner) = (placement_text(random, desk), random.one_in(2));
+            let length = desk.nest.as_ref().map_or(0, |nest| slip_length(nest, examiner));
+            Call::Slip(examiner, text, buffer(random, length))
+        }
         _ => Call::Mark(placement_text(random, desk)),
     }
 }
@@ -146,9 +152,8 @@ fn random_point(random: &mut Random, desk: &Desk) -> usize {
     if random.one_in(2) { random.pick(&loops) } else { random_gap(random, desk) }
 }
 
-/// Room for so many lines: just enough, one byte less, one more, none, plenty; filled with anything.
-fn buffer(random: &mut Random, lines: usize) -> Vec<u8> {
-    let exact = 5 * lines;
+/// Room for so many bytes: just enough, one byte less, one more, none, plenty; filled with anything.
+fn buffer(random: &mut Random, exact: usize) -> Vec<u8> {
     let more = random.below(200);
     let length = random.pick(&[exact, exact, exact.saturating_sub(1), exact + 1, 0, exact + more, exact / 2]);
     (0..length).map(|_| random.next() as u8).collect()

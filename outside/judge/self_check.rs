@@ -8,6 +8,7 @@ use crate::nests::*;
 use crate::order::*;
 use crate::papers::*;
 use crate::program::*;
+use crate::slips::check_slips;
 use crate::textbook::check_textbook;
 use crate::texts::*;
 
@@ -32,6 +33,7 @@ pub fn self_check() -> bool {
     check_desk(&mut checks);
     check_barred(&mut checks);
     check_textbook(&mut checks);
+    check_slips(&mut checks);
     (0..400).for_each(|case| check_random(&mut checks, &mut Random::new(7, case)));
     finish(checks.passed, checks.failed)
 }

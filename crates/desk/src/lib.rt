@@ -265,7 +265,7 @@ pub fn go_over(old: PlainDesk) -> Desk
 }
 
 // How a placement stands beside the key.
-fn judge(nest: Nest, key: Placement, placement: Placement) -> Verdict
+pub fn judge(nest: Nest, key: Placement, placement: Placement) -> Verdict
     requires { ⌜ IsCounted nest ⌝ }
     requires { ⌜ isValid (nestIn nest) ≡ true ⌝ }
     requires { ⌜ areGaps (nestIn nest) (gapsIn (key .words)) ≡ true ⌝ }

@@ -4,6 +4,7 @@ ghost use Rattle.desk.specs.Desks.{IsMade, IsMadePlain};
 ghost use Rattle.desk.specs.Says.{EmptySays, LoadSays, PlanSays, CountSays, WriteSays, ListSays, OverSays};
 ghost use Rattle.desk.specs.Says.{markIn, verdictIn};
 ghost use Rattle.screen.specs.Says.{PutSays, LiftSays, BackSays};
+ghost use Rattle.slips.specs.Says.{CandidateSays, ExaminerSays};
 ghost use Rattle.textbook.specs.Says.{TextbookSays};
 ghost use Rattle.host.specs.Says.{MarkSays, SittingSays};
 ghost use Rattle.host.specs.Marks.{coded, markOut, verdictOut};
@@ -167,6 +168,22 @@ pub extern "C" fn desk_textbook(desk: Desk) -> Chosen
     ensures { λ r. ⌜ TextbookSays desk r ⌝ }
 {
     textbook::textbook(desk)
+}
+
+#[no_mangle]
+pub extern "C" fn desk_candidate_slip(desk: Desk, text: &[u8], out: &mut [u8]) -> Answer
+    requires { ⌜ IsMade desk ⌝ }
+    ensures { λ r. ⌜ CandidateSays desk (now (text .entry)) (now (out .entry)) (now (out .exit)) r ⌝ }
+{
+    slips::candidate_slip(desk, text, out)
+}
+
+#[no_mangle]
+pub extern "C" fn desk_examiner_slip(desk: Desk, text: &[u8], out: &mut [u8]) -> Answer
+    requires { ⌜ IsMade desk ⌝ }
+    ensures { λ r. ⌜ ExaminerSays desk (now (text .entry)) (now (out .entry)) (now (out .exit)) r ⌝ }
+{
+    slips::examiner_slip(desk, text, out)
 }
 
 #[no_mangle]

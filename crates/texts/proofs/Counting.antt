@@ -1,7 +1,7 @@
 -- The counts written loop by loop, in order of the DOs: what is written and what is left give the whole text, in each
 -- nest with these points.
--- Main statements: `count-byte`, `counts-length`; `Counting`, what a turn keeps; `count-begin`, `count-skip`,
--- `count-on`, `count-done`.
+-- Main statements: `count-byte`, `counts-length`; `rest-all`, `rest-skip`, `rest-do`, `rest-end`; `Counting`, what a
+-- turn keeps; `count-begin`, `count-skip`, `count-on`, `count-done`.
 use mathlib.Core.Path.{_≡_, refl, _∙_, ap}
 use mathlib.Core.Bool.{Bool, true, false}
 use mathlib.Core.List.{List, [], _∷_, _++_}
@@ -57,8 +57,12 @@ counts-length n gs i (p ∷ ps) = go (eqb p DO) (counts-length n gs (suc i) ps)
 pub restOf : Nest → List ℕ → ℕ → List ℕ
 restOf n gs d = countsFrom n gs d (drop d (n .points))
 
+pub rest-all : (n : Nest) (gs : List ℕ) → restOf n gs 0 ≡ countsText n gs
+unfolding restOf
+rest-all n gs = refl
+
 -- at a point that is no DO, at a DO, at the end
-rest-skip
+pub rest-skip
     : (n : Nest) (gs : List ℕ) (d : ℕ)
     → d < length (n .points)
     → (getD (n .points) d 0 ≡ DO → ⊥)
@@ -66,7 +70,7 @@ rest-skip
 unfolding restOf countsFrom
 rest-skip n gs d h e = rw (add-one d, drop-cons (n .points) d 0 h, ne-eqb (getD (n .points) d 0) DO e)
 
-rest-do
+pub rest-do
     : (n : Nest) (gs : List ℕ) (d : ℕ)
     → d < length (n .points)
     → getD (n .points) d 0 ≡ DO
@@ -74,7 +78,7 @@ rest-do
 unfolding restOf countsFrom
 rest-do n gs d h e = rw (add-one d, drop-cons (n .points) d 0 h, eq-eqb (getD (n .points) d 0) DO e)
 
-rest-end : (n : Nest) (gs : List ℕ) (d : ℕ) → length (n .points) ≤ d → restOf n gs d ≡ []
+pub rest-end : (n : Nest) (gs : List ℕ) (d : ℕ) → length (n .points) ≤ d → restOf n gs d ≡ []
 unfolding restOf countsFrom
 rest-end n gs d h = rw (drop-of-length-le (n .points) {i = d} h)
 

@@ -1,0 +1,117 @@
+-- `write_slip` meets its contract: the first line, then the counts in the rest of the buffer (`last-part`).
+use mathlib.Core.Path.{subst}
+use Prim.Native.Nat.{ℕ, _+_, _-_, _≤_}
+use native.Mathlib.Omega.{arith}
+use lib.ListN.{length}
+use borrow.Author.Needs.{needs}
+use borrow.Rule.Slice.PartMut.{putMid}
+use Rattle.nests.specs.Stored.{nestIn}
+use Rattle.lines.proofs.Parts.{Partly}
+use Rattle.placements.specs.Placements.{uncut}
+use Rattle.placements.specs.Words.{gapsIn}
+use Rattle.texts.specs.Counts.{countsText}
+use Rattle.slips.specs.Texts.{firstText, slipText}
+use Rattle.slips.specs.Writers.{Wrote}
+use Rattle.slips.proofs.Bytes.{uncut-most}
+use Rattle.slips.proofs.Lengths.{slip-parts}
+use Rattle.slips.proofs.Joined.{first-part, part-within, rest-fits, last-part}
+use Rattle.slips.proofs.write_slip.Statement.{statement}
+use Rattle.slips.proofs.write_slip.Tie as tie
+
+uncut-requires : tie.Need-uncut-requires
+uncut-requires c κs = search needs
+
+write-first-requires : tie.Need-write-first-requires
+write-first-requires c κs =
+    let s = c .before .before .before in
+    let n = nestIn (s .args .nest) in
+    let gs = gapsIn (s .args .placement .words) in (
+      omega (arith, c .before .uncut .ensures, uncut-most n gs (s .pre .1 .0)),
+      omega (arith, slip-parts n gs, s .pre .1 .1 .1),
+    )
+
+-- the call, from the place after the first line
+abbrev called : tie.After-write-first → tie.Start
+called c = c .before .before .before .before
+
+-- with the first line written, the counts are left
+begun :
+    (c : tie.After-write-first) →
+    let a = called c .args in
+    let n = nestIn (a .nest) in
+    let gs = gapsIn (a .placement .words) in
+    let w = c .write-first in
+    Partly (slipText n gs) (countsText n gs) (a .out .now) (w .last .1 .0) (w .result)
+unfolding slipText
+begun c =
+    let a = called c .args in
+    let n = nestIn (a .nest) in
+    let gs = gapsIn (a .placement .words) in
+    let w = c .write-first in
+    first-part (firstText (uncut n gs)) (countsText n gs) (a .out .now) (w .last .1 .0) (w .result)
+    (subst
+    (λ (u : ℕ). Wrote (firstText u) (a .out .now) (w .last .1 .0) (w .result))
+    (c .before .before .uncut .ensures)
+    (w .ensures))
+
+-- the place lies in the buffer
+within : (c : tie.After-write-first) → c .write-first .result ≤ length (c .write-first .last .1 .0)
+within c = part-within _ _ _ _ _ (begun c) (called c .pre .1 .1 .1)
+
+sub-write-counts : tie.Need-sub-write-counts
+sub-write-counts c = within (c .before .before)
+
+part-write-counts-start : tie.Need-part-write-counts-start
+part-write-counts-start c =
+    let z = within (c .before .before) in
+    search needs
+
+part-write-counts-end : tie.Need-part-write-counts-end
+part-write-counts-end c = search needs
+
+write-counts-requires : tie.Need-write-counts-requires
+write-counts-requires c κs =
+    let b = c .before .before .before in
+    let p = called b .pre in
+    (p .0, (p .1 .0, (p .1 .1 .0, rest-fits _ _ _ _ _ (begun b) (p .1 .1 .1))))
+
+-- the whole slip
+written :
+    (c : tie.After-slice-known3) →
+    let b = c .before .before .before .before .before .before in
+    let a = called b .args in
+    let w = b .write-first in
+    let k = c .before .before .write-counts in
+    Wrote
+    (slipText (nestIn (a .nest)) (gapsIn (a .placement .words)))
+    (a .out .now)
+    (putMid (w .result) (length (w .last .1 .0) - w .result) (w .last .1 .0) (k .last .1 .1 .0))
+    (w .result + k .result)
+written c =
+    let b = c .before .before .before .before .before .before in
+    last-part _ _ _ _ _ (begun b) (called b .pre .1 .1 .1) _ _ (c .before .before .write-counts .ensures)
+
+add-result : tie.Need-add-result
+add-result c =
+    let fits = called (c .before .before .before .before .before .before) .pre .1 .1 .1 in
+    omega (arith, written c .length-is)
+
+same-length : tie.Need-same-length
+same-length c = search needs
+
+returns : tie.Need-returns
+returns c = written c
+
+pub write-slip-spec : {M : Type 1} → statement M
+write-slip-spec =
+    tie.close
+    (tie.spec
+    uncut-requires
+    write-first-requires
+    sub-write-counts
+    part-write-counts-start
+    part-write-counts-end
+    write-counts-requires
+    add-result
+    same-length
+    returns)
