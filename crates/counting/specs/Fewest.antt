@@ -1,0 +1,32 @@
+-- What is counted is the fewest: no correct placement has fewer calls; and two desks with the same nest count alike.
+-- Main definitions: `NoFewer`, `CallsAlike`.
+use mathlib.Core.Path.{_≡_}
+use mathlib.Core.Bool.{true}
+use mathlib.Core.List.{List}
+use Prim.Native.Nat.{ℕ, _≤_}
+use Rattle.placements.specs.Placements.{isCorrect}
+use Rattle.calls.specs.Calls.{callsOf}
+use Rattle.desk.specs.declared.Desk as DD
+use Rattle.desk.specs.Desks.{deskIn, IsMade}
+use Rattle.counting.specs.declared.Calls as CC
+use Rattle.counting.specs.Says.{CallsSays}
+
+-- 001, lemma 2: of whatever desk has a key, under the turns for which it answers
+abbrev pub NoFewer : Type 0
+NoFewer =
+    (d : DD.Desk) (ts gs : List ℕ) (r : CC.Calls) →
+    IsMade d →
+    CallsSays d ts r →
+    r .number ≡ 0 →
+    isCorrect (deskIn d .nest-is) gs ≡ true → r .calls ≤ callsOf (deskIn d .nest-is) ts gs
+
+-- 02, job 6: two desks with the same nest, and with a key both or neither
+abbrev pub CallsAlike : Type 0
+CallsAlike =
+    (d e : DD.Desk) (ts : List ℕ) (a b : CC.Calls) →
+    IsMade d →
+    IsMade e →
+    d .loaded ≡ e .loaded →
+    deskIn d .nest-is ≡ deskIn e .nest-is →
+    d .planned ≡ e .planned →
+    CallsSays d ts a → CallsSays e ts b → a ≡ b

@@ -1,0 +1,156 @@
+-- The text of a joint nest in its parts: the new loop's DO, the first nest's points, the second's, the new ENDDO; then
+-- the dependences, the first paper's before the second's. Its length is worked out from the two nests.
+-- Main statements: `nest-text`, `joint-points`, `joint-deps`, `joint-text-length`; `stay-first`,
+-- `stay-second`, `second-byte`.
+use mathlib.Core.Path.{_≡_, refl, sym, ap, _∙_}
+use mathlib.Core.Bool.{true, false}
+use mathlib.Core.List.{List, [], _∷_, _++_, append-assoc, append-nil}
+use mathlib.Core.Logic.{inl, inr, ⊎-elim}
+use Prim.Native.Nat.{ℕ, _+_, _*_, _≤_, _<_}
+use native.Mathlib.Omega.{arith}
+use lib.ListN.{length, length-append}
+use Rattle.laws.proofs.Tests.{eq-or}
+use Rattle.nests.specs.Kinds.{DO, ENDDO, INDEPENDENT, POINTS}
+use Rattle.nests.specs.Nests.{Dep, Nest}
+use Rattle.nests.specs.Valid.{isValid}
+use Rattle.nests.proofs.Deps.{Fits, valid-is, deps-fit}
+use Rattle.nests.proofs.Loops.{end-there}
+use Rattle.lines.specs.Lines.{lineText}
+use Rattle.lines.proofs.Writing.{text-length}
+use Rattle.texts.specs.Pieces.{Piece, Point, Depend, pieceFrame, depFrame, piecesText}
+use Rattle.texts.specs.NestTexts.{pointPieces, depPieces, barPieces, nestText}
+use Rattle.joining.specs.JointNests.{movedDep, movedDeps, joined, secondAt, Papers, exceeds}
+use Rattle.joining.specs.Written.{pointsText, insideText, depsText, StaysBytes, StayBytes}
+use Rattle.joining.proofs.JointShapes.{joint-length}
+use Rattle.joining.proofs.JointValid.{joint-by}
+use Rattle.joining.proofs.Measuring.{deps-cons}
+use Rattle.joining.proofs.PiecesWritten.{line-length, ring-length}
+
+-- ---- one list of pieces after another
+
+pieces-both : (xs ys : List Piece) → piecesText (xs ++ ys) ≡ piecesText xs ++ piecesText ys
+unfolding piecesText
+pieces-both [] ys = refl
+pieces-both (x ∷ xs) ys =
+    ap (λ (t : List ℕ). lineText (pieceFrame x) ++ t) (pieces-both xs ys) ∙
+    sym (append-assoc (lineText (pieceFrame x)) (piecesText xs) (piecesText ys))
+
+point-pieces-both : (ps qs : List ℕ) → pointPieces (ps ++ qs) ≡ pointPieces ps ++ pointPieces qs
+unfolding pointPieces
+point-pieces-both [] qs = refl
+point-pieces-both (p ∷ ps) qs = ap (λ (xs : List Piece). Point p ∷ xs) (point-pieces-both ps qs)
+
+dep-pieces-both : (xs ys : List Dep) → depPieces (xs ++ ys) ≡ depPieces xs ++ depPieces ys
+unfolding depPieces
+dep-pieces-both [] ys = refl
+dep-pieces-both (x ∷ xs) ys = ap (λ (zs : List Piece). Depend x ∷ zs) (dep-pieces-both xs ys)
+
+points-both : (ps qs : List ℕ) → pointsText (ps ++ qs) ≡ pointsText ps ++ pointsText qs
+points-both ps qs = ap piecesText (point-pieces-both ps qs) ∙ pieces-both (pointPieces ps) (pointPieces qs)
+
+-- ---- the joint text in its parts
+
+-- points, then dependences, where nothing is barred
+pub nest-text : (n : Nest) → n .barred ≡ [] → nestText n ≡ pointsText (n .points) ++ depsText (n .deps)
+unfolding nestText barPieces
+nest-text n none =
+    let xs = pointPieces (n .points) in
+    let ys = depPieces (n .deps) in
+    ap (λ (bs : List ℕ). piecesText (xs ++ (ys ++ barPieces bs))) none ∙
+    ap (λ (zs : List Piece). piecesText (xs ++ zs)) (append-nil ys) ∙
+    pieces-both xs ys
+
+pub joint-points : (n m : Nest) → pointsText (joined n m .points) ≡ lineText (DO ∷ []) ++ insideText n m
+unfolding piecesText pointPieces
+joint-points n m =
+    let ps = n .points in
+    let qs = m .points in
+    ap (λ (t : List ℕ). lineText (DO ∷ []) ++ t)
+    (points-both ps (qs ++ (ENDDO ∷ [])) ∙
+    ap (λ (t : List ℕ). pointsText ps ++ t)
+    (points-both qs (ENDDO ∷ []) ∙ ap (λ (t : List ℕ). pointsText qs ++ t) (append-nil (lineText (ENDDO ∷ [])))))
+
+pub joint-deps : (xs ys : List Dep) → depsText (xs ++ ys) ≡ depsText xs ++ depsText ys
+joint-deps xs ys = ap piecesText (dep-pieces-both xs ys) ∙ pieces-both (depPieces xs) (depPieces ys)
+
+-- ---- its length
+
+pub points-length : (ps : List ℕ) → length (pointsText ps) ≡ 3 * length ps
+unfolding piecesText pointPieces
+points-length [] = refl
+points-length (p ∷ ps) =
+    omega (arith, length-append (lineText (p ∷ [])) (pointsText ps), text-length (p ∷ []), points-length ps)
+
+-- a dependence has a line as long where it is moved along
+line-same : (k : ℕ) (e : Dep) → length (lineText (depFrame (movedDep k e))) ≡ length (lineText (depFrame e))
+line-same k e = ⊎-elim
+    (λ (z : e .kind ≡ INDEPENDENT). line-length (movedDep k e) z ∙ sym (line-length e z))
+    (λ (z : e .kind ≡ INDEPENDENT → ⊥). ring-length (movedDep k e) z ∙ sym (ring-length e z))
+    (eq-or (e .kind) INDEPENDENT)
+
+moved-text : (k : ℕ) (es : List Dep) → length (depsText (movedDeps k es)) ≡ length (depsText es)
+moved-text k [] = refl
+moved-text k (e ∷ es) =
+    omega (
+      arith,
+      deps-cons (movedDep k e) (movedDeps k es),
+      deps-cons e es,
+      line-same k e,
+      moved-text k es,
+    )
+
+pub joint-text-length
+    : (n m : Nest)
+    → length (nestText (joined n m))
+    ≡ 3 * (length (n .points) + length (m .points) + 2) + length (depsText (n .deps)) + length (depsText (m .deps))
+joint-text-length n m =
+    let j = joined n m in
+    let xs = movedDeps 1 (n .deps) in
+    let ys = movedDeps (secondAt n) (m .deps) in
+    omega (
+      arith,
+      ap length (nest-text j refl),
+      length-append (pointsText (j .points)) (depsText (j .deps)),
+      points-length (j .points),
+      joint-length (n .points) (m .points),
+      ap length (joint-deps xs ys),
+      length-append (depsText xs) (depsText ys),
+      moved-text 1 (n .deps),
+      moved-text (secondAt n) (m .deps),
+    )
+
+-- ---- points moved along as bytes
+
+-- points that are moved along within the limit are still bytes
+stay : (n : Nest) (k : ℕ) → isValid n ≡ true → k + length (n .points) ≤ 256 → StayBytes k (n .deps)
+stay n k valid few e a = from (deps-fit (n .points) (n .deps) (valid-is n valid .all-deps) e a)
+  where
+    from : Fits (n .points) e → StaysBytes k e
+    from (inl l) =
+        record {
+          d-fits = λ z. absurd (z (l .kind-is));
+          s-fits = omega (arith, l .forward, l .target-there);
+          t-fits = omega (arith, l .target-there);
+        }
+    from (inr b) =
+        let there = end-there (n .points) (valid-is n valid .shape) (e .d) (b .loop) in
+        record {
+          d-fits = λ z. omega (arith, b .source-after, b .source-before);
+          s-fits = omega (arith, b .source-before);
+          t-fits = omega (arith, b .target-before);
+        }
+
+module _ (n m : Nest) (papers : Papers n m) (fits : exceeds n m ≡ false) where
+  few : length (n .points) + length (m .points) + 2 ≤ POINTS
+  few =
+      let valid = valid-is (joined n m) (joint-by n m papers fits .valid) in
+      omega (arith, joint-length (n .points) (m .points), valid .few-points)
+
+  pub stay-first : StayBytes 1 (n .deps)
+  stay-first = stay n 1 (papers .first) (omega (arith, few))
+
+  pub stay-second : StayBytes (secondAt n) (m .deps)
+  stay-second = stay m (secondAt n) (papers .second) (omega (arith, few))
+
+  pub second-byte : secondAt n < 256
+  second-byte = omega (arith, few)

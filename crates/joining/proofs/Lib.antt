@@ -1,0 +1,22 @@
+-- Two papers into one: the joint nest is valid unless a limit is exceeded, and its key is the two keys moved along.
+pub mod Parts
+pub mod Depths
+pub mod JointShapes
+pub mod PartDeps
+pub mod JointValid
+pub mod MovedGaps
+pub mod SubNests
+pub mod BothLists
+pub mod JointPlacements
+pub mod JointKey
+pub mod RightIn
+pub mod JointTree
+pub mod JointBest
+pub mod PiecesWritten
+pub mod Measuring
+pub mod JointTexts
+pub mod LastPart
+pub mod Limits
+pub mod Replies
+pub mod JoinedTexts
+pub mod JointCases

@@ -1,0 +1,48 @@
+-- The joint text in its parts, and what their writers promise and ask.
+-- Main definitions: `pointsText`, `depsText`, `Writes`, `StayBytes`.
+use mathlib.Core.Path.{_≡_}
+use mathlib.Core.List.{List, [], _∷_, _++_}
+use Prim.Native.Nat.{ℕ, _+_, _<_}
+use lib.ListN.{length}
+use Rattle.laws.specs.Members.{Among}
+use Rattle.nests.specs.declared.Nest as DN
+use Rattle.nests.specs.Stored.{nestIn}
+use Rattle.nests.specs.Kinds.{ENDDO, INDEPENDENT}
+use Rattle.nests.specs.Nests.{Dep, Nest}
+use Rattle.lines.specs.Lines.{lineText}
+use Rattle.lines.specs.Writing.{over}
+use Rattle.texts.specs.Pieces.{piecesText}
+use Rattle.texts.specs.NestTexts.{pointPieces, depPieces}
+use Rattle.joining.specs.JointNests.{joined}
+
+-- the joint nest of two that the code keeps
+abbrev pub jointIn : DN.Nest → DN.Nest → Nest
+jointIn n m = joined (nestIn n) (nestIn m)
+
+-- points as text
+abbrev pub pointsText : List ℕ → List ℕ
+pointsText ps = piecesText (pointPieces ps)
+
+-- what follows the first nest's points in a joint nest, and what follows its DO
+abbrev pub secondText : Nest → List ℕ
+secondText m = pointsText (m .points) ++ lineText (ENDDO ∷ [])
+
+abbrev pub insideText : Nest → Nest → List ℕ
+insideText n m = pointsText (n .points) ++ secondText m
+
+-- dependences as text
+abbrev pub depsText : List Dep → List ℕ
+depsText es = piecesText (depPieces es)
+
+-- a text is written from the start of a buffer: r is its length, and later bytes stay
+abbrev pub Writes : List ℕ → List ℕ → List ℕ → ℕ → Type 0
+Writes text out out′ r = (r ≡ length text) × (out′ ≡ over text out)
+
+-- the points of a dependence are still bytes when they are moved along by k
+pub record StaysBytes (k : ℕ) (e : Dep) : Type 0 where
+  pub d-fits : (e .kind ≡ INDEPENDENT → ⊥) → k + e .d < 256
+  pub s-fits : k + e .s < 256
+  pub t-fits : k + e .t < 256
+
+abbrev pub StayBytes : ℕ → List Dep → Type 0
+StayBytes k es = (e : Dep) → Among e es → StaysBytes k e

@@ -1,0 +1,89 @@
+// Cases of barrier calls in a run (change request 11), counted over the desk's calls and compared; a line for each.
+ghost use Rattle.desk.specs.Desks.{IsMade};
+use counting::count_calls;
+use desk::Desk;
+use trials::after_load;
+use trials::after_put;
+use trials::empty_desk;
+use trials::paper_p;
+use trials::planned;
+use trials::report;
+
+fn main() {
+    report(1, case_1());
+    report(2, case_2());
+    report(3, case_3());
+    report(4, case_4());
+    report(5, case_5());
+}
+
+// The nest of WHY, whose key is 2, 7: both barriers lie in the outermost loop alone.
+fn case_1() -> bool {
+    let once = planned(b"01\n03\n01\n03\n03\n03\n02\n03\n02\n110104\n110307\n");
+    let moved = after_put(once, 4);
+    counts(once, &[3, 2], 6)
+        && counts(once, &[3, 5], 6)
+        && counts(once, &[1, 16], 2)
+        && counts(once, &[16, 16], 32)
+        && counts(moved, &[3, 2], 6)
+}
+
+// Q, whose key is 2, 6: one barrier in loop 0 alone, one in all three loops. P, whose barriers lie in loops 1 and 7,
+// both inside loop 0.
+fn case_2() -> bool {
+    let q = planned(b"01\n03\n01\n01\n03\n03\n02\n03\n02\n02\n110105\n12030504\n110407\n");
+    let p = paper_p();
+    counts(q, &[1, 2, 3], 7)
+        && counts(q, &[4, 2, 3], 28)
+        && counts(q, &[4, 3, 2], 28)
+        && counts(p, &[2, 3, 5], 16)
+        && counts(p, &[2, 5, 3], 16)
+}
+
+// A barrier in 8 loops of 16 turns each; no barrier.
+fn case_3() -> bool {
+    let deep = planned(
+        b"01\n01\n01\n01\n01\n01\n01\n01\n03\n02\n02\n02\n02\n02\n02\n02\n02\n12070808\n",
+    );
+    let blank = planned(b"");
+    counts(deep, &[16; 8], 4294967296)
+        && counts(deep, &[1, 2, 2, 2, 2, 2, 2, 2], 128)
+        && counts(blank, &[16], 0)
+}
+
+// 17: a list too short or too long, no turn outside, one turn inside, 17 turns.
+fn case_4() -> bool {
+    let once = planned(b"01\n03\n01\n03\n03\n03\n02\n03\n02\n110104\n110307\n");
+    counts_not(once, &[3], 17)
+        && counts_not(once, &[3, 2, 2], 17)
+        && counts_not(once, &[0, 2], 17)
+        && counts_not(once, &[3, 1], 17)
+        && counts_not(once, &[17, 2], 17)
+        && counts_not(once, &[3, 17], 17)
+        && counts_not(once, &[3, 0], 17)
+}
+
+// 10 and 11 come before 17.
+fn case_5() -> bool {
+    let p = paper_p();
+    let unplanned = after_load(p, b"01\n02\n110001\n");
+    counts_not(empty_desk(), &[0], 10)
+        && counts_not(unplanned, &[0], 11)
+        && counts_not(unplanned, &[2], 11)
+}
+
+// The key has so many calls under these turns.
+fn counts(desk: Desk, turns: &[u8], calls: u64) -> bool
+    requires { ⌜ IsMade desk ⌝ }
+{
+    let answer = count_calls(desk, turns);
+    answer.number == 0 && answer.line == 0 && answer.calls == calls
+}
+
+// The call refuses these turns with this number.
+fn counts_not(desk: Desk, turns: &[u8], number: u8) -> bool
+    requires { ⌜ IsMade desk ⌝ }
+{
+    let answer = count_calls(desk, turns);
+    answer.number == number && answer.line == 0 && answer.calls == 0
+}
