@@ -61,9 +61,10 @@ impl Nest {
         self.gaps(x).into_iter().filter(|g| !self.barred.contains(g)).collect()
     }
 
-    /// "Some dependence has all its gaps barred."
+    /// A dependence has barred gaps alone, so that no placement is correct.
     pub fn blocked(&self) -> bool {
-        let barred: Vec<bool> = (0..self.points.len()).map(|g| self.barred.contains(&g)).collect();
+        let mut barred = vec![false; self.points.len()];
+        self.barred.iter().for_each(|&g| barred[g] = true);
         self.dependences.iter().any(|x| (0..barred.len()).all(|g| barred[g] || !self.has_gap(x, g)))
     }
 

@@ -108,16 +108,27 @@ pub fn one_loop_count(nest: &Nest) -> usize {
     let intervals: Vec<Vec<usize>> = nest.dependences.iter().map(|x| nest.free_gaps(x)).collect();
     let firsts = (1..=ring).filter(|g| !nest.barred.contains(g));
     let after_first = |first: usize| {
-        let turned = |gaps: &Vec<usize>| gaps.iter().map(|g| (g + ring - first) % ring).collect::<Vec<_>>();
-        let ends = |gaps: Vec<usize>| (*gaps.iter().min().unwrap(), *gaps.iter().max().unwrap());
-        let lines: Vec<_> = intervals.iter().filter(|x| !x.contains(&first)).map(|x| ends(turned(x))).collect();
-        let (mut last, mut count) = (0, 1);
-        for here in 1..ring {
-            if lines.iter().any(|&(from, to)| to == here && from > last) { last = here; count += 1 }
-        }
-        count
+        let turned = |x: &Vec<usize>| ends(x.iter().map(|g| (g + ring - first) % ring)).unwrap();
+        let lines: Vec<_> = intervals.iter().filter(|x| !x.contains(&first)).map(turned).collect();
+        1 + count_on_line(&lines, 0, ring)
     };
     if intervals.is_empty() { 0 } else { firsts.map(after_first).min().unwrap() }
+}
+
+/// The lowest and the highest of some gaps.
+fn ends(gaps: impl Iterator<Item = usize> + Clone) -> Option<(usize, usize)> {
+    Some((gaps.clone().min()?, gaps.max()?))
+}
+
+/// How many barriers the stretches of a line need behind a last barrier: one at the end of each that ends first.
+fn count_on_line(lines: &[(usize, usize)], last: usize, end: usize) -> usize {
+    let mut latest = vec![0; end + 1];
+    lines.iter().for_each(|&(from, to)| latest[to] = latest[to].max(from));
+    let (mut at, mut count) = (last, 0);
+    for here in last + 1..=end {
+        if latest[here] > at { at = here; count += 1 }
+    }
+    count
 }
 
 /// Of the smallest correct sets of a nest of one loop the first in list order. Gap by gap, each is the lowest with
@@ -129,15 +140,11 @@ pub fn one_loop_first(nest: &Nest) -> Vec<usize> {
     let intervals: Vec<Vec<usize>> = nest.dependences.iter().map(|x| nest.free_gaps(x)).collect();
     let left_after = |key: &[usize]| {
         let last = *key.last().unwrap();
-        let uncut = intervals.iter().filter(|x| !x.iter().any(|g| key.contains(g)));
-        let above: Vec<Vec<usize>> = uncut.map(|x| x.iter().copied().filter(|&g| g > last).collect()).collect();
-        let ends = |x: &Vec<usize>| Some((*x.iter().min()?, *x.iter().max()?));
-        let lines: Vec<(usize, usize)> = above.iter().map(ends).collect::<Option<_>>()?;
-        let (mut at, mut count) = (last, 0);
-        for here in last + 1..=ring {
-            if lines.iter().any(|&(from, to)| to == here && from > at) { at = here; count += 1 }
-        }
-        Some(count)
+        let has: Vec<bool> = (0..=ring).map(|g| key.contains(&g)).collect();
+        let uncut = intervals.iter().filter(|x| !x.iter().any(|&g| has[g]));
+        let above = |x: &Vec<usize>| ends(x.iter().copied().filter(|&g| g > last));
+        let lines: Vec<(usize, usize)> = uncut.map(above).collect::<Option<_>>()?;
+        Some(count_on_line(&lines, last, ring))
     };
     let mut key: Vec<usize> = Vec::new();
     while key.len() < size {

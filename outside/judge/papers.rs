@@ -84,10 +84,12 @@ pub fn bar_gaps(random: &mut Random, nest: &mut Nest, number: usize) {
         nest.barred.remove(random.below(nest.barred.len()));
     }
     let (longest, any) = (random.pick(&[1, 2, 2 + ring / 4, ring]), random.one_in(8));
-    for _ in nest.barred.len()..number {
+    let mut tries = 2 * number;
+    while tries > 0 {
         let from = 1 + random.below(ring);
         for g in from..ring.min(from + random.below(longest)) + 1 {
-            if nest.barred.len() >= number { return }
+            if nest.barred.len() >= number || tries == 0 { return }
+            tries -= 1;
             nest.barred.push(g);
             if !any && nest.blocked() { nest.barred.pop(); }
         }

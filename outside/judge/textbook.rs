@@ -23,7 +23,7 @@ fn try_first(nest: &Nest, first: usize) -> Vec<usize> {
     let ring = nest.points.len() - 1;
     let place = |g: usize| (g + ring - first) % ring;
     let mut line: Vec<Vec<usize>> = nest.dependences.iter().map(|x| nest.gaps(x)).collect();
-    line.sort_by_key(|x| x.iter().map(|&g| place(g)).max());
+    line.sort_by_cached_key(|x| x.iter().map(|&g| place(g)).max());
     let mut has = vec![false; ring + 1];
     has[first] = true;
     for x in line {
