@@ -1,6 +1,5 @@
 -- Placements that avoid barred gaps, renumbered and back: rising lists of unbarred gaps are the rising lists of ranks.
--- Main statements: `ranks-length`, `ranks-rising`, `in-ranks`, `unranked-rising`,
--- `unranked-avoids`, `ranks-unranked`, `unranked-ranks`.
+-- Main statements: `ranks-length`, `ranks-rising`, `unranked-rising`, `unranked-avoids`, `ranks-unranked`.
 use mathlib.Core.Path.{_≡_, refl, sym, ap, _∙_}
 use mathlib.Core.Bool.{Bool, true, _&&_}
 use mathlib.Core.List.{List, [], _∷_}
@@ -13,11 +12,11 @@ use Rattle.laws.specs.Choice.{isIn}
 use Rattle.laws.proofs.Tests.{never, and-intro, and-true, bool-by}
 use Rattle.laws.proofs.Members.{in-here, in-later, in-cons}
 use Rattle.placements.specs.Placements.{areGapsFrom, isFree, avoids}
-use Rattle.placements.proofs.Cuts.{avoids-in, avoids-by}
+use Rattle.placements.proofs.Cuts.{avoids-by}
 use Rattle.placements.proofs.Words.{gapsOf-in, gapsOf-rising}
 use Rattle.placements.proofs.Rising.{rises, rising-in, rising-equal}
 use Rattle.barred.specs.Ranks.{rank, ranks, unranked}
-use Rattle.barred.proofs.Ranks.{rank-zero, rank-monotone, rank-of-free, ranked-equal, rank-found}
+use Rattle.barred.proofs.Ranks.{rank-zero, rank-monotone, rank-of-free, rank-found}
 
 module _ (bs : List ℕ) where
   pub ranks-length : (gs : List ℕ) → length (ranks bs gs) ≡ length gs
@@ -63,19 +62,6 @@ module _ (bs : List ℕ) where
       (λ (z : g ≡ x). rw z (in-here (rank bs x) (ranks bs gs)))
       (λ (z : isIn g gs ≡ true). in-later (rank bs g) (rank bs x) (ranks bs gs) (gap-in gs g z))
       (in-cons g x gs h)
-
-  pub in-ranks
-      : (gs : List ℕ) (g : ℕ)
-      → avoids bs gs ≡ true
-      → isFree bs g ≡ true
-      → isIn (rank bs g) (ranks bs gs) ≡ isIn g gs
-  in-ranks gs g v f = bool-by (isIn (rank bs g) (ranks bs gs)) (isIn g gs) back (gap-in gs g)
-    where
-      back : isIn (rank bs g) (ranks bs gs) ≡ true → isIn g gs ≡ true
-      back h =
-          let x = rank-in gs (rank bs g) h in
-          let e = ranked-equal bs (x .gap) g (avoids-in bs gs v (x .gap) (x .there)) f (x .rank-is) in
-          rw (← e) (x .there)
 
   -- ---- back from ranks
 
@@ -125,23 +111,3 @@ module _ (bs : List ℕ) where
             let i : isIn (x .gap) (unranked bs k rs) ≡ true =
             in-unranked (x .gap) (x .first) (x .last) ∙ and-intro (x .free) q in
             rw (x .rank-is) at (gap-in (unranked bs k rs) (x .gap) i)
-
-  pub unranked-ranks
-      : (k : ℕ) (gs : List ℕ)
-      → areGapsFrom 0 (suc k) gs ≡ true
-      → avoids bs gs ≡ true
-      → unranked bs k (ranks bs gs) ≡ gs
-  unranked-ranks k gs h v =
-      rising-equal 0 (suc k) (unranked bs k (ranks bs gs)) gs (unranked-rising k (ranks bs gs)) h
-      (λ g. bool-by (isIn g (unranked bs k (ranks bs gs))) (isIn g gs) (there g) (back g))
-    where
-      there : (g : ℕ) → isIn g (unranked bs k (ranks bs gs)) ≡ true → isIn g gs ≡ true
-      there g p =
-          let x = unranked-its k (ranks bs gs) g p in
-          sym (in-ranks gs g v (x .free)) ∙ x .ranked
-
-      back : (g : ℕ) → isIn g gs ≡ true → isIn g (unranked bs k (ranks bs gs)) ≡ true
-      back g p =
-          let l = rising-in 0 (suc k) gs g h p in
-          in-unranked k (ranks bs gs) g (l .0) (omega (arith, l .1)) ∙
-          and-intro (avoids-in bs gs v g p) (gap-in gs g p)

@@ -8,7 +8,7 @@ use Prim.Native.Nat.{ℕ, zero, suc, _-_, _≤_, _<_}
 use native.Mathlib.Omega.{arith}
 use lib.Dec.{eqb}
 use lib.ListN.{length, take}
-use borrow.Author.Tests.{eqb-true}
+use borrow.Author.Tests.{eqb-true, not-true}
 use Rattle.laws.specs.Choice.{pick}
 use Rattle.laws.proofs.Tests.{never, and-true}
 use Rattle.nests.specs.Kinds.{DO, ENDDO, STATEMENT}
@@ -26,10 +26,6 @@ record Statements (ps : List ℕ) : Type 0 where
   many : ℕ
   are : ps ≡ statementsTo many
 
-not-on : (b : Bool) → not b ≡ true → b ≡ false
-not-on true h = never h
-not-on false h = refl
-
 only-end : (p : ℕ) (ps : List ℕ) → p ≡ ENDDO → ps ≡ [] → p ∷ ps ≡ statementsTo 0
 unfolding statementsTo
 only-end p ps x y = cc (x, y)
@@ -44,7 +40,7 @@ statements-are [] h d = never h
 statements-are (p ∷ ps) h d =
     let a = and-true (not (eqb p DO)) (noDo ps) d in
     let plain : pick (eqb p ENDDO) (closes 0 ps) (eqb p STATEMENT && closes 1 ps) ≡ true =
-    rw (not-on (eqb p DO) (a .0)) at h in
+    rw (not-true (eqb p DO) (a .0)) at h in
     go (eqb p ENDDO) refl plain (λ z. statements-are ps z (a .1))
   where
     go

@@ -1,14 +1,15 @@
 -- A paper and turns that can be counted, taken apart.
 -- Main statements: `countable`; `counted-by-turns`, `not-counted`.
-use mathlib.Core.Path.{_≡_, refl}
+use mathlib.Core.Path.{_≡_}
 use mathlib.Core.Bool.{true, false}
-use mathlib.Core.List.{List, [], _∷_}
+use mathlib.Core.List.{List, []}
 use Prim.Native.Nat.{ℕ}
 use native.Mathlib.Omega.{arith}
 use lib.Dec.{eqb}
 use lib.ListN.{length}
 use borrow.Author.Tests.{eqb-true, eq-eqb, ne-eqb}
 use Rattle.laws.proofs.Tests.{and-true}
+use Rattle.laws.proofs.Members.{no-members}
 use Rattle.nests.specs.Nests.{Nest}
 use Rattle.calls.specs.Calls.{turnsFit}
 use Rattle.counting.specs.Says.{canCount}
@@ -17,14 +18,11 @@ pub record Countable (n : Nest) (ts : List ℕ) : Type 0 where
   pub none-barred : n .barred ≡ []
   pub fits : turnsFit n ts ≡ true
 
-no-member : (gs : List ℕ) → length gs ≡ 0 → gs ≡ []
-no-member [] h = refl
-no-member (g ∷ gs) h = absurd (omega arith)
-
 pub countable : (n : Nest) (ts : List ℕ) → canCount n ts ≡ true → Countable n ts
 countable n ts h =
     let z = and-true (eqb (length (n .barred)) 0) (turnsFit n ts) h in
-    record { none-barred = no-member (n .barred) (eqb-true (length (n .barred)) 0 (z .0)); fits = z .1 }
+    let none = eqb-true (length (n .barred)) 0 (z .0) in
+    record { none-barred = no-members (n .barred) (omega arith); fits = z .1 }
 
 -- where nothing is barred the turns decide; elsewhere nothing is counted
 pub counted-by-turns : (n : Nest) (ts : List ℕ) → length (n .barred) ≡ 0 → canCount n ts ≡ turnsFit n ts

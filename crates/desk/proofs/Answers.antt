@@ -4,12 +4,13 @@
 use mathlib.Core.Path.{_≡_, refl, sym, _∙_, ap}
 use mathlib.Core.Bool.{Bool, true, false, not}
 use mathlib.Core.List.{List}
-use Prim.Native.Nat.{ℕ, zero, suc, _-_, _≤_, _<_}
+use Prim.Native.Nat.{ℕ, _-_, _≤_, _<_}
 use native.Mathlib.Omega.{arith}
 use lib.Dec.{eqb, ltb}
 use lib.ListN.{length}
 use borrow.Author.Tests.{eq-eqb, ne-eqb, lt-ltb, le-ltb}
-use Rattle.laws.specs.Choice.{pick, when, firstOf}
+use Rattle.laws.specs.Choice.{pick, when}
+use Rattle.laws.proofs.Choices.{first-set, first-none}
 use Rattle.nests.specs.Loops.{isDo}
 use Rattle.lines.specs.Writing.{over}
 use Rattle.placements.specs.Placements.{loopCount}
@@ -35,13 +36,6 @@ short d out = when (ltb (length out) (length (keyText (deskIn d .key)))) 9
 abbrev faultIn : Placed → Fault
 faultIn x = fault (x .number) (x .place)
 
-first-set : (a b k : ℕ) → k ≡ a → (k ≡ 0 → ⊥) → firstOf a b ≡ k
-first-set zero b k e h = absurd (h e)
-first-set (suc a) b k e h = sym e
-
-first-none : (a b k : ℕ) → a ≡ 0 → b ≡ k → firstOf a b ≡ k
-first-none a b k e h = rw e h
-
 is-set : (f k : ℕ) → f ≡ k → (k ≡ 0 → ⊥) → eqb f 0 ≡ false
 is-set f k e h = ne-eqb f 0 (λ q. h (sym e ∙ q))
 
@@ -52,11 +46,11 @@ module _ (d : DD.Desk) (p : ℕ) (r : DA.Answer) where
       record { number-is = a .number-is ∙ sym e; line-is = a .line-is; value-is = rw z (a .value-is) }
 
   pub count-refused : (k : ℕ) → k ≡ state d → (k ≡ 0 → ⊥) → RefusedAs k r → CountSays d p r
-  count-refused k e h a = count-by k (first-set (state d) (noDo d p) k e h) h a
+  count-refused k e h a = count-by k (first-set (state d) (noDo d p) (λ q. h (e ∙ q)) ∙ sym e) h a
 
   do-fault
       : (t : Bool) → state d ≡ 0 → isDo (deskIn d .nest-is .points) p ≡ t → countFault (deskIn d) p ≡ when (not t) 6
-  do-fault t e i = first-none (state d) (noDo d p) (when (not t) 6) e (ap (λ (x : Bool). when (not x) 6) i)
+  do-fault t e i = first-none (state d) (noDo d p) e ∙ ap (λ (x : Bool). when (not x) 6) i
 
   pub count-no-do : state d ≡ 0 → isDo (deskIn d .nest-is .points) p ≡ false → RefusedAs 6 r → CountSays d p r
   count-no-do e i a = count-by 6 (do-fault false e i) (λ q. omega arith) a
@@ -75,12 +69,12 @@ module _ (d : DD.Desk) (out out′ : List ℕ) (r : DA.Answer) where
       record { number-is = a .number-is ∙ sym e; line-is = a .line-is; value-is = rw z (a .value-is); out-is = rw z o }
 
   pub write-refused : (k : ℕ) → k ≡ state d → (k ≡ 0 → ⊥) → RefusedAs k r → out′ ≡ out → WriteSays d out out′ r
-  write-refused k e h a o = write-by k (first-set (state d) (short d out) k e h) h a o
+  write-refused k e h a o = write-by k (first-set (state d) (short d out) (λ q. h (e ∙ q)) ∙ sym e) h a o
 
   short-fault
       : (t : Bool) → state d ≡ 0 → ltb (length out) (length (keyText (deskIn d .key))) ≡ t
       → writeFault (deskIn d) out ≡ when t 9
-  short-fault t e i = first-none (state d) (short d out) (when t 9) e (ap (λ (x : Bool). when x 9) i)
+  short-fault t e i = first-none (state d) (short d out) e ∙ ap (λ (x : Bool). when x 9) i
 
   pub write-short
       : state d ≡ 0 → length out < length (keyText (deskIn d .key)) → RefusedAs 9 r → out′ ≡ out

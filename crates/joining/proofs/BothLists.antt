@@ -1,6 +1,5 @@
 -- Two lists, one after the other: whose members are whose; and dependences moved along.
--- Main statements: `in-both`, `in-front`, `in-back`; `among-both`, `among-front`, `among-back`; `among-moved`,
--- `moved-among`.
+-- Main statements: `in-both`, `in-front`, `in-back`; `among-both`; `among-moved`, `moved-among`.
 use mathlib.Core.Path.{_≡_, refl, ap}
 use mathlib.Core.Bool.{true}
 use mathlib.Core.List.{List, [], _∷_, _++_}
@@ -35,15 +34,6 @@ in-front x (y ∷ xs) ys h = ⊎-elim
 pub in-back : (x : ℕ) (xs ys : List ℕ) → isIn x ys ≡ true → isIn x (xs ++ ys) ≡ true
 in-back x [] ys h = h
 in-back x (y ∷ xs) ys h = in-later x y (xs ++ ys) (in-back x xs ys h)
-
-pub among-front : (e : Dep) (xs ys : List Dep) → Among e xs → Among e (xs ++ ys)
-among-front e [] ys a = absurd a
-among-front e (x ∷ xs) ys a =
-    ⊎-elim (λ (z : e ≡ x). inl z) (λ (z : Among e xs). inr (among-front e xs ys z)) a
-
-pub among-back : (e : Dep) (xs ys : List Dep) → Among e ys → Among e (xs ++ ys)
-among-back e [] ys a = a
-among-back e (x ∷ xs) ys a = inr (among-back e xs ys a)
 
 pub among-both : (e : Dep) (xs ys : List Dep) → Among e (xs ++ ys) → Among e xs ⊎ Among e ys
 among-both e [] ys a = inr a

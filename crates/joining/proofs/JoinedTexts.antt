@@ -10,6 +10,7 @@ use lib.ListN.{length, take, drop}
 use lib.Seq.{take-at}
 use borrow.Author.Tests.{eqb-true, eqb-false}
 use Rattle.laws.specs.Choice.{pick}
+use Rattle.laws.proofs.Members.{no-members}
 use Rattle.nests.specs.Nests.{Nest}
 use Rattle.placements.specs.Trees.{node, bare, beside, treeOf}
 use Rattle.lines.specs.Writing.{over}
@@ -23,7 +24,6 @@ use Rattle.joining.specs.Says.{fault, jointText, roomFault, textsFault, 
 use Rattle.joining.proofs.JointValid.{joint-by}
 use Rattle.joining.proofs.JointKey.{joined-key}
 use Rattle.joining.proofs.JointTree.{least-tree-joined}
-use Rattle.joining.proofs.Replies.{unbarred-of}
 
 -- where there is no fault
 record NoFault (x y : Got) : Type 0 where
@@ -59,8 +59,10 @@ none-of x y room =
         record {
           first = eqb-true (x .number) 0 p;
           second = eqb-true (y .number) 0 q;
-          first-unbarred = unbarred-of (x .nest-is .barred) (eqb-true (length (x .nest-is .barred)) 0 i);
-          second-unbarred = unbarred-of (y .nest-is .barred) (eqb-true (length (y .nest-is .barred)) 0 k);
+          first-unbarred =
+              no-members (x .nest-is .barred) (omega (arith, eqb-true (length (x .nest-is .barred)) 0 i));
+          second-unbarred =
+              no-members (y .nest-is .barred) (omega (arith, eqb-true (length (y .nest-is .barred)) 0 k));
           within = r;
         }
     go true true true false u p q i k r h = absurd (omega arith)

@@ -14,7 +14,7 @@ use borrow.Author.Tests.{eq-eqb, ne-eqb}
 use Rattle.laws.specs.Choice.{when, isIn}
 use Rattle.laws.specs.Members.{Among}
 use Rattle.laws.proofs.Tests.{never, bool-by}
-use Rattle.laws.proofs.Members.{in-here, in-later, in-cons}
+use Rattle.laws.proofs.Members.{among-front, among-back, in-here, in-later, in-cons}
 use Rattle.nests.specs.Nests.{Dep, Nest}
 use Rattle.nests.specs.Loops.{isDo, ownerOf}
 use Rattle.nests.specs.Valid.{isShape}
@@ -28,7 +28,7 @@ use Rattle.joining.proofs.Parts.{owner-moved}
 use Rattle.joining.proofs.PartDeps.{gap-moved}
 use Rattle.joining.proofs.JointShapes.{joint-length, JointGap, own, of-first, of-second, joint-gap}
 use Rattle.joining.proofs.JointValid.{Joint}
-use Rattle.joining.proofs.BothLists.{in-both, in-front, in-back, among-both, among-front, among-back}
+use Rattle.joining.proofs.BothLists.{in-both, in-front, in-back, among-both}
 use Rattle.joining.proofs.BothLists.{among-moved, moved-among}
 use Rattle.joining.proofs.MovedGaps.{in-moved, moved-rising, rising-both}
 use Rattle.joining.proofs.MovedGaps.{gapsWithin, in-within, within-moved, within-both, within-none}
@@ -95,9 +95,6 @@ module _ (n m : Nest) (j : Joint n m) where
   abbrev pub secondOf : List ℕ → List ℕ
   secondOf gs = gapsWithin (secondAt n) (length (m .points)) gs
 
-  long : length (joined n m .points) ≡ length (n .points) + length (m .points) + 2
-  long = joint-length (n .points) (m .points)
-
   module _ (a b : List ℕ) (one : areGaps n a ≡ true) (two : areGaps m b ≡ true) where
     abbrev both : List ℕ
     both = joinedGaps n a b
@@ -117,9 +114,9 @@ module _ (n m : Nest) (j : Joint n m) where
     both-gaps =
         rising-lower 0 1 (length (joined n m .points)) both (omega arith)
         (rising-both 1 (secondAt n) (length (joined n m .points)) (movedGaps 1 a) (movedGaps (secondAt n) b)
-        (omega arith) (omega (arith, long)) moved-first
+        (omega arith) (omega (arith, joint-length (n .points) (m .points))) moved-first
         (rising-wider (secondAt n) (secondAt n + length (m .points)) (length (joined n m .points))
-        (movedGaps (secondAt n) b) (omega (arith, long)) moved-second))
+        (movedGaps (secondAt n) b) (omega (arith, joint-length (n .points) (m .points))) moved-second))
 
     -- each part has its own back
     pub first-back : firstOf (joinedGaps n a b) ≡ a

@@ -13,11 +13,11 @@ use Rattle.nests.specs.Loops.{isDo, endOf}
 use Rattle.nests.specs.Valid.{isShape}
 use Rattle.nests.proofs.Deps.{valid-is}
 use Rattle.nests.proofs.Levels.{starts-with-do}
-use Rattle.nests.proofs.Loops.{end-after, end-there}
+use Rattle.nests.proofs.Loops.{inside-lies, end-after, end-there}
 use Rattle.placements.specs.Placements.{areGaps, loopCount}
 use Rattle.placements.specs.Trees.{Tree, node, bare, beside}
 use Rattle.placements.specs.Trees.{isRightIn, loopsRightIn, forestOf, treeFrom, treeOf}
-use Rattle.placements.proofs.Inside.{right-in-lies, inside-lies, inside-ends}
+use Rattle.placements.proofs.Inside.{right-in-lies, inside-ends}
 use Rattle.keys.specs.KeyOf.{keyOf}
 use Rattle.keys.proofs.KeyGaps.{valid-gaps}
 use Rattle.joining.specs.JointNests.{movedGaps, joined, joinedGaps, secondAt, joinedPoints, Papers, exceeds}

@@ -2,27 +2,22 @@
 -- Main definitions: `Deepest`, `Summed`, what a turn keeps. Main statements: `deepest-begin`, `deepest-on`,
 -- `deepest-done`; `summed-begin`, `summed-on`, `summed-within`, `summed-done`; `deps-short`.
 use mathlib.Core.Path.{_≡_}
-use mathlib.Core.Bool.{Bool, true, false}
 use mathlib.Core.List.{List, [], _∷_}
-use mathlib.Core.Logic.{⊎-elim}
-use Prim.Native.Nat.{ℕ, suc, _+_, _-_, _*_, _≤_, _<_, max}
+use Prim.Native.Nat.{ℕ, suc, _+_, _*_, _≤_, _<_, max}
 use native.Mathlib.Numerals.{add-one}
 use native.Mathlib.Omega.{arith}
-use lib.Dec.{eqb}
 use lib.ListN.{length, getD, drop, length-append, drop-of-length-le}
 use lib.Seq.{drop-cons}
-use Rattle.laws.specs.Choice.{pick}
-use Rattle.laws.proofs.Tests.{eq-or}
-use Rattle.nests.specs.Kinds.{DO, ENDDO, INDEPENDENT}
 use Rattle.nests.specs.Nests.{Dep}
 use Rattle.nests.specs.Loops.{deeper}
+use Rattle.nests.proofs.Scan.{deeper-grows}
 use Rattle.lines.specs.Lines.{lineText}
 use Rattle.texts.specs.Pieces.{depFrame, piecesText}
 use Rattle.texts.specs.NestTexts.{depPieces}
+use Rattle.texts.proofs.ProgramTexts.{frame-length}
 use Rattle.joining.specs.JointNests.{deepestFrom, deepest}
 use Rattle.joining.specs.Written.{depsText}
 use Rattle.joining.proofs.Depths.{start-deepest}
-use Rattle.joining.proofs.PiecesWritten.{line-length, ring-length}
 
 -- ---- how deep points go
 
@@ -32,14 +27,6 @@ pub record Deepest (ps : List ℕ) (most depth i : ℕ) : Type 0 where
   pub shallow : depth ≤ i
   pub covers : depth ≤ most
   pub is : max most (deepestFrom depth (drop i ps)) ≡ deepest ps
-
-deeper-near : (d p : ℕ) → deeper d p ≤ suc d
-deeper-near d p = go (eqb p DO) (eqb p ENDDO)
-  where
-    go : (a b : Bool) → pick a (suc d) (pick b (d - 1) d) ≤ suc d
-    go true b = omega arith
-    go false true = omega arith
-    go false false = omega arith
 
 pub deepest-begin : (ps : List ℕ) → Deepest ps 0 0 0
 deepest-begin ps = record { low = omega arith; shallow = omega arith; covers = omega arith; is = omega arith }
@@ -56,7 +43,7 @@ module _ {ps : List ℕ} {most depth i : ℕ} (p : Deepest ps most depth i) wher
       rw (drop-cons ps i 0 l, add-one i, e) in
       record {
         low = omega arith;
-        shallow = omega (arith, p .shallow, deeper-near depth (getD ps i 0));
+        shallow = omega (arith, p .shallow, deeper-grows depth (getD ps i 0));
         covers = omega arith;
         is = omega (arith, p .is, p .covers, start-deepest d (drop (i + 1) ps));
       }
@@ -100,16 +87,10 @@ module _ {es : List Dep} {sum i : ℕ} (p : Summed es sum i) where
       omega (arith, p .is)
 
 -- a line has at most 9 bytes, so that no sum is large
-line-short : (e : Dep) → length (lineText (depFrame e)) ≤ 9
-line-short e = ⊎-elim
-    (λ (z : e .kind ≡ INDEPENDENT). omega (arith, line-length e z))
-    (λ (z : e .kind ≡ INDEPENDENT → ⊥). omega (arith, ring-length e z))
-    (eq-or (e .kind) INDEPENDENT)
-
 pub deps-short : (es : List Dep) → length (depsText es) ≤ 9 * length es
 unfolding piecesText depPieces
 deps-short [] = omega arith
-deps-short (e ∷ es) = omega (arith, deps-cons e es, line-short e, deps-short es)
+deps-short (e ∷ es) = omega (arith, deps-cons e es, frame-length e, deps-short es)
 
 pub summed-within : {es : List Dep} {sum i : ℕ} → Summed es sum i → sum ≤ 9 * length es
 summed-within {es} p = omega (arith, p .is, deps-short es)

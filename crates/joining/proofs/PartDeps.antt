@@ -2,7 +2,7 @@
 -- along.
 -- Main statements: `dep-moved`, `deps-moved`, `gap-moved`, `gap-in-part`.
 use mathlib.Core.Path.{_≡_, refl}
-use mathlib.Core.Bool.{Bool, true, _&&_, _||_, not}
+use mathlib.Core.Bool.{true, _&&_, _||_, not}
 use mathlib.Core.List.{List, [], _∷_}
 use mathlib.Core.Logic.{_⊎_, inl, inr, ⊎-elim}
 use Prim.Native.Nat.{ℕ, suc, _+_, _<_}
@@ -18,7 +18,7 @@ use Rattle.nests.specs.Nests.{Dep}
 use Rattle.nests.specs.Loops.{isDo, endOf, inLoop}
 use Rattle.nests.specs.Gaps.{hasGap}
 use Rattle.nests.specs.Valid.{isSource, isTarget, namesPoints, runsRight, isOfKind, isDep, areDeps}
-use Rattle.nests.proofs.Deps.{Fits, line-gap}
+use Rattle.nests.proofs.Deps.{Fits, target-and-loop, line-gap}
 use Rattle.nests.proofs.Loops.{end-there}
 use Rattle.joining.specs.JointNests.{movedDep, movedDeps}
 use Rattle.joining.proofs.Parts.{Part, do-moved, end-moved, inside-moved}
@@ -53,18 +53,13 @@ module _ (ps qs : List ℕ) (k : ℕ) (part : Part ps qs k) where
 
   -- a dependence between points of the part, independent or carried
   module _ (e : Dep) (names : namesPoints ps e ≡ true) (right : runsRight ps e ≡ true) where
-    abbrev carrier : Bool
-    carrier = not (eqb (e .kind) CARRIED) || isDo ps (e .d)
-
     source : isSource qs (k + e .s) ≡ true
-    source = source-moved (e .s) (and-true (isSource ps (e .s)) (isTarget ps (e .t) && carrier) names .0)
-
-    target-and-loop : (isTarget ps (e .t) ≡ true) × ((not (eqb (e .kind) CARRIED) || isDo ps (e .d)) ≡ true)
-    target-and-loop =
-        and-true (isTarget ps (e .t)) carrier (and-true (isSource ps (e .s)) (isTarget ps (e .t) && carrier) names .1)
+    source =
+        let carrier = not (eqb (e .kind) CARRIED) || isDo ps (e .d) in
+        source-moved (e .s) (and-true (isSource ps (e .s)) (isTarget ps (e .t) && carrier) names .0)
 
     target : isTarget qs (k + e .t) ≡ true
-    target = target-moved (e .t) (target-and-loop .0)
+    target = target-moved (e .t) (target-and-loop ps e names right .0)
 
     line-moved : e .kind ≡ INDEPENDENT → eqb (e .d) 0 ≡ true → isDep qs (movedDep k e) ≡ true
     line-moved kind none =
@@ -74,7 +69,7 @@ module _ (ps qs : List ℕ) (k : ℕ) (part : Part ps qs k) where
 
     back-moved : e .kind ≡ CARRIED → isDep qs (movedDep k e) ≡ true
     back-moved kind =
-        let d : isDo ps (e .d) ≡ true = rw kind at (target-and-loop .1) in
+        let d : isDo ps (e .d) ≡ true = rw kind at (target-and-loop ps e names right .1) in
         let i : (inLoop ps (e .d) (e .s) && inLoop ps (e .d) (e .t)) ≡ true = rw kind at right in
         rw kind
         (and-intro

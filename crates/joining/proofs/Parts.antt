@@ -15,7 +15,7 @@ use Rattle.nests.specs.Loops.{isDo, endOf, ownerOf, inLoop}
 use Rattle.nests.specs.Valid.{isShape}
 use Rattle.nests.proofs.Levels.{lev, point-in}
 use Rattle.nests.proofs.Loops.{Owner, end-after, end-there, range-above, range-back, end-is, owner-law, owner-is}
-use Rattle.placements.proofs.Inside.{inside-lies, inside-by}
+use Rattle.nests.proofs.Loops.{inside-lies, inside-by}
 
 -- the points ps stand at k in the points qs, one level deeper
 pub record Part (ps qs : List ℕ) (k : ℕ) : Type 0 where

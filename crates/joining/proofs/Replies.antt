@@ -1,13 +1,14 @@
 -- What `join` answers, by the way through it: each refusal, and the joint text.
 -- Main definitions: `BothRead`, `BothUnbarred`. Main statements: `refused-says`, `written-says`; `first-fault`,
 -- `second-fault`, `first-bars`, `second-bars`, `accepted-papers`, `limit-fault`, `room-fault`, `no-fault`, `text-is`.
-use mathlib.Core.Path.{_≡_, refl, sym, ap, _∙_}
+use mathlib.Core.Path.{_≡_, sym, ap, _∙_}
 use mathlib.Core.Bool.{true, false}
-use mathlib.Core.List.{List, [], _∷_}
+use mathlib.Core.List.{List}
 use Prim.Native.Nat.{ℕ, _≤_, _<_}
 use native.Mathlib.Omega.{arith}
 use lib.ListN.{length}
 use borrow.Author.Tests.{eq-eqb, ne-eqb, lt-ltb, le-ltb}
+use Rattle.laws.proofs.Members.{no-members}
 use Rattle.nests.specs.Stored.{nestIn}
 use Rattle.nests.specs.Valid.{isValid}
 use Rattle.lines.specs.Writing.{over}
@@ -49,11 +50,6 @@ written-says e l w =
       value-is = rw e l;
       out-is = rw e w;
     }
-
--- no barred gap is counted, so nothing is barred
-pub unbarred-of : (bs : List ℕ) → length bs ≡ 0 → bs ≡ []
-unbarred-of [] e = refl
-unbarred-of (b ∷ bs) e = absurd (omega arith)
 
 -- what a reading got
 abbrev gotIn : Reading → Got
@@ -132,8 +128,8 @@ module _ {a b : List ℕ} {x y : Reading} (r : BothUnbarred a b x y) where
       record {
         first = accepted a x (r .both .one) (r .both .first-none);
         second = accepted b y (r .both .two) (r .both .second-none);
-        first-unbarred = unbarred-of (nestIn (x .nest) .barred) no-first;
-        second-unbarred = unbarred-of (nestIn (y .nest) .barred) no-second;
+        first-unbarred = no-members (nestIn (x .nest) .barred) (omega (arith, no-first));
+        second-unbarred = no-members (nestIn (y .nest) .barred) (omega (arith, no-second));
       }
 
   module _ (o : List ℕ) where

@@ -15,11 +15,11 @@ use Rattle.laws.proofs.Members.{in-here, in-later, in-cons}
 use Rattle.nests.specs.Loops.{isDo, ownerOf, inLoop}
 use Rattle.nests.specs.Valid.{isShape}
 use Rattle.nests.proofs.Levels.{lev, lev-zero, point-in, starts-with-do}
-use Rattle.nests.proofs.Loops.{outermost}
+use Rattle.nests.proofs.Loops.{inside-lies, inside-by, outermost}
 use Rattle.placements.specs.Placements.{areGapsFrom}
 use Rattle.placements.specs.Trees.{isRightIn, rightInFrom, loopsRightIn}
 use Rattle.placements.specs.Words.{kept, gapsOf}
-use Rattle.placements.proofs.Inside.{RightIn, right-in-lies, inside-lies, inside-by}
+use Rattle.placements.proofs.Inside.{RightIn, right-in-lies}
 use Rattle.placements.proofs.GapLists.{rising-lower}
 use Rattle.placements.proofs.Rising.{rising-in, rising-equal, rising-wider}
 use Rattle.placements.proofs.Words.{gapsOf-in, gapsOf-to, gapsOf-rising}

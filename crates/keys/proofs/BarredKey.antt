@@ -12,7 +12,7 @@ use lib.ListN.{length}
 use borrow.Author.Tests.{eq-eqb, eqb-true}
 use Rattle.laws.specs.Choice.{isIn}
 use Rattle.laws.specs.Members.{Among}
-use Rattle.laws.proofs.Members.{in-here}
+use Rattle.laws.proofs.Members.{in-here, no-members}
 use Rattle.laws.proofs.Tests.{never, and-true, bool-by}
 use Rattle.nests.specs.Nests.{Dep, Nest}
 use Rattle.nests.specs.Ring.{oneLoop}
@@ -52,10 +52,6 @@ order-ranked bs (x ∷ xs) (y ∷ ys) v w =
     (λ h. eq-eqb x y (ranked-equal bs x y (a .0) (b .0) (eqb-true (rank bs x) (rank bs y) h)))
     (λ h. eq-eqb (rank bs x) (rank bs y) (ap (rank bs) (eqb-true x y h))) in
     rw (e, ranked-above bs x y (b .0), order-ranked bs xs ys (a .1) (b .1))
-
-no-members : (xs : List ℕ) → length xs ≤ 0 → xs ≡ []
-no-members [] l = refl
-no-members (x ∷ xs) l = absurd (omega arith)
 
 ring-more : (m : ℕ) → suc m ≤ length (ringPoints m)
 ring-more zero = omega arith

@@ -13,6 +13,7 @@ use borrow.Author.Tests.{lt-ltb}
 use Rattle.laws.specs.Choice.{pick}
 use Rattle.laws.specs.Members.{Among}
 use Rattle.laws.proofs.Tests.{eq-or, and-intro}
+use Rattle.laws.proofs.Members.{among-front, among-back}
 use Rattle.nests.specs.Nests.{Nest}
 use Rattle.nests.specs.Valid.{isValid}
 use Rattle.nests.proofs.Deps.{valid-is}
@@ -111,16 +112,7 @@ module _ (cost : Nest → List ℕ → List ℕ) (n : Nest) where
       (rw e (cheaper-both gs best (rw e at c)))
   of-each (gs ∷ gss) best hs (inr a) c = of-each gss (cheaper gs best) hs a c
 
--- membership, of lists one after the other
-in-left : (gs : List ℕ) (xs ys : List (List ℕ)) → Among gs xs → Among gs (xs ++ ys)
-in-left gs [] ys a = absurd a
-in-left gs (x ∷ xs) ys (inl e) = inl e
-in-left gs (x ∷ xs) ys (inr a) = inr (in-left gs xs ys a)
-
-in-right : (gs : List ℕ) (xs ys : List (List ℕ)) → Among gs ys → Among gs (xs ++ ys)
-in-right gs [] ys a = a
-in-right gs (x ∷ xs) ys a = inr (in-right gs xs ys a)
-
+-- membership, of lists with a gap in front of each
 in-front : (g : ℕ) (gs : List ℕ) (xs : List (List ℕ)) → Among gs xs → Among (g ∷ gs) (inFront g xs)
 in-front g gs [] a = absurd a
 in-front g gs (x ∷ xs) (inl e) = inl (ap (λ (hs : List ℕ). g ∷ hs) e)
@@ -135,7 +127,7 @@ listed zero p n (g ∷ gs) e h =
     let r = rises p n g gs h in
     absurd (omega (arith, r .above, r .below))
 listed (suc k) p n [] e h =
-    in-right [] (inFront (suc p) (risingLists k (suc p))) (risingLists k (suc p))
+    among-back [] (inFront (suc p) (risingLists k (suc p))) (risingLists k (suc p))
     (listed k (suc p) n [] (omega arith) refl)
 listed (suc k) p n (g ∷ gs) e h =
     go (rises p n g gs h) (eq-or g (suc p)) (listed k (suc p) n gs (omega arith))
@@ -152,9 +144,9 @@ listed (suc k) p n (g ∷ gs) e h =
         → Among (g ∷ gs) (inFront (suc p) (risingLists k (suc p)) ++ risingLists k (suc p))
     go r (inl z) with-it without =
         rw z
-        (in-left (suc p ∷ gs) (inFront (suc p) rest) rest (in-front (suc p) gs rest (with-it (rw z at (r .rest)))))
+        (among-front (suc p ∷ gs) (inFront (suc p) rest) rest (in-front (suc p) gs rest (with-it (rw z at (r .rest)))))
     go r (inr z) with-it without =
-        in-right (g ∷ gs) (inFront (suc p) rest) rest
+        among-back (g ∷ gs) (inFront (suc p) rest) rest
         (without
         (and-intro (lt-ltb (suc p) g (omega (arith, r .above, z))) (and-intro (lt-ltb g n (r .below)) (r .rest))))
 

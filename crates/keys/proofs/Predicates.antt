@@ -15,13 +15,12 @@ use Rattle.laws.proofs.Tests.{never, eq-or, false-by, and-true}
 use Rattle.nests.specs.Nests.{Dep, Nest}
 use Rattle.nests.specs.Loops.{isDo, endOf, ownerOf}
 use Rattle.nests.specs.Valid.{isShape}
-use Rattle.nests.proofs.Loops.{outermost, end-in-outermost, owner-holds}
+use Rattle.nests.proofs.Loops.{inside-by, outermost, end-in-outermost, owner-holds}
 use Rattle.placements.specs.Placements.{cuts, areGapsFrom, areGaps, avoids, isCorrect, loopCount, asGood}
 use Rattle.placements.specs.Keys.{IsKey}
 use Rattle.placements.proofs.Cuts.{cut-has-gap, gap-cuts, correct-by, correct-gaps, correct-cuts}
 use Rattle.placements.proofs.Rising.{Rises, rises, rising-out}
 use Rattle.placements.proofs.LoopOrder.{SameInside, asGood-intro}
-use Rattle.placements.proofs.Inside.{inside-by}
 use Rattle.planner.specs.Home.{loopsIn}
 use Rattle.planner.proofs.Counts.{cnt, cnt-same, cnt-skip, cnt-none, cnt-put}
 use Rattle.planner.proofs.Claim.{mineOf, count}

@@ -1,6 +1,6 @@
 -- Choices: by cases of the test; the first of some numbers is 0 where all are; a choice is bounded as its parts are.
 -- Main statements: `pick-by`, `pick-same`, `first-zero`, `first-set`, `first-none`, `when-zero`,
--- `unless-zero`, `first-le`, `when-le`, `pick-le`.
+-- `unless-zero`, `first-le`, `when-le`.
 use mathlib.Core.Path.{_≡_, refl, sym}
 use mathlib.Core.Bool.{Bool, true, false, not}
 use Prim.Native.Nat.{ℕ, zero, suc, _≤_}
@@ -58,7 +58,3 @@ first-le (suc a) b m p q = p
 pub when-le : (t : Bool) (k m : ℕ) → k ≤ m → when t k ≤ m
 when-le true k m h = h
 when-le false k m h = omega arith
-
-pub pick-le : (t : Bool) (a b m : ℕ) → a ≤ m → b ≤ m → pick t a b ≤ m
-pick-le true a b m p q = p
-pick-le false a b m p q = q

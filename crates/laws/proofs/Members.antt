@@ -1,6 +1,6 @@
 -- Members of lists, and lists gathered over a run of numbers.
--- Main statements: `in-here`, `in-later`, `in-cons`, `each-of`, `every-by`, `in-gathered`, `gathered-in`,
--- `gathered-before`, `every-below`.
+-- Main statements: `no-members`, `among-drop`, `among-front`, `among-back`, `in-here`, `in-later`, `in-cons`,
+-- `each-of`, `every-by`, `in-gathered`, `gathered-in`, `gathered-before`, `every-below`.
 use mathlib.Core.Path.{_≡_, refl}
 use mathlib.Core.Bool.{Bool, true, false, _&&_}
 use mathlib.Core.List.{List, [], _∷_, _++_}
@@ -8,9 +8,33 @@ use mathlib.Core.Logic.{_⊎_, inl, inr, ⊎-elim}
 use Prim.Native.Nat.{ℕ, zero, suc, _+_, _≤_, _<_}
 use native.Mathlib.Omega.{arith}
 use lib.Dec.{eqb}
+use lib.ListN.{length, drop}
 use borrow.Author.Tests.{eqb-true, eq-eqb}
 use Rattle.laws.specs.Choice.{pick, isIn}
+use Rattle.laws.specs.Members.{Among}
 use Rattle.laws.proofs.Tests.{never, never-both, and-intro, and-true, or-left, or-right, or-true, eq-or}
+
+-- a list without members
+pub no-members : {A : Type 0} (xs : List A) → length xs ≤ 0 → xs ≡ []
+no-members [] l = refl
+no-members (x ∷ xs) l = absurd (omega arith)
+
+-- what stands in front of the rest of a list is one of the list
+pub among-drop : {A : Type 0} (x : A) (ys zs : List A) (i : ℕ) → drop i ys ≡ x ∷ zs → Among x ys
+among-drop x [] zs zero h = let z : _≡_ {A = ℕ} 0 1 = cc h in absurd (omega arith)
+among-drop x [] zs (suc i) h = let z : _≡_ {A = ℕ} 0 1 = cc h in absurd (omega arith)
+among-drop x (y ∷ ys) zs zero h = inl (cc h)
+among-drop x (y ∷ ys) zs (suc i) h = inr (among-drop x ys zs i h)
+
+-- a member of one of two lists is one of both, one after the other
+pub among-front : {A : Type 0} (x : A) (ys zs : List A) → Among x ys → Among x (ys ++ zs)
+among-front x [] zs a = absurd a
+among-front x (y ∷ ys) zs (inl e) = inl e
+among-front x (y ∷ ys) zs (inr a) = inr (among-front x ys zs a)
+
+pub among-back : {A : Type 0} (x : A) (ys zs : List A) → Among x zs → Among x (ys ++ zs)
+among-back x [] zs a = a
+among-back x (y ∷ ys) zs a = inr (among-back x ys zs a)
 
 pub in-here : (x : ℕ) (xs : List ℕ) → isIn x (x ∷ xs) ≡ true
 in-here x xs = or-left (isIn x xs) (eq-eqb x x refl)

@@ -12,6 +12,7 @@ use lib.ListN.{length}
 use borrow.Author.Tests.{ltb-true, ltb-false, leb-true, eqb-true, lt-ltb, le-ltb, le-leb, lt-leb, eq-eqb, ne-eqb}
 use Rattle.laws.specs.Choice.{pick, between}
 use Rattle.laws.proofs.Tests.{and-intro, and-true, or-true, or-left, or-right}
+use Rattle.laws.proofs.Ranges.{in-between, between-in}
 use Rattle.lines.specs.Lines.{FEED, Line, line, push, linesOf, isHex, valueOf, allHex, isDigits, isGood, byteOf}
 use Rattle.lines.specs.Lines.{frameOf, digitOf, byteText, digitsOf, lineText}
 
@@ -21,24 +22,16 @@ areBytes [] = true
 areBytes (b ∷ f) = ltb b 256 && areBytes f
 
 -- a digit and its value
-between-intro : (a x b : ℕ) → a ≤ x → x ≤ b → between a x b ≡ true
-between-intro a x b p q = and-intro (le-leb a x p) (le-leb x b q)
-
-between-true : (a x b : ℕ) → between a x b ≡ true → (a ≤ x) × (x ≤ b)
-between-true a x b h =
-    let z = and-true (leb a x) (leb x b) h in
-    (leb-true a x (z .0), leb-true x b (z .1))
-
 pub digit-is-hex : (v : ℕ) → v < 16 → isHex (digitOf v) ≡ true
 digit-is-hex v h = go (ltb v 10) refl
   where
     go : (t : Bool) → ltb v 10 ≡ t → isHex (pick t (48 + v) (87 + v)) ≡ true
     go true e =
         let z = ltb-true v 10 e in
-        or-left (between 97 (48 + v) 102) (between-intro 48 (48 + v) 57 (omega arith) (omega arith))
+        or-left (between 97 (48 + v) 102) (between-in 48 (48 + v) 57 (omega arith) (omega arith))
     go false e =
         let z = ltb-false v 10 e in
-        or-right (between 48 (87 + v) 57) (between-intro 97 (87 + v) 102 (omega arith) (omega arith))
+        or-right (between 48 (87 + v) 57) (between-in 97 (87 + v) 102 (omega arith) (omega arith))
 
 pub value-of-digit : (v : ℕ) → v < 16 → valueOf (digitOf v) ≡ v
 value-of-digit v h = go (ltb v 10) refl
@@ -56,12 +49,12 @@ hex-is-digit b h = ⊎-elim low high (or-true (between 48 b 57) (between 97 b 10
   where
     low : between 48 b 57 ≡ true → (valueOf b < 16) × (digitOf (valueOf b) ≡ b)
     low z =
-        let r = between-true 48 b 57 z in
+        let r = in-between 48 b 57 z in
         rw (le-leb b 57 (r .1)) (omega arith, rw (lt-ltb (b - 48) 10 (omega arith)) (omega arith))
 
     high : between 97 b 102 ≡ true → (valueOf b < 16) × (digitOf (valueOf b) ≡ b)
     high z =
-        let r = between-true 97 b 102 z in
+        let r = in-between 97 b 102 z in
         rw (lt-leb b 57 (omega arith)) (omega arith, rw (le-ltb (b - 87) 10 (omega arith)) (omega arith))
 
 pub hex-no-feed : (b : ℕ) → isHex b ≡ true → eqb b FEED ≡ false
@@ -69,12 +62,12 @@ hex-no-feed b h = ⊎-elim low high (or-true (between 48 b 57) (between 97 b 102
   where
     low : between 48 b 57 ≡ true → eqb b FEED ≡ false
     low z =
-        let r = between-true 48 b 57 z in
+        let r = in-between 48 b 57 z in
         ne-eqb b FEED (omega arith)
 
     high : between 97 b 102 ≡ true → eqb b FEED ≡ false
     high z =
-        let r = between-true 97 b 102 z in
+        let r = in-between 97 b 102 z in
         ne-eqb b FEED (omega arith)
 
 -- a byte and its two digits

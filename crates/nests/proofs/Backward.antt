@@ -1,15 +1,15 @@
 -- The scan back from a gap for the loop that it belongs to: the last DO before it with a lower level.
 -- Main statements: `Back`, what a turn keeps; `back-start`, `back-found`, `back-over-do`, `back-over-end`,
 -- `back-over-other`, `back-ends`.
-use mathlib.Core.Path.{_≡_, refl, sym, ap, _∙_}
+use mathlib.Core.Path.{_≡_, sym, ap, _∙_}
 use mathlib.Core.Bool.{true}
 use mathlib.Core.List.{List}
 use mathlib.Core.Logic.{⊎-elim}
-use Prim.Native.Nat.{ℕ, zero, suc, _+_, _-_, _≤_, _<_}
+use Prim.Native.Nat.{ℕ, suc, _+_, _-_, _≤_, _<_}
 use native.Mathlib.Omega.{arith}
 use lib.ListN.{length, getD}
 use borrow.Author.Tests.{eq-eqb, ne-eqb}
-use Rattle.laws.proofs.Tests.{le-or, le-by}
+use Rattle.laws.proofs.Tests.{le-or, le-by, lt-by}
 use Rattle.nests.specs.Loops.{ownerOf}
 use Rattle.nests.specs.Valid.{isShape}
 use Rattle.nests.proofs.Levels.{lev, lev-up, lev-same, lev-zero, lev-inside, lev-falls}
@@ -63,11 +63,8 @@ module _ (ps : List ℕ) (shape : isShape ps ≡ true) (g : ℕ) (first : 0 < g)
     over-do : getD ps i 0 ≡ 1 → (depth ≡ 0 → ⊥) → Back ps g (depth - 1) i
     over-do e n =
         let u = lev-up ps i (eq-eqb (getD ps i 0) 1 e) in
-        step depth i (depth - 1) p (omega (arith, u, p .level, positive depth n)) (omega arith)
-      where
-        positive : (k : ℕ) → (k ≡ 0 → ⊥) → 0 < k
-        positive zero h = absurd (h refl)
-        positive (suc k) h = omega arith
+        let some : 0 < depth = lt-by (λ z. n (omega arith)) in
+        step depth i (depth - 1) p (omega (arith, u, p .level)) (omega arith)
 
     over-end : getD ps i 0 ≡ 2 → Back ps g (depth + 1) i
     over-end e =

@@ -1,7 +1,8 @@
 -- Dependences that are placed well: an independent one runs forward, a carried one has both points inside its loop. The
 -- order of a carried one's two points plays no part.
--- Main definition: `Fits`. Main statements: `dep-fits`, `deps-fit`, `valid-is`, `is-valid`, and the gaps as
--- facts: `line-gap`, `gap-of-line`, `back-gap`, `gap-before-target`, `gap-after-source`, `target-gap`, `forward-ring`.
+-- Main definition: `Fits`. Main statements: `dep-fits`, `deps-fit`, `is-line`, `is-back`, `valid-is`, `is-valid`, and
+-- the gaps as facts: `line-gap`, `gap-of-line`, `back-gap`, `gap-before-target`, `gap-after-source`, `target-gap`,
+-- `forward-ring`.
 use mathlib.Core.Path.{_≡_, sym, _∙_}
 use mathlib.Core.Bool.{true, _&&_, _||_, not}
 use mathlib.Core.List.{List, [], _∷_}
@@ -20,6 +21,7 @@ use Rattle.nests.specs.Nests.{Dep, Nest}
 use Rattle.nests.specs.Loops.{isDo, endOf, inLoop}
 use Rattle.nests.specs.Gaps.{hasGap}
 use Rattle.nests.specs.Valid.{isSource, isTarget, namesPoints, runsRight, isDep, areDeps, areBars, isShape, isValid}
+use Rattle.nests.proofs.Loops.{inside-lies}
 
 -- an independent dependence
 pub record Line (ps : List ℕ) (e : Dep) : Type 0 where
@@ -39,13 +41,17 @@ pub record Back (ps : List ℕ) (e : Dep) : Type 0 where
 abbrev pub Fits : List ℕ → Dep → Type 0
 Fits ps e = Line ps e ⊎ Back ps e
 
-in-loop : (ps : List ℕ) (d p : ℕ) → inLoop ps d p ≡ true → (d < p) × (p < endOf ps d)
-in-loop ps d p h =
-    let z = and-true (ltb d p) (ltb p (endOf ps d)) h in
-    (ltb-true d p (z .0), ltb-true p (endOf ps d) (z .1))
+-- a dependence by its kind
+pub is-line : (ps : List ℕ) (e : Dep) → Fits ps e → e .kind ≡ INDEPENDENT → Line ps e
+is-line ps e (inl f) k = f
+is-line ps e (inr f) k = let z : _≡_ {A = ℕ} INDEPENDENT CARRIED = sym k ∙ f .kind-is in absurd (omega arith)
+
+pub is-back : (ps : List ℕ) (e : Dep) → Fits ps e → (e .kind ≡ INDEPENDENT → ⊥) → Back ps e
+is-back ps e (inl f) k = absurd (k (f .kind-is))
+is-back ps e (inr f) k = f
 
 module _ (ps : List ℕ) (e : Dep) (names : namesPoints ps e ≡ true) (right : runsRight ps e ≡ true) where
-  target-and-loop : (isTarget ps (e .t) ≡ true) × ((not (eqb (e .kind) CARRIED) || isDo ps (e .d)) ≡ true)
+  pub target-and-loop : (isTarget ps (e .t) ≡ true) × ((not (eqb (e .kind) CARRIED) || isDo ps (e .d)) ≡ true)
   target-and-loop =
       let carrier = not (eqb (e .kind) CARRIED) || isDo ps (e .d) in
       and-true (isTarget ps (e .t)) carrier (and-true (isSource ps (e .s)) (isTarget ps (e .t) && carrier) names .1)
@@ -62,8 +68,8 @@ module _ (ps : List ℕ) (e : Dep) (names : namesPoints ps e ≡ true) (right : 
   back-fits k =
       let c : (inLoop ps (e .d) (e .s) && inLoop ps (e .d) (e .t)) ≡ true = rw k at right in
       let g = and-true (inLoop ps (e .d) (e .s)) (inLoop ps (e .d) (e .t)) c in
-      let s = in-loop ps (e .d) (e .s) (g .0) in
-      let t = in-loop ps (e .d) (e .t) (g .1) in
+      let s = inside-lies ps (e .d) (e .s) (g .0) in
+      let t = inside-lies ps (e .d) (e .t) (g .1) in
       record {
         kind-is = k;
         loop = rw k at (target-and-loop .1);

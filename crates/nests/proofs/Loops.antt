@@ -1,23 +1,33 @@
 -- Loops by levels: a loop's ENDDO is where the level first falls back to the level of its DO; a gap belongs to the last
 -- point before it with a lower level. From here on nothing unfolds `endOf` or `ownerFrom`.
 -- Main statements: `end-after`, `end-there`, `end-is-end`, `range-above`, `range-back`, `end-is`, `outermost`,
--- `nested`, `nested-or-disjoint`, `owner-law`, `owner-inside`, `owner-lower`, `end-has-do`, `owner-of-end`.
+-- `nested`, `nested-or-disjoint`, `owner-law`, `owner-inside`, `owner-lower`, `end-has-do`, `owner-of-end`,
+-- `owner-at-most`; of the test, `inside-lies`, `inside-by`.
 use mathlib.Core.Path.{_≡_, refl, ap}
 use mathlib.Core.Bool.{Bool, true, false, _&&_}
 use mathlib.Core.List.{List}
 use mathlib.Core.Logic.{_⊎_, inl, inr, ⊎-elim}
 use Prim.Native.Nat.{ℕ, zero, suc, _+_, _-_, _≤_, _<_}
 use native.Mathlib.Omega.{arith}
-use lib.Dec.{eqb, leb}
+use lib.Dec.{eqb, leb, ltb}
 use lib.ListN.{length, getD, drop}
 use lib.Seq.{drop-cons}
-use borrow.Author.Tests.{leb-true, le-leb, eqb-true, eqb-false}
+use borrow.Author.Tests.{leb-true, le-leb, eqb-true, eqb-false, ltb-true, lt-ltb}
 use Rattle.laws.specs.Choice.{pick}
 use Rattle.laws.proofs.Tests.{never-both, le-or, le-by, lt-by, and-true, and-intro}
-use Rattle.nests.specs.Loops.{isDo, isEnd, deeper, endFrom, endOf, ownerFrom, ownerOf}
+use Rattle.nests.specs.Loops.{isDo, isEnd, deeper, endFrom, endOf, ownerFrom, ownerOf, inLoop}
 use Rattle.nests.specs.Valid.{isShape}
 use Rattle.nests.proofs.Levels.{lev, lev-up, lev-falls, lev-same, lev-zero, lev-inside, lev-last, point-in}
 use Rattle.nests.proofs.Levels.{starts-with-do, end-not-first, do-where-rises, Last, last-below}
+
+-- a point inside a loop
+pub inside-lies : (ps : List ℕ) (d x : ℕ) → inLoop ps d x ≡ true → (d < x) × (x < endOf ps d)
+inside-lies ps d x h =
+    let z = and-true (ltb d x) (ltb x (endOf ps d)) h in
+    (ltb-true d x (z .0), ltb-true x (endOf ps d) (z .1))
+
+pub inside-by : (ps : List ℕ) (d x : ℕ) → d < x → x < endOf ps d → inLoop ps d x ≡ true
+inside-by ps d x l m = and-intro (lt-ltb d x l) (lt-ltb x (endOf ps d) m)
 
 -- e is the first point at or after i at which the level falls back to b
 record Falls (ps : List ℕ) (b i e : ℕ) : Type 0 where
@@ -143,6 +153,10 @@ owner-from-below ps (suc k) g = go (isDo ps (suc k) && leb g (endOf ps (suc k)))
     go : (t : Bool) → ownerFrom (suc k) g ps ≤ k → elim t [ true ↦ suc k | false ↦ ownerFrom (suc k) g ps ] ≤ suc k
     go true h = omega arith
     go false h = omega arith
+
+pub owner-at-most : (ps : List ℕ) (g : ℕ) → ownerOf ps g ≤ g
+owner-at-most ps zero = omega arith
+owner-at-most ps (suc g) = omega (arith, owner-from-below ps g (suc g))
 
 -- two of them are the same loop
 pub owner-unique : {ps : List ℕ} {k g h x : ℕ} → Owner ps k g h → Owner ps k g x → h ≡ x

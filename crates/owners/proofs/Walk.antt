@@ -1,12 +1,12 @@
 -- The pass over the points from left to right: the loop of the gap here is the DO just passed, the loop around the one
 -- that just ended, or the same as before.
 -- Main definition: `Walked`, what a turn keeps. Main statements: `walk-start`, `walk-do`, `walk-end`, `walk-plain`,
--- `walk-done`, `owner-at-most`.
+-- `walk-done`.
 use mathlib.Core.Path.{_≡_, refl, sym, ap, _∙_}
 use mathlib.Core.Bool.{true, false}
 use mathlib.Core.List.{List}
 use mathlib.Core.Logic.{⊎-elim}
-use Prim.Native.Nat.{ℕ, zero, suc, _+_, _≤_, _<_}
+use Prim.Native.Nat.{ℕ, suc, _+_, _≤_, _<_}
 use native.Mathlib.Numerals.{add-one}
 use native.Mathlib.Omega.{arith}
 use lib.ListN.{length, getD, set, length-set}
@@ -18,13 +18,9 @@ use Rattle.nests.specs.Kinds.{DO, ENDDO, POINTS}
 use Rattle.nests.specs.Loops.{isDo, isEnd, ownerOf}
 use Rattle.nests.specs.Valid.{isShape}
 use Rattle.nests.proofs.Levels.{end-not-first}
-use Rattle.nests.proofs.Loops.{owner-from-below, owner-below}
+use Rattle.nests.proofs.Loops.{owner-at-most, owner-below}
 use Rattle.nests.proofs.Gaps.{owner-after-do, owner-after-end, owner-after-plain}
 use Rattle.owners.specs.Tables.{OwnersAre}
-
-pub owner-at-most : (ps : List ℕ) (g : ℕ) → ownerOf ps g ≤ g
-owner-at-most ps zero = omega arith
-owner-at-most ps (suc g) = omega (arith, owner-from-below ps g (suc g))
 
 -- before point g: the loop there, and the table of those before
 pub record Walked (ps : List ℕ) (g around : ℕ) (owners : List ℕ) : Type 0 where

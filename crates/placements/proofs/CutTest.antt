@@ -8,10 +8,11 @@ use mathlib.Core.Logic.{_⊎_, inl, inr, ⊎-elim}
 use Prim.Native.Nat.{ℕ, zero, suc, _+_, _≤_, _<_}
 use native.Mathlib.Numerals.{add-one}
 use native.Mathlib.Omega.{arith}
-use lib.Dec.{eqb, ltb, leb}
-use borrow.Author.Tests.{eq-eqb, ne-eqb, lt-ltb, le-ltb, le-leb, leb-true}
+use lib.Dec.{eqb, ltb}
+use borrow.Author.Tests.{eq-eqb, ne-eqb, lt-ltb, le-ltb}
 use Rattle.laws.specs.Choice.{pick, between}
-use Rattle.laws.proofs.Tests.{le-or, never, and-intro, and-true, or-true, or-left, or-right, false-by}
+use Rattle.laws.proofs.Tests.{le-or, never, or-true, or-left, or-right, false-by}
+use Rattle.laws.proofs.Ranges.{in-between, between-in}
 use Rattle.nests.specs.Kinds.{INDEPENDENT}
 use Rattle.nests.specs.Nests.{Dep}
 use Rattle.nests.specs.Loops.{endOf}
@@ -23,20 +24,14 @@ use Rattle.placements.specs.Answers.{cutOf, isCut, CutSays, foundOf}
 
 -- ---- the lowest gap of a range
 
-pub between-true : (a x b : ℕ) → between a x b ≡ true → (a ≤ x) × (x ≤ b)
-between-true a x b h = let z = and-true (leb a x) (leb x b) h in (leb-true a x (z .0), leb-true x b (z .1))
-
-pub between-by : (a x b : ℕ) → a ≤ x → x ≤ b → between a x b ≡ true
-between-by a x b p q = and-intro (le-leb a x p) (le-leb x b q)
-
 module _ (ws : List ℕ) (lo hi r : ℕ) (p : LowestFrom ws lo r) where
   -- the lowest from lo on is at most hi
   pub lowest-between : r ≤ hi → LowestIn ws (λ (g : ℕ). between lo g hi) r
   lowest-between h =
       record {
         fits = p .fits;
-        held = λ l. (between-by lo r hi (p .held l .0) h, p .held l .1);
-        none = λ i a b c. p .none i a (between-true lo i hi b .0) c;
+        held = λ l. (between-in lo r hi (p .held l .0) h, p .held l .1);
+        none = λ i a b c. p .none i a (in-between lo i hi b .0) c;
       }
 
   -- or above it
@@ -45,7 +40,7 @@ module _ (ws : List ℕ) (lo hi r : ℕ) (p : LowestFrom ws lo r) where
       record {
         fits = omega arith;
         held = λ l. absurd (omega arith);
-        none = λ i a b c. let z = between-true lo i hi b in p .none i a (z .0) (omega (arith, z .1));
+        none = λ i a b c. let z = in-between lo i hi b in p .none i a (z .0) (omega (arith, z .1));
       }
 
 -- of two sets of gaps the lower of both
@@ -159,12 +154,12 @@ module _ (ps : List ℕ) (e : Dep) where
           (between (suc (e .d)) 0 (e .t) || between (suc (e .s)) 0 (endOf ps (e .d))) ≡
           true
           → ⊥
-      go true h = omega (arith, between-true (suc (e .s)) 0 (e .t) h .0)
+      go true h = omega (arith, in-between (suc (e .s)) 0 (e .t) h .0)
       go false h =
           ⊎-elim
-          (λ (z : between (suc (e .d)) 0 (e .t) ≡ true). omega (arith, between-true (suc (e .d)) 0 (e .t) z .0))
+          (λ (z : between (suc (e .d)) 0 (e .t) ≡ true). omega (arith, in-between (suc (e .d)) 0 (e .t) z .0))
           (λ (z : between (suc (e .s)) 0 (endOf ps (e .d)) ≡ true).
-          omega (arith, between-true (suc (e .s)) 0 (endOf ps (e .d)) z .0))
+          omega (arith, in-between (suc (e .s)) 0 (endOf ps (e .d)) z .0))
           (or-true (between (suc (e .d)) 0 (e .t)) (between (suc (e .s)) 0 (endOf ps (e .d))) h)
 
   pub gap-positive : (i : ℕ) → hasGap ps e i ≡ true → 0 < i
@@ -298,5 +293,5 @@ module _ (ps : List ℕ) (e : Dep) where
           (⊎-elim
           (λ (y : between (suc (e .d)) i (e .t) ≡ true). y)
           (λ (y : between (suc (e .s)) i (endOf ps (e .d)) ≡ true).
-          absurd (omega (arith, between-true (suc (e .s)) i (endOf ps (e .d)) y .0)))
+          absurd (omega (arith, in-between (suc (e .s)) i (endOf ps (e .d)) y .0)))
           (or-true (between (suc (e .d)) i (e .t)) (between (suc (e .s)) i (endOf ps (e .d))) (rw kinds at z)))

@@ -12,17 +12,12 @@ use borrow.Author.Tests.{eqb-true, eqb-false, eq-eqb, ne-eqb, lt-ltb, le-ltb, lt
 use Rattle.laws.specs.Choice.{pick, when, isIn}
 use Rattle.laws.proofs.Tests.{or-false, never}
 use Rattle.laws.proofs.Connectives.{and-off}
+use Rattle.laws.proofs.Ors.{or-swap}
 use Rattle.nests.specs.Nests.{Nest}
 use Rattle.nests.specs.Loops.{ownerOf}
 use Rattle.placements.specs.Placements.{areGapsFrom, loopCount}
 use Rattle.placements.proofs.Rising.{Rises, rises, rising-in, rising-out}
 use Rattle.placements.specs.GapLists.{withGap, without}
-
-or-turn : (a b c : Bool) → (a || (b || c)) ≡ (b || (a || c))
-or-turn true true c = refl
-or-turn true false c = refl
-or-turn false true c = refl
-or-turn false false c = refl
 
 -- ---- a gap more
 
@@ -35,7 +30,7 @@ in-with g i (x ∷ xs) = go (ltb g x) (in-with g i xs)
         → isIn i (withGap g xs) ≡ (eqb i g || isIn i xs)
         → isIn i (pick t (g ∷ (x ∷ xs)) (x ∷ withGap g xs)) ≡ (eqb i g || (eqb i x || isIn i xs))
     go true r = refl
-    go false r = ap (λ (b : Bool). eqb i x || b) r ∙ or-turn (eqb i x) (eqb i g) (isIn i xs)
+    go false r = ap (λ (b : Bool). eqb i x || b) r ∙ or-swap (eqb i x) (eqb i g) (isIn i xs)
 
 -- the gap is not the first of a list that lacks it, nor in its rest
 lacks : (g x : ℕ) (xs : List ℕ) → isIn g (x ∷ xs) ≡ false → (eqb g x ≡ false) × (isIn g xs ≡ false)

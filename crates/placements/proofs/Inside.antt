@@ -1,29 +1,20 @@
 -- Loops inside loops: how they are nested, induction from the inner loops outwards, and the loops directly inside one.
--- Main statements: `inside-lies`, `inside-by`, `inside-inside`, `inside-outermost`, `from-inside`, `right-in-around`.
+-- Main statements: `inside-inside`, `inside-outermost`, `from-inside`, `right-in-around`.
 use mathlib.Core.Path.{_≡_}
 use mathlib.Core.Bool.{true, _&&_}
 use mathlib.Core.List.{List}
 use mathlib.Core.Logic.{_⊎_, inl, inr, ⊎-elim}
 use Prim.Native.Nat.{ℕ, zero, suc, _+_, _≤_, _<_}
 use native.Mathlib.Omega.{arith}
-use lib.Dec.{eqb, ltb}
+use lib.Dec.{eqb}
 use lib.ListN.{length}
-use borrow.Author.Tests.{eqb-true, eq-eqb, ltb-true, lt-ltb}
+use borrow.Author.Tests.{eqb-true, eq-eqb}
 use Rattle.laws.proofs.Tests.{and-intro, and-true, eq-or}
 use Rattle.nests.specs.Loops.{isDo, endOf, ownerOf, inLoop}
 use Rattle.nests.specs.Valid.{isShape}
-use Rattle.nests.proofs.Loops.{end-after, end-there, end-in-outermost, nested}
+use Rattle.nests.proofs.Loops.{inside-lies, inside-by, end-after, end-there, end-in-outermost, nested}
 use Rattle.nests.proofs.Gaps.{LoopInChild, loop-in-child, child-ends-inside}
 use Rattle.placements.specs.Trees.{isRightIn}
-
--- a point inside a loop
-pub inside-lies : (ps : List ℕ) (d x : ℕ) → inLoop ps d x ≡ true → (d < x) × (x < endOf ps d)
-inside-lies ps d x h =
-    let z = and-true (ltb d x) (ltb x (endOf ps d)) h in
-    (ltb-true d x (z .0), ltb-true x (endOf ps d) (z .1))
-
-pub inside-by : (ps : List ℕ) (d x : ℕ) → d < x → x < endOf ps d → inLoop ps d x ≡ true
-inside-by ps d x l m = and-intro (lt-ltb d x l) (lt-ltb x (endOf ps d) m)
 
 -- a loop directly inside d that is y or lies around y
 pub record Around (ps : List ℕ) (d y : ℕ) : Type 0 where

@@ -15,13 +15,12 @@ use Rattle.nests.specs.Loops.{isDo, ownerOf}
 use Rattle.nests.specs.Ring.{oneLoop}
 use Rattle.nests.specs.Valid.{isShape}
 use Rattle.nests.proofs.Levels.{starts-with-do}
-use Rattle.nests.proofs.Loops.{owner-is-do}
+use Rattle.nests.proofs.Loops.{inside-lies, owner-is-do}
 use Rattle.nests.proofs.Ring.{one-loop-is-first}
 use Rattle.placements.specs.Placements.{areGapsFrom, areGaps, isCorrect, loopCount}
 use Rattle.placements.specs.Trees.{treeOf, asGoodTree}
 use Rattle.placements.specs.Keys.{IsKey, By-loops}
 use Rattle.placements.proofs.Cuts.{correct-gaps}
-use Rattle.placements.proofs.Inside.{inside-lies}
 use Rattle.placements.proofs.LoopOrder.{SameCounts, SameInside, asGood-elim, asGood-intro, asGood-moved}
 use Rattle.placements.proofs.LoopOrder.{asGood-both}
 use Rattle.placements.proofs.TreeOrder.{tree-order, equal-trees}

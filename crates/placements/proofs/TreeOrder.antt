@@ -19,12 +19,12 @@ use Rattle.nests.specs.Nests.{Nest}
 use Rattle.nests.specs.Loops.{isDo, endOf, inLoop}
 use Rattle.nests.specs.Valid.{isShape}
 use Rattle.nests.proofs.Levels.{point-in, starts-with-do}
-use Rattle.nests.proofs.Loops.{end-after, end-there}
+use Rattle.nests.proofs.Loops.{inside-lies, end-after, end-there}
 use Rattle.placements.specs.Placements.{loopCount, asGood}
 use Rattle.placements.specs.Trees.{Tree, node, Forest, bare, beside}
 use Rattle.placements.specs.Trees.{sameTree, sameForest, asGoodTree, asGoodForest}
 use Rattle.placements.specs.Trees.{isRightIn, rightInFrom, loopsRightIn, forestOf, treeFrom, treeOf}
-use Rattle.placements.proofs.Inside.{inside-lies, inside-ends, inside-inside, inside-outermost}
+use Rattle.placements.proofs.Inside.{inside-ends, inside-inside, inside-outermost}
 use Rattle.placements.proofs.Inside.{Around, RightIn, right-in-lies, right-in-around}
 use Rattle.placements.proofs.LoopOrder.{SameCounts, SameInside, asGood-elim, asGood-intro}
 

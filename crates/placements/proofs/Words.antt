@@ -14,6 +14,7 @@ use borrow.Author.Tests.{eqb-true, eq-eqb, ne-eqb, lt-ltb}
 use Rattle.laws.specs.Choice.{isIn}
 use Rattle.laws.specs.Bits.{bit}
 use Rattle.laws.proofs.Tests.{le-or, eq-or, bool-by, never}
+use Rattle.laws.proofs.Ors.{or-turned}
 use Rattle.laws.proofs.Bits.{bit-or, bit-one, bit-zero}
 use Rattle.placements.specs.Placements.{areGapsFrom}
 use Rattle.placements.specs.Words.{GAPS, holds, kept, gapsOf, gapsIn}
@@ -35,11 +36,14 @@ holds-empty i = rw (zeros (i / 64)) (bit-zero (i % 64))
 unfoldable pub putIn : List ℕ → ℕ → List ℕ
 putIn ws g = set ws (g / 64) (bitOr (getD ws (g / 64) 0) (2 ^ (g % 64)))
 
-or-swap : (a b : Bool) → (a || b) ≡ (b || a)
-or-swap true true = refl
-or-swap true false = refl
-or-swap false true = refl
-or-swap false false = refl
+-- of two gaps in one word
+pub same-gap : (i g : ℕ) → i / 64 ≡ g / 64 → eqb (i % 64) (g % 64) ≡ eqb i g
+same-gap i g e =
+    bool-by
+    (eqb (i % 64) (g % 64))
+    (eqb i g)
+    (λ z. eq-eqb i g (omega (arith, eqb-true (i % 64) (g % 64) z)))
+    (λ z. eq-eqb (i % 64) (g % 64) (omega (arith, eqb-true i g z)))
 
 pub holds-put : (ws : List ℕ) (g i : ℕ) → g / 64 < length ws → holds (putIn ws g) i ≡ (eqb i g || holds ws i)
 unfolding holds putIn
@@ -47,14 +51,6 @@ holds-put ws g i h = go (eq-or (i / 64) (g / 64))
   where
     word : ℕ
     word = bitOr (getD ws (g / 64) 0) (2 ^ (g % 64))
-
-    same-gap : i / 64 ≡ g / 64 → eqb (i % 64) (g % 64) ≡ eqb i g
-    same-gap e =
-        bool-by
-        (eqb (i % 64) (g % 64))
-        (eqb i g)
-        (λ z. eq-eqb i g (omega (arith, eqb-true (i % 64) (g % 64) z)))
-        (λ z. eq-eqb (i % 64) (g % 64) (omega (arith, eqb-true i g z)))
 
     go
         : (i / 64 ≡ g / 64) ⊎ ((i / 64 ≡ g / 64) → ⊥)
@@ -65,9 +61,9 @@ holds-put ws g i h = go (eq-or (i / 64) (g / 64))
           getD-set-same ws (g / 64) word 0 h,
           bit-or (getD ws (g / 64) 0) (2 ^ (g % 64)) (i % 64),
           bit-one (g % 64) (i % 64),
-          same-gap e,
+          same-gap i g e,
         )
-        (or-swap (bit (getD ws (g / 64) 0) (i % 64)) (eqb i g))
+        (or-turned (bit (getD ws (g / 64) 0) (i % 64)) (eqb i g))
     go (inr n) =
         rw (getD-set-other ws (g / 64) (i / 64) word 0 n, ne-eqb i g (λ z. n (rw z)))
 

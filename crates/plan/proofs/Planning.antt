@@ -8,7 +8,7 @@ use Prim.Native.Nat.{ℕ, _-_, _≤_, _<_}
 use native.Mathlib.Omega.{arith}
 use lib.ListN.{length}
 use Rattle.laws.specs.Entries.{at}
-use Rattle.laws.proofs.Ors.{or-none}
+use Rattle.laws.proofs.Connectives.{or-off}
 use Rattle.laws.proofs.Tests.{test}
 use Rattle.nests.specs.Kinds.{POINTS}
 use Rattle.nests.specs.Nests.{Dep}
@@ -86,7 +86,7 @@ module _ (ps : List ℕ) (ds : List Dep) (own ends heights reach limit has : Lis
     pub key : (none words : List ℕ) → ((g : ℕ) → holds none g ≡ false) →
         LaySays ps reach limit left choice 0 1 none words → (g : ℕ) → holds words g ≡ keyIn ps ds g
     unfolding keyIn keyOf
-    key none words e l g = l (linesIn ps ds) table has tabled lines rows g ∙ rw (e g) (or-none (table .lay 0 1 g))
+    key none words e l g = l (linesIn ps ds) table has tabled lines rows g ∙ rw (e g) (or-off (table .lay 0 1 g))
 
 -- the outermost loop has the greatest height
 pub top-height : (ps : List ℕ) → HasHeight ps 0 8

@@ -1,5 +1,5 @@
 -- A placement cuts every dependence of a nest exactly if it is sound at the outermost loop of the nest's world.
--- Main definition: `Cut`. Main statements: `home-holds`, `cuts-sound`, `sound-cuts`.
+-- Main definition: `Cut`. Main statements: `in-outermost`, `cuts-sound`, `sound-cuts`.
 use mathlib.Core.Path.{_≡_, refl, ap}
 use mathlib.Core.Bool.{Bool, true}
 use mathlib.Core.List.{List}
@@ -14,7 +14,7 @@ use Rattle.nests.specs.Valid.{isShape}
 use Rattle.nests.proofs.Loops as L
 use Rattle.nests.proofs.Gaps as G
 use Rattle.nests.proofs.Deps as D
-use Rattle.planner.specs.Home.{homeOf, loopsIn}
+use Rattle.planner.specs.Home.{loopsIn}
 use Rattle.planner.proofs.World.{Inside}
 use Rattle.planner.proofs.Claim.{Hit, Sound}
 use Rattle.planner.proofs.Instance.{LineAt, BackAt, worldOf, AllFit}
@@ -25,42 +25,11 @@ pub record Cut (ps : List ℕ) (e : Dep) (x : ℕ → Bool) : Type 0 where
   pub of : hasGap ps e gap ≡ true
   pub holds : x gap ≡ true
 
--- a home is a loop of the nest, and its range holds every gap of the dependence
-pub record Held (ps : List ℕ) (e : Dep) (h : ℕ) : Type 0 where
-  pub loop : isDo ps h ≡ true
-  pub low : (g : ℕ) → hasGap ps e g ≡ true → h < g
-  pub high : (g : ℕ) → hasGap ps e g ≡ true → g ≤ endOf ps h
-
-pub home-holds : (ps : List ℕ) (e : Dep) → isShape ps ≡ true → D.Fits ps e → Held ps e (homeOf ps e)
-home-holds ps e w (inl l) =
-    let z : homeOf ps e ≡ ownerFrom (suc (e .s)) (e .t) ps = rw (l .kind-is) in
-    rw z held
-  where
-    o : L.Owner ps (suc (e .s)) (e .t) (ownerFrom (suc (e .s)) (e .t) ps)
-    o = G.home-law ps w (e .s) (e .t) (l .target-there)
-
-    held : Held ps e (ownerFrom (suc (e .s)) (e .t) ps)
-    held =
-        record {
-          loop = o .loop;
-          low = λ g h. let z = D.line-gap ps e g (l .kind-is) h in omega (arith, o .below);
-          high = λ g h. let z = D.line-gap ps e g (l .kind-is) h in omega (arith, o .holds);
-        }
-home-holds ps e w (inr b) =
-    let z : homeOf ps e ≡ e .d = rw (b .kind-is) in
-    rw z (record { loop = b .loop; low = low; high = high })
-  where
-    low : (g : ℕ) → hasGap ps e g ≡ true → e .d < g
-    low g h = ⊎-elim
-        (λ (z : (e .d < g) × (g ≤ e .t)). z .0)
-        (λ (z : (e .s < g) × (g ≤ endOf ps (e .d))). omega (arith, b .source-after))
-        (D.back-gap ps e g (b .kind-is) h)
-
-    high : (g : ℕ) → hasGap ps e g ≡ true → g ≤ endOf ps (e .d)
-    high g h = ⊎-elim
-        (λ (z : (e .d < g) × (g ≤ e .t)). omega (arith, b .target-before))
-        (λ (z : (e .s < g) × (g ≤ endOf ps (e .d))). z .1)
-        (D.back-gap ps e g (b .kind-is) h)
+-- every loop of a nest is the outermost one or lies inside it
+pub in-outermost : (ps : List ℕ) → isShape ps ≡ true → (d : ℕ) → isDo ps d ≡ true → Inside (loopsIn ps) 0 d
+in-outermost ps w d h =
+    let l : d < endOf ps 0 = omega (arith, L.end-after ps w d h, L.end-in-outermost ps w d h) in
+    record { is-do = h; from = omega arith; below = l }
 
 module _ (ps : List ℕ) (ds : List Dep) (x : ℕ → Bool) where
   -- a placement that cuts every dependence is sound at every loop
@@ -94,18 +63,13 @@ module _ (ps : List ℕ) (ds : List Dep) (x : ℕ → Bool) where
       isShape ps ≡ true → AllFit ps ds → Sound (worldOf ps ds) x 0 → (e : Dep) → Among e ds → Cut ps e x
   sound-cuts w fit sound e a = go (fit e a)
     where
-      inside : (h : ℕ) → isDo ps h ≡ true → Inside (loopsIn ps) 0 h
-      inside h k =
-          let l : h < endOf ps 0 = omega (arith, L.end-after ps w h k, L.end-in-outermost ps w h k) in
-          record { is-do = k; from = omega arith; below = l }
-
       line : D.Line ps e → Cut ps e x
       line l =
           let o = G.home-law ps w (e .s) (e .t) (l .target-there) in
           let h = ownerFrom (suc (e .s)) (e .t) ps in
           let y : LineAt ps ds h (suc (e .s)) (e .t) =
           record { e = e; among = a; kind-is = l .kind-is; home-is = refl; starts = refl; ends = refl } in
-          let z : Hit x (suc (e .s)) (e .t) = sound .lines h (suc (e .s)) (e .t) (inside h (o .loop)) y in
+          let z : Hit x (suc (e .s)) (e .t) = sound .lines h (suc (e .s)) (e .t) (in-outermost ps w h (o .loop)) y in
           record { gap = z .gap; of = D.gap-of-line ps e (z .gap) (l .kind-is) (z .low) (z .high); holds = z .holds }
 
       back : D.Back ps e → Cut ps e x
@@ -116,7 +80,7 @@ module _ (ps : List ℕ) (ds : List Dep) (x : ℕ → Bool) where
           (λ (z : Hit x (suc (e .s)) (endOf ps (e .d))).
           let g = D.gap-after-source ps e (z .gap) (b .kind-is) (z .low) (z .high) in
           record { gap = z .gap; of = g; holds = z .holds })
-          (sound .backs (e .d) (suc (e .s)) (e .t) (inside (e .d) (b .loop)) y)
+          (sound .backs (e .d) (suc (e .s)) (e .t) (in-outermost ps w (e .d) (b .loop)) y)
         where
           y : BackAt ps ds (e .d) (suc (e .s)) (e .t)
           y = record { e = e; among = a; kind-is = b .kind-is; home-is = refl; starts = refl; ends = refl }

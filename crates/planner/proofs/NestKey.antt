@@ -12,13 +12,12 @@ use Rattle.nests.specs.Nests.{Dep}
 use Rattle.nests.specs.Loops.{isDo, endOf}
 use Rattle.nests.specs.Valid.{isShape}
 use Rattle.nests.proofs.Levels.{starts-with-do, point-in}
-use Rattle.nests.proofs.Loops.{outermost, end-after, end-in-outermost}
+use Rattle.nests.proofs.Loops.{outermost}
 use Rattle.planner.specs.Home.{loopsIn, linesIn, keyIn}
-use Rattle.planner.proofs.World.{Inside}
 use Rattle.planner.proofs.Claim.{count}
 use Rattle.planner.proofs.Theorem.{Key, computed-key}
 use Rattle.planner.proofs.Instance.{worldOf, AllFit, lawful}
-use Rattle.planner.proofs.Cuts.{Cut, cuts-sound, sound-cuts}
+use Rattle.planner.proofs.Cuts.{Cut, in-outermost, cuts-sound, sound-cuts}
 
 pub record NestKey (ps : List ℕ) (ds : List Dep) (x : ℕ → Bool) : Type 0 where
   pub low : (g : ℕ) → x g ≡ true → 0 < g
@@ -38,11 +37,6 @@ nest-key ps ds w fit =
     below : (d : ℕ) → isDo ps d ≡ true → d < length ps
     below d h = point-in ps d 0 h
 
-    inside : (d : ℕ) → isDo ps d ≡ true → Inside (loopsIn ps) 0 d
-    inside d h =
-        let l : d < endOf ps 0 = omega (arith, end-after ps w d h, end-in-outermost ps w d h) in
-        record { is-do = h; from = omega arith; below = l }
-
     of-key : (x : ℕ → Bool) → Key (worldOf ps ds) 0 x → NestKey ps ds x
     of-key x k =
         record {
@@ -50,5 +44,5 @@ nest-key ps ds w fit =
           high = λ g h. omega (arith, k .high g h, outermost ps w);
           cuts = sound-cuts ps ds x w fit (k .sound);
           least = λ y d cut h same.
-              k .least y d (cuts-sound ps ds y cut 0) (inside d h) (λ l i j. same l (i .is-do) j (i .below));
+              k .least y d (cuts-sound ps ds y cut 0) (in-outermost ps w d h) (λ l i j. same l (i .is-do) j (i .below));
         }

@@ -3,16 +3,17 @@
 -- Main statements: `put-fits`, `lift-fits`; `made-put`, `made-lift`, `made-back`; `put-since`, `lift-since`,
 -- `back-since`.
 use mathlib.Core.Path.{_≡_, refl, sym, ap, subst}
-use mathlib.Core.Bool.{Bool, true, false, _&&_, not}
+use mathlib.Core.Bool.{Bool, true, false, not}
 use mathlib.Core.List.{List, [], _∷_}
 use mathlib.Core.Logic.{_⊎_, ⊎-elim}
-use Prim.Native.Nat.{ℕ, zero, suc}
+use Prim.Native.Nat.{ℕ}
 use native.Mathlib.Omega.{arith}
 use lib.Dec.{eqb, ltb}
 use lib.ListN.{length}
 use borrow.Author.Tests.{ltb-true, eqb-false, eq-eqb, ne-eqb}
 use Rattle.laws.specs.Choice.{when, firstOf, isIn}
-use Rattle.laws.proofs.Tests.{never, eq-or}
+use Rattle.laws.proofs.Choices.{first-zero, when-zero, unless-zero}
+use Rattle.laws.proofs.Tests.{and-true, eq-or}
 use Rattle.nests.specs.Gaps.{isGap}
 use Rattle.placements.specs.Placements.{areGaps, isFree, avoids}
 use Rattle.placements.proofs.Cuts.{avoids-in}
@@ -32,27 +33,9 @@ use Rattle.screen.specs.Says.{PutSays, LiftSays, BackSays}
 
 -- ---- no number: what it says of the desk
 
-first-zero : (a b : ℕ) → firstOf a b ≡ 0 → (a ≡ 0) × (b ≡ 0)
-first-zero zero b h = (refl, h)
-first-zero (suc a) b h = absurd (omega arith)
-
 has-nest : (a : Bool) → firstOf (when (not a) 10) 0 ≡ 0 → a ≡ true
 has-nest true h = refl
 has-nest false h = absurd (omega arith)
-
--- a number of its own is told only by its test
-untold : (t : Bool) (k : ℕ) → when t (suc k) ≡ 0 → t ≡ false
-untold true k h = absurd (omega arith)
-untold false k h = refl
-
-both : (a b : Bool) → not (a && b) ≡ false → (a ≡ true) × (b ≡ true)
-both true true h = (refl, refl)
-both true false h = never (sym h)
-both false b h = never (sym h)
-
-not-false : (t : Bool) → not t ≡ false → t ≡ true
-not-false true h = refl
-not-false false h = never (sym h)
 
 pub gap-nest : (x : Desk) (g : ℕ) → gapFault x g ≡ 0 → x .hasNest ≡ true
 gap-nest x g h = has-nest (x .hasNest) (first-zero (stateFault false x) (when (not (isGap (x .nest-is .points) g)) 8) h .0)
@@ -64,7 +47,8 @@ back-nest x h = has-nest (x .hasNest) (first-zero (stateFault false x) (when (eq
 pub back-some : (x : Desk) → backFault x ≡ 0 → length (x .moves) ≡ 0 → ⊥
 back-some x h =
     eqb-false (length (x .moves)) 0
-    (untold (eqb (length (x .moves)) 0) 12 (first-zero (stateFault false x) (when (eqb (length (x .moves)) 0) 13) h .1))
+    (when-zero (eqb (length (x .moves)) 0) 12
+    (first-zero (stateFault false x) (when (eqb (length (x .moves)) 0) 13) h .1))
 
 module _
     (x : Desk) (g : ℕ) (rising : areGaps (x .nest-is) (x .sitting) ≡ true)
@@ -75,9 +59,9 @@ module _
       → Fits (x .nest-is) (x .sitting) (record { gap = g; put = put })
   fits put z h f =
       let t =
-      untold (not (isGap (x .nest-is .points) g)) 7
+      unless-zero (isGap (x .nest-is .points) g) 7
       (first-zero (stateFault false x) (when (not (isGap (x .nest-is .points) g)) 8) z .1) in
-      let b = both (ltb 0 g) (ltb g (length (x .nest-is .points))) t in
+      let b = and-true (ltb 0 g) (ltb g (length (x .nest-is .points))) t in
       record {
         rising = rising;
         first = ltb-true 0 g (b .0);
@@ -92,12 +76,12 @@ module _
       let barred = isIn g (x .nest-is .barred) in
       let z = first-zero (gapFault x g) (firstOf (when (isIn g (x .sitting)) 12) (when barred 16)) h in
       let y = first-zero (when (isIn g (x .sitting)) 12) (when barred 16) (z .1) in
-      fits true (z .0) (untold (isIn g (x .sitting)) 11 (y .0)) (ap not (untold barred 15 (y .1)))
+      fits true (z .0) (when-zero (isIn g (x .sitting)) 11 (y .0)) (ap not (when-zero barred 15 (y .1)))
 
   pub lift-fits : liftFault x g ≡ 0 → Fits (x .nest-is) (x .sitting) (liftAt g)
   lift-fits h =
       let z = first-zero (gapFault x g) (when (not (isIn g (x .sitting))) 12) h in
-      let there = not-false (isIn g (x .sitting)) (untold (not (isIn g (x .sitting))) 11 (z .1)) in
+      let there = unless-zero (isIn g (x .sitting)) 11 (z .1) in
       fits false (z .0) there (avoids-in (x .nest-is .barred) (x .sitting) avoiding g there)
 
 -- ---- a call that leaves the play p

@@ -4,11 +4,12 @@
 use mathlib.Core.Path.{_≡_, refl, sym, _∙_, ap}
 use mathlib.Core.Bool.{Bool, true, false, _&&_, not}
 use mathlib.Core.List.{List}
-use Prim.Native.Nat.{ℕ, zero, suc, _≤_, _<_}
+use Prim.Native.Nat.{ℕ, _≤_, _<_}
 use native.Mathlib.Omega.{arith}
 use lib.Dec.{eqb, ltb}
 use borrow.Author.Tests.{ltb-true, eq-eqb, ne-eqb, lt-ltb, le-ltb}
 use Rattle.laws.specs.Choice.{when, firstOf, isIn}
+use Rattle.laws.proofs.Choices.{first-set, first-none}
 use Rattle.nests.specs.Stored.{nestIn}
 use Rattle.placements.specs.Words.{GAPS, holds}
 use Rattle.placements.proofs.Words.{in-gaps}
@@ -77,13 +78,6 @@ all-three true true false h = absurd (omega arith)
 all-three true false b h = absurd (omega arith)
 all-three false a b h = absurd (omega arith)
 
-first-set : (a b : ℕ) → (a ≡ 0 → ⊥) → firstOf a b ≡ a
-first-set zero b h = absurd (h refl)
-first-set (suc a) b h = refl
-
-first-none : (a b c : ℕ) → a ≡ 0 → b ≡ c → firstOf a b ≡ c
-first-none a b c h e = rw (h, e)
-
 -- the state of a call that wants no key
 nest-only : (a : Bool) → firstOf (when (not a) 10) 0 ≡ when (not a) 10
 nest-only true = refl
@@ -148,14 +142,12 @@ module _ (d : DD.Desk) (g : ℕ) (made : IsMade d) (r : DM.Moved) where
         → isIn g (deskIn d .nest-is .barred) ≡ c
         → putFault (deskIn d) g ≡ firstOf (when b 12) (when c 16)
     put-number b c h k =
-        first-none (gapFault (deskIn d) g) put-later (firstOf (when b 12) (when c 16)) (sym fault-told ∙ none)
-        (rw (there b h, k))
+        first-none (gapFault (deskIn d) g) put-later (sym fault-told ∙ none) ∙ rw (there b h, k)
 
     lift-number : (b : Bool) → holds ws g ≡ b → liftFault (deskIn d) g ≡ when (not b) 12
     lift-number b h =
-        first-none (gapFault (deskIn d) g) (when (not (isIn g (deskIn d .sitting))) 12) (when (not b) 12)
-        (sym fault-told ∙ none)
-        (ap (λ (t : Bool). when (not t) 12) (there b h))
+        first-none (gapFault (deskIn d) g) (when (not (isIn g (deskIn d .sitting))) 12) (sym fault-told ∙ none) ∙
+        ap (λ (t : Bool). when (not t) 12) (there b h)
 
     pub put-there : holds ws g ≡ true → r ≡ refusedAs 12 d → PutSays d g r
     put-there h =

@@ -13,7 +13,8 @@ use borrow.Author.Tests.{lt-ltb, eqb-true, ne-eqb}
 use Rattle.laws.specs.Bits.{one}
 use Rattle.laws.specs.Choice.{firstOf}
 use Rattle.laws.specs.Entries.{at}
-use Rattle.laws.proofs.Ors.{or-swap, or-none}
+use Rattle.laws.proofs.Connectives.{or-off}
+use Rattle.laws.proofs.Ors.{or-swap}
 use Rattle.laws.proofs.Tests.{le-or, lt-by, never-both, test}
 use Rattle.nests.specs.Kinds.{POINTS}
 use Rattle.nests.specs.Loops.{isDo, isEnd, endOf, ownerOf}
@@ -91,7 +92,7 @@ module _ (ps own ends reach limit has left₀ choice₀ : List ℕ) (w : Charts 
               n .has-is d is-do,
               one-above (N .has d),
               some-none ps (w .shape) T d (suc d) (omega arith),
-            ) (sym (or-none (N .has d)));
+            ) (sym (or-off (N .has d)));
           }
 
   module _ (left choice : List ℕ) (some i : ℕ) (s : Settling ps reach limit has left₀ choice₀ d left choice some i)

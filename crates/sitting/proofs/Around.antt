@@ -5,13 +5,13 @@ use mathlib.Core.Path.{_≡_, refl, sym, ap, _∙_}
 use mathlib.Core.Bool.{Bool, true, false, _&&_}
 use mathlib.Core.List.{List}
 use mathlib.Core.Logic.{⊎-elim}
-use Prim.Native.Nat.{ℕ, zero, suc, _+_, _-_, _≤_, _<_}
+use Prim.Native.Nat.{ℕ, suc, _+_, _-_, _≤_, _<_}
 use native.Mathlib.Omega.{arith}
 use lib.Dec.{ltb, leb}
 use lib.ListN.{length, getD, set, length-set}
 use lib.Seq.{getD-set-same, getD-set-other}
 use borrow.Author.Tests.{eq-eqb, ne-eqb, lt-ltb, le-ltb, le-leb, leb-true}
-use Rattle.laws.proofs.Tests.{le-or, false-by, and-true, and-intro, never}
+use Rattle.laws.proofs.Tests.{le-or, lt-by, false-by, and-true, and-intro, never}
 use Rattle.nests.specs.Kinds.{DO, ENDDO, POINTS}
 use Rattle.nests.specs.Loops.{isDo, endOf, isAround}
 use Rattle.nests.specs.Valid.{isShape}
@@ -92,11 +92,10 @@ module _ (ps : List ℕ) (shape : isShape ps ≡ true) (g : ℕ) (there : length
     not-do n h = never (sym (ne-eqb (getD ps i 0) DO n) ∙ h)
 
     over-do : getD ps i 0 ≡ DO → (depth ≡ 0 → ⊥) → Walked ps g (depth - 1) i table
-    over-do e n = step (depth - 1) (omega (arith, u, w .level, positive depth n)) (omega arith) (λ h. not-around)
+    over-do e n = step (depth - 1) (omega (arith, u, w .level, some)) (omega arith) (λ h. not-around)
       where
-        positive : (k : ℕ) → (k ≡ 0 → ⊥) → 0 < k
-        positive zero h = absurd (h refl)
-        positive (suc k) h = omega arith
+        some : 0 < depth
+        some = lt-by (λ z. n (omega arith))
 
         is : isDo ps i ≡ true
         is = eq-eqb (getD ps i 0) DO e
@@ -111,7 +110,7 @@ module _ (ps : List ℕ) (shape : isShape ps ≡ true) (g : ℕ) (there : length
             let r = leb-true g (endOf ps i) (q .1) in
             let a =
             range-above ps shape i (w .at) is (omega (arith, w .at-after)) (omega (arith, w .at-before)) in
-            omega (arith, u, w .level, w .at-base, positive depth n)
+            omega (arith, u, w .level, w .at-base, some)
 
     over-end : getD ps i 0 ≡ ENDDO → Walked ps g (depth + 1) i table
     over-end e =

@@ -13,10 +13,10 @@ use lib.Seq.{getD-set-same, getD-set-other}
 use borrow.Author.Tests.{eqb-true, eq-eqb, ne-eqb, lt-ltb, le-ltb}
 use Rattle.laws.specs.Choice.{pick, isIn}
 use Rattle.laws.specs.Bits.{bit}
-use Rattle.laws.proofs.Tests.{le-or, eq-or, bool-by}
+use Rattle.laws.proofs.Tests.{le-or, eq-or}
 use Rattle.laws.proofs.Bits.{bit-one}
 use Rattle.placements.specs.Words.{GAPS, holds, kept, gapsOf, gapsIn}
-use Rattle.placements.proofs.Words.{gapsOf-same, in-gaps}
+use Rattle.placements.proofs.Words.{gapsOf-same, same-gap, in-gaps}
 use Rattle.placements.specs.GapLists.{withGap, without}
 use Rattle.placements.proofs.GapLists.{without-with}
 use Rattle.laws.proofs.Xor.{bit-xor}
@@ -125,15 +125,6 @@ holds-lifted ws g i h held = go (eq-or (i / 64) (g / 64))
     word : ℕ
     word = bitXor (getD ws (g / 64) 0) (2 ^ (g % 64))
 
-    -- of two gaps in one word
-    same-gap : i / 64 ≡ g / 64 → eqb (i % 64) (g % 64) ≡ eqb i g
-    same-gap e =
-        bool-by
-        (eqb (i % 64) (g % 64))
-        (eqb i g)
-        (λ z. eq-eqb i g (omega (arith, eqb-true (i % 64) (g % 64) z)))
-        (λ z. eq-eqb (i % 64) (g % 64) (omega (arith, eqb-true i g z)))
-
     here
         : (t : Bool)
         → eqb i g ≡ t
@@ -155,7 +146,7 @@ holds-lifted ws g i h held = go (eq-or (i / 64) (g / 64))
           getD-set-same ws (g / 64) word 0 h,
           bit-xor (getD ws (g / 64) 0) (2 ^ (g % 64)) (i % 64),
           bit-one (g % 64) (i % 64),
-          same-gap e,
+          same-gap i g e,
         )
         (here (eqb i g) refl e)
     go (inr n) = rw (getD-set-other ws (g / 64) (i / 64) word 0 n, ne-eqb i g (λ z. n (rw z)))

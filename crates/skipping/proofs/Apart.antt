@@ -7,7 +7,7 @@ use mathlib.Core.Logic.{_⊎_, inl, inr, ⊎-elim}
 use Prim.Native.Nat.{ℕ, _≤_, _<_}
 use native.Mathlib.Omega.{arith}
 use lib.Dec.{eqb, ltb}
-use borrow.Author.Tests.{eqb-true, eq-eqb, ltb-true, lt-ltb}
+use borrow.Author.Tests.{eqb-true, eq-eqb, ltb-true, lt-ltb, not-true}
 use Rattle.laws.specs.Choice.{between, isIn}
 use Rattle.laws.proofs.Tests.{never-both, eq-or, lt-by, bool-by, and-true, and-intro, or-true, or-left, or-right}
 use Rattle.laws.proofs.Ranges.{in-between, between-in}
@@ -15,7 +15,6 @@ use Rattle.nests.specs.Nests.{Dep}
 use Rattle.nests.specs.Loops.{endOf, inLoop}
 use Rattle.skipping.specs.Foreign.{belongs, isForeign}
 use Rattle.skipping.specs.Covering.{isApart}
-use Rattle.skipping.proofs.Some.{not-true}
 
 module _ (d end s t : ℕ) (h : isApart d end s t ≡ true) where
   both : (not (between d s end) ≡ true) × (not (between d t end) ≡ true)

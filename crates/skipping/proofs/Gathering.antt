@@ -1,16 +1,16 @@
 -- The dependences one after the other, from the last: the loops that each has listed are added.
 -- Main statements: `Gathered`, what a turn keeps; `gather-start`, `gather-on`, `gather-done`; `are-loops`.
 use mathlib.Core.Path.{_≡_, refl, sym, ap, _∙_}
-use mathlib.Core.Bool.{Bool, true, false, _&&_, _||_}
+use mathlib.Core.Bool.{Bool, true, false, _&&_}
 use mathlib.Core.List.{List, [], _∷_}
-use mathlib.Core.Logic.{inl, inr}
-use Prim.Native.Nat.{ℕ, zero, suc, _-_, _≤_, _<_}
+use Prim.Native.Nat.{ℕ, suc, _-_, _≤_, _<_}
 use native.Mathlib.Omega.{arith}
 use lib.ListN.{length, drop, drop-of-length-le}
 use Rattle.laws.specs.Choice.{isIn}
 use Rattle.laws.specs.Entries.{at}
-use Rattle.laws.specs.Members.{Among}
 use Rattle.laws.proofs.Tests.{and-true}
+use Rattle.laws.proofs.Members.{among-drop}
+use Rattle.laws.proofs.Ors.{or-turned}
 use Rattle.nests.specs.declared.Dependence as DE
 use Rattle.nests.specs.Kinds.{POINTS}
 use Rattle.nests.specs.Nests.{Dep}
@@ -65,19 +65,6 @@ module _
           (t && hasBarrier ends key d) ≡ (t && someIn (λ g. isAround ps g d) (gapsIn key))
       go d true h = let e : at ends d ≡ endOf ps d = table d (f .flags d h) in rw e
       go d false h = refl
-
--- a dependence in front of the rest is one of the list
-among-drop : (e : Dep) (ds es : List Dep) (i : ℕ) → drop i ds ≡ e ∷ es → Among e ds
-among-drop e [] es zero h = let z : _≡_ {A = ℕ} 0 1 = cc h in absurd (omega arith)
-among-drop e [] es (suc i) h = let z : _≡_ {A = ℕ} 0 1 = cc h in absurd (omega arith)
-among-drop e (x ∷ ds) es zero h = inl (cc h)
-among-drop e (x ∷ ds) es (suc i) h = inr (among-drop e ds es i h)
-
-or-turned : (a b : Bool) → (a || b) ≡ (b || a)
-or-turned true true = refl
-or-turned true false = refl
-or-turned false true = refl
-or-turned false false = refl
 
 -- the loops that the dependences from i on have listed
 pub record Gathered (ps : List ℕ) (ds : List Dep) (ends key ws : List ℕ) (i : ℕ) (listed : List ℕ) : Type 0 where

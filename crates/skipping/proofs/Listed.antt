@@ -7,13 +7,14 @@ use mathlib.Core.Logic.{_⊎_, inl, inr, ⊎-elim, _↔_}
 use Prim.Native.Nat.{ℕ}
 use Rattle.laws.specs.Choice.{isIn}
 use Rattle.laws.specs.Members.{Among}
+use borrow.Author.Tests.{not-true}
 use Rattle.laws.proofs.Tests.{test, never, never-both, and-true, and-intro, or-true, or-left, or-right}
 use Rattle.nests.specs.Nests.{Dep}
 use Rattle.nests.specs.Loops.{isAround}
 use Rattle.nests.specs.Gaps.{hasGap}
 use Rattle.skipping.specs.Foreign.{isForeign, inForeign}
 use Rattle.skipping.specs.Listed.{cutsInside, cutsOutside, isListedBy, isListed, NeedsBarrier}
-use Rattle.skipping.proofs.Some.{some-in, in-some, not-some, not-true}
+use Rattle.skipping.proofs.Some.{some-in, in-some, not-some}
 use Rattle.skipping.proofs.Foreign.{not-outside, outside}
 
 module _ (ps fs gs : List ℕ) where

@@ -1,10 +1,10 @@
 -- What one dependence has listed, from its stretches: where each is covered, the loops in them that have a barrier
 -- inside and are apart from both ends; else none.
--- Main statements: `is-line`, `is-back`; `line-bare`, `line-listed`; `front-bare`, `rear-bare`, `back-listed`.
+-- Main statements: `line-bare`, `line-listed`; `front-bare`, `rear-bare`, `back-listed`.
 use mathlib.Core.Path.{_≡_, sym, ap, _∙_}
 use mathlib.Core.Bool.{Bool, true, false, _&&_, _||_}
 use mathlib.Core.List.{List}
-use mathlib.Core.Logic.{_⊎_, inl, inr, ⊎-elim}
+use mathlib.Core.Logic.{_⊎_, ⊎-elim}
 use Prim.Native.Nat.{ℕ, _+_, _≤_, _<_}
 use native.Mathlib.Omega.{arith}
 use lib.Dec.{ltb, leb}
@@ -15,11 +15,10 @@ use Rattle.laws.proofs.Tests.{bool-by, false-by, and-true, and-intro, or-true, 
 use Rattle.laws.proofs.Connectives.{or-off}
 use Rattle.laws.proofs.Ors.{or-assoc}
 use Rattle.laws.proofs.Ranges.{in-between, between-in}
-use Rattle.nests.specs.Kinds.{INDEPENDENT, CARRIED}
 use Rattle.nests.specs.Nests.{Dep}
 use Rattle.nests.specs.Loops.{isDo, endOf, isAround}
 use Rattle.nests.specs.Gaps.{hasGap}
-use Rattle.nests.proofs.Deps.{Line, Back, Fits, line-gap, back-gap}
+use Rattle.nests.proofs.Deps.{Line, Back, line-gap, back-gap}
 use Rattle.nests.proofs.Levels.{point-in}
 use Rattle.nests.proofs.Loops.{end-after}
 use Rattle.placements.specs.Words.{GAPS, holds, gapsIn}
@@ -33,15 +32,6 @@ use Rattle.skipping.proofs.Listed.{By, listed-by, by-listed}
 use Rattle.skipping.proofs.Members.{in-words}
 use Rattle.skipping.proofs.Apart.{foreign-apart}
 use Rattle.skipping.proofs.Stretches.{Apart, Stretch, line-stretch, front-stretch, rear-stretch}
-
--- a dependence by its kind
-pub is-line : (ps : List ℕ) (e : Dep) → Fits ps e → e .kind ≡ INDEPENDENT → Line ps e
-is-line ps e (inl k) h = k
-is-line ps e (inr k) h = let z : _≡_ {A = ℕ} INDEPENDENT CARRIED = sym h ∙ k .kind-is in absurd (omega arith)
-
-pub is-back : (ps : List ℕ) (e : Dep) → Fits ps e → (e .kind ≡ INDEPENDENT → ⊥) → Back ps e
-is-back ps e (inl k) h = absurd (h (k .kind-is))
-is-back ps e (inr k) h = k
 
 -- a gap around which a loop lies, as facts
 around-is : (ps : List ℕ) (g d : ℕ) → isAround ps g d ≡ true → (d < g) × (g ≤ endOf ps d)

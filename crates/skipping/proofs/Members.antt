@@ -1,5 +1,5 @@
--- The list of the listed loops, and the flagged loops as bits.
--- Main statements: `in-listed`, `in-listed-iff`; `flag-dos`, `in-words`, `own-flags`.
+-- The list of the listed loops, and the words' list.
+-- Main statements: `in-listed`, `in-listed-iff`; `in-words`.
 use mathlib.Core.Path.{_≡_, sym, ap, _∙_}
 use mathlib.Core.Bool.{Bool, true, false}
 use mathlib.Core.List.{List, [], append-nil}
@@ -15,7 +15,6 @@ use Rattle.placements.specs.Words.{GAPS, holds, gapsOf, gapsIn}
 use Rattle.placements.proofs.Words.{gapsOf-in, gapsOf-to, gapsOf-add, gapsOf-none, in-gaps, in-gaps-beyond}
 use Rattle.skipping.specs.Foreign.{AreFlags}
 use Rattle.skipping.specs.Listed.{isListed, listedOf, NeedsBarrier}
-use Rattle.skipping.specs.Says.{AreDos, FlagBits}
 use Rattle.skipping.proofs.Foreign.{foreign-flagged}
 use Rattle.skipping.proofs.Listed.{listed-iff}
 
@@ -48,21 +47,9 @@ module _ (ps : List ℕ) (ds : List Dep) (fs gs : List ℕ) (flags : AreFlags ps
       let z = listed-iff ps fs gs ds d in
       (λ h. z .0 (sym (in-listed d) ∙ h), λ n. in-listed d ∙ z .1 n)
 
--- flagged bits are DOs
-pub flag-dos : (ps fs ws : List ℕ) → FlagBits ps fs ws → AreDos ps ws
-flag-dos ps fs ws f d l h = f .flags d (sym (f .bits-are d l) ∙ h)
-
 -- a member of the words' list is a bit of the words
 pub in-words : (ws : List ℕ) (d : ℕ) → isIn d (gapsIn ws) ≡ true → (d < GAPS) × (holds ws d ≡ true)
 in-words ws d h = ⊎-elim
     (λ (z : GAPS ≤ d). never-both h (in-gaps-beyond ws d z))
     (λ (z : d < GAPS). (z, sym (in-gaps ws d z) ∙ h))
     (le-or GAPS d)
-
--- words that are DOs have the flagged loops of their own list
-pub own-flags : (ps ws : List ℕ) → AreDos ps ws → FlagBits ps (gapsIn ws) ws
-own-flags ps ws dos =
-    record {
-      flags = λ d h. let z = in-words ws d h in dos d (z .0) (z .1);
-      bits-are = λ d l. sym (in-gaps ws d l);
-    }

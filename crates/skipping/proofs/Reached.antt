@@ -10,7 +10,7 @@ use mathlib.Core.Logic.{_⊎_, inl, inr, ⊎-elim}
 use Prim.Native.Nat.{ℕ}
 use native.Mathlib.Omega.{arith}
 use lib.Dec.{ltb, leb}
-use borrow.Author.Tests.{ltb-true, leb-true, lt-ltb, le-leb}
+use borrow.Author.Tests.{ltb-true, leb-true, lt-ltb, le-leb, not-true}
 use Rattle.laws.specs.Choice.{isIn}
 use Rattle.laws.specs.Members.{Among}
 use Rattle.laws.proofs.Tests.{test, never-both, and-true, and-intro, false-by, true-by}
@@ -28,7 +28,7 @@ use Rattle.keys.proofs.KeyIsKey.{key-is-key}
 use Rattle.skipping.specs.Foreign.{someIn, AreFlags, isForeign}
 use Rattle.skipping.specs.Listed.{Outside}
 use Rattle.skipping.specs.Reached.{NotSkipped, Substituted, IsReached}
-use Rattle.skipping.proofs.Some.{Least, some-in, in-some, some-not, least-in, not-true}
+use Rattle.skipping.proofs.Some.{Least, some-in, in-some, some-not, least-in}
 use Rattle.skipping.proofs.Foreign.{foreign-flagged}
 use Rattle.skipping.proofs.Listed.{listed-iff}
 

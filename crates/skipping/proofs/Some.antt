@@ -1,7 +1,7 @@
 -- A test that holds of some member of a list, as a statement and back; the least such member.
 -- Main statements: `some-in`, `in-some`, `some-not`, `not-some`, `least-in`.
-use mathlib.Core.Path.{_≡_, refl}
-use mathlib.Core.Bool.{Bool, true, false, not}
+use mathlib.Core.Path.{_≡_}
+use mathlib.Core.Bool.{Bool, true, false}
 use mathlib.Core.List.{List, [], _∷_}
 use mathlib.Core.Logic.{_⊎_, inl, inr, ⊎-elim}
 use Prim.Native.Nat.{ℕ, _≤_, _<_}
@@ -23,15 +23,6 @@ pub record Least (passes : ℕ → Bool) (xs : List ℕ) : Type 0 where
   pub is-in : isIn at xs ≡ true
   pub passed : passes at ≡ true
   pub least : (x : ℕ) → isIn x xs ≡ true → passes x ≡ true → at ≤ x
-
--- a test that is the negation of another
-pub not-true : (b : Bool) → not b ≡ true → b ≡ false
-not-true true h = never h
-not-true false h = refl
-
-pub not-false : (b : Bool) → not b ≡ false → b ≡ true
-not-false true h = refl
-not-false false h = never-both refl h
 
 module _ (passes : ℕ → Bool) where
   pub some-in : (xs : List ℕ) → someIn passes xs ≡ true → Member passes xs

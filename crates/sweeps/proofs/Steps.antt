@@ -43,10 +43,6 @@ seek-low need f l (suc p) b e h =
     go false z true e r = absurd (h e)
     go false z false e r = absurd (h e)
 
-pub first-of : (a b : ℕ) → (a ≡ 0 → ⊥) → firstOf a b ≡ a
-first-of zero b h = absurd (h refl)
-first-of (suc a) b h = refl
-
 module _ (need left : List ℕ) (kids l p c f b : ℕ) (found : b ≡ seek (at need) f l (p + 1)) where
   pub step-at : (lay : ℕ → ℕ → Bool) (w : ℕ → Bool) → stepChild (at need) (row left kids) lay l p (st c f w) ≡
       childAt (row left kids) lay l p (st c f w) b

@@ -6,7 +6,7 @@ use mathlib.Core.Path.{_≡_, refl, sym, ap, _∙_}
 use mathlib.Core.Bool.{true, false}
 use mathlib.Core.List.{List}
 use mathlib.Core.Logic.{_⊎_, ⊎-elim}
-use Prim.Native.Nat.{ℕ, zero, suc, _+_, _-_, _≤_, _<_}
+use Prim.Native.Nat.{ℕ, suc, _+_, _-_, _≤_, _<_}
 use native.Mathlib.Numerals.{add-one}
 use native.Mathlib.Omega.{arith}
 use lib.ListN.{length, getD, set, length-set}
@@ -16,15 +16,11 @@ use Rattle.laws.proofs.Tests.{never-both, eq-or, le-or}
 use Rattle.nests.specs.Kinds.{POINTS, DEPTH}
 use Rattle.nests.specs.Loops.{isDo, isEnd, endOf, ownerOf}
 use Rattle.nests.proofs.Levels.{lev, lev-zero, lev-up, lev-falls, lev-same, lev-deep, end-not-first}
-use Rattle.nests.proofs.Loops.{owner-from-below, owner-below, end-has-do, owner-of-end, end-is-end, end-there}
+use Rattle.nests.proofs.Loops.{owner-at-most, owner-below, end-has-do, owner-of-end, end-is-end, end-there}
 use Rattle.nests.proofs.Loops.{end-after}
 use Rattle.nests.proofs.Gaps.{owner-after-do, owner-after-end, owner-after-plain}
 use Rattle.tables.specs.Charts.{Points, Charted, ChartRoom}
 use Rattle.tables.proofs.Entries.{entry-here, entry-elsewhere, entries-more}
-
-pub owner-at-most : (ps : List ℕ) (g : ℕ) → ownerOf ps g ≤ g
-owner-at-most ps zero = omega arith
-owner-at-most ps (suc g) = omega (arith, owner-from-below ps g (suc g))
 
 -- at the point i: its loop o, and the height h of a loop that would start here
 pub record Charting (ps : List ℕ) (i o h : ℕ) (own ends heights : List ℕ) : Type 0 where

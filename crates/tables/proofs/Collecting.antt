@@ -4,12 +4,11 @@
 use mathlib.Core.Path.{_≡_, refl}
 use mathlib.Core.Bool.{true}
 use mathlib.Core.List.{List, [], _∷_}
-use mathlib.Core.Logic.{inl, inr}
 use Prim.Native.Nat.{ℕ, zero, suc, _-_, _≤_, _<_}
 use native.Mathlib.Omega.{arith}
 use lib.ListN.{length, getD, drop, drop-of-length-le}
-use Rattle.laws.specs.Members.{Among}
 use Rattle.laws.specs.Entries.{at}
+use Rattle.laws.proofs.Members.{among-drop}
 use Rattle.nests.specs.Nests.{Dep}
 use Rattle.nests.specs.Loops.{isDo, endOf}
 use Rattle.nests.specs.declared.Dependence as DE
@@ -66,13 +65,6 @@ pub collect-done :
 collect-done ps ds heights i reach back has l p =
     let z : i ≡ 0 = omega arith in
     rw z at (p .rest)
-
--- the dependence at i stands in front of the rest, and is one of them
-among-drop : (e : Dep) (ds es : List Dep) (i : ℕ) → drop i ds ≡ e ∷ es → Among e ds
-among-drop e [] es zero h = let z : _≡_ {A = ℕ} 0 1 = cc h in absurd (omega arith)
-among-drop e [] es (suc i) h = let z : _≡_ {A = ℕ} 0 1 = cc h in absurd (omega arith)
-among-drop e (x ∷ ds) es zero h = inl (cc h)
-among-drop e (x ∷ ds) es (suc i) h = inr (among-drop e ds es i h)
 
 -- what a list of dependences has past its end
 abbrev no-dependence : DE.Dependence

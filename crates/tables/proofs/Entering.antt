@@ -1,9 +1,9 @@
 -- One dependence more in the tables: the least end in the cell where it stands, and its home noted.
--- Main statements: `is-line`, `is-back`, `line-there`, `back-there`, `line-entered`, `back-entered`.
+-- Main statements: `line-there`, `back-there`, `line-entered`, `back-entered`.
 use mathlib.Core.Path.{_≡_, refl, sym, ap, _∙_}
 use mathlib.Core.Bool.{Bool, true, false, _&&_, not}
 use mathlib.Core.List.{List, [], _∷_}
-use mathlib.Core.Logic.{_⊎_, inl, inr, ⊎-elim}
+use mathlib.Core.Logic.{_⊎_, ⊎-elim}
 use Prim.Native.Nat.{ℕ, suc, _+_, _-_, _≤_, _<_, min}
 use native.Mathlib.Omega.{arith}
 use lib.Dec.{eqb}
@@ -13,11 +13,11 @@ use Rattle.laws.specs.Bits.{one}
 use Rattle.laws.specs.Choice.{pick}
 use Rattle.laws.specs.Entries.{at}
 use Rattle.laws.proofs.Tests.{never-both, eq-or, and-true, and-intro}
-use Rattle.nests.specs.Kinds.{INDEPENDENT, CARRIED, POINTS}
+use Rattle.nests.specs.Kinds.{INDEPENDENT, POINTS}
 use Rattle.nests.specs.Nests.{Dep}
 use Rattle.nests.specs.Loops.{isDo, endOf, ownerFrom}
 use Rattle.nests.proofs.Loops.{Owner, end-there}
-use Rattle.nests.proofs.Deps.{Line, Back, Fits}
+use Rattle.nests.proofs.Deps.{Line, Back}
 use Rattle.nests.proofs.Gaps.{home-law}
 use Rattle.planner.specs.Home.{homeOf, startsAt, leastEnd, reachOf, hasAt}
 use Rattle.tables.specs.Charts.{ROW, TABLE, cell, Rows, Points, HeightsAre}
@@ -35,15 +35,6 @@ ends-kept :
     ((d q : ℕ) → test d q e ≡ false) → Ends ps heights test ds xs → Ends ps heights test (e ∷ ds) xs
 unfolding leastEnd
 ends-kept ps heights test ds e xs f p d q h l m = rw (f d q) (p d q h l m)
-
--- a dependence by its kind
-pub is-line : (ps : List ℕ) (e : Dep) → Fits ps e → e .kind ≡ INDEPENDENT → Line ps e
-is-line ps e (inl f) k = f
-is-line ps e (inr f) k = let z : _≡_ {A = ℕ} INDEPENDENT CARRIED = sym k ∙ f .kind-is in absurd (omega arith)
-
-pub is-back : (ps : List ℕ) (e : Dep) → Fits ps e → (e .kind ≡ INDEPENDENT → ⊥) → Back ps e
-is-back ps e (inl f) k = absurd (k (f .kind-is))
-is-back ps e (inr f) k = f
 
 module _ (ps : List ℕ) (w : Points ps) (heights : List ℕ) (tall : HeightsAre ps heights) where
   range-fits : (d q : ℕ) → isDo ps d ≡ true → q ≤ endOf ps d → q < ROW

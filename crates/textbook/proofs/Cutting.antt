@@ -11,7 +11,8 @@ use lib.Dec.{eqb, ltb}
 use lib.ListN.{length}
 use borrow.Author.Tests.{lt-ltb, le-ltb}
 use Rattle.laws.specs.Choice.{pick, isIn}
-use Rattle.laws.proofs.Ors.{or-assoc, or-swap, or-none}
+use Rattle.laws.proofs.Connectives.{or-off}
+use Rattle.laws.proofs.Ors.{or-assoc, or-swap}
 use Rattle.placements.specs.Words.{kept, holds}
 use Rattle.textbook.specs.Places.{gapAt, gapsAt, cutPlaces, placesBehind, cutsBehind}
 use Rattle.textbook.specs.Steps.{LaySays}
@@ -112,7 +113,7 @@ laying-start latest m g ws vs f l none put =
     record {
       left = m - 1;
       to-end = omega arith;
-      rest = λ i. rw (add-one, put i, none i, or-none (eqb i g));
+      rest = λ i. rw (add-one, put i, none i, or-off (eqb i g));
     }
 
 module _ {latest : ℕ → ℕ} {m g : ℕ} {ws : List ℕ} {last p : ℕ} (w : Laying latest m g ws last p) where
@@ -155,4 +156,4 @@ module _ {latest : ℕ → ℕ} {m g : ℕ} {ws : List ℕ} {last p : ℕ} (w : 
   laying-done h i =
       let e : w .left ≡ 0 = omega (arith, w .to-end) in
       let z = ap (λ (k : ℕ). cutPlaces latest last k p) e ∙ none-left latest last p in
-      sym (or-none (holds ws i)) ∙ sym (ap (in-all i) z) ∙ w .rest i
+      sym (or-off (holds ws i)) ∙ sym (ap (in-all i) z) ∙ w .rest i

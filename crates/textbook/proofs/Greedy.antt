@@ -10,6 +10,7 @@ use mathlib.Core.Logic.{_⊎_, inl, inr, ⊎-elim}
 use Prim.Native.Nat.{ℕ, _+_, _≤_}
 use native.Mathlib.Omega.{arith}
 use lib.ListN.{length}
+use borrow.Author.Tests.{not-true}
 use Rattle.laws.specs.Choice.{pick, isIn}
 use Rattle.laws.specs.Bits.{one}
 use Rattle.laws.specs.Members.{Among}
@@ -57,10 +58,6 @@ module _ (ps : List ℕ) where
     pub there : Among dependence ds
     pub its : hasGap ps dependence h ≡ true
     pub last : cuts ps dependence hs ≡ false
-
-  not-true : (b : Bool) → not b ≡ true → b ≡ false
-  not-true true h = never h
-  not-true false h = refl
 
   pub some-end : (h : ℕ) (hs : List ℕ) (ds : List Dep) → someEnds ps h hs ds ≡ true → Ending h hs ds
   some-end h hs [] k = never k

@@ -5,7 +5,7 @@
 use mathlib.Core.Path.{_≡_, refl, sym, _∙_, ap}
 use mathlib.Core.Bool.{Bool, true, false, _&&_, not}
 use mathlib.Core.List.{List, [], _∷_}
-use Prim.Native.Nat.{ℕ, suc, _+_, _-_, _^_, _≤_, _<_}
+use Prim.Native.Nat.{ℕ, suc, _+_, _^_, _≤_, _<_}
 use native.Mathlib.Numerals.{add-one}
 use native.Mathlib.Omega.{arith}
 use lib.Dec.{eqb, leb}
@@ -14,7 +14,7 @@ use borrow.Author.Tests.{leb-false, ne-eqb}
 use Rattle.laws.specs.Choice.{pick, when, firstOf}
 use Rattle.laws.proofs.Tests.{or-false, never}
 use Rattle.laws.proofs.Choices.{first-zero, when-zero}
-use Rattle.nests.specs.Kinds.{DO, ENDDO, POINTS, DEPTH, DEPENDENCES, BARS}
+use Rattle.nests.specs.Kinds.{DO, POINTS, DEPTH, DEPENDENCES, BARS}
 use Rattle.nests.specs.Nests.{Dep, Nest, empty}
 use Rattle.nests.specs.Loops.{deeper, depthFrom, depth, isClosed, HasEnds}
 use Rattle.nests.specs.Ring.{oneLoop}
@@ -22,6 +22,7 @@ use Rattle.nests.specs.Valid.{depFault, barFault}
 use Rattle.nests.specs.Stored.{depIn, nestIn, IsCounted, IsEmpty}
 use Rattle.nests.specs.declared.Dependence.{Dependence}
 use Rattle.nests.specs.declared.Nest as DN
+use Rattle.nests.proofs.Scan.{deeper-grows}
 use Rattle.nests.proofs.Stored as stored
 use Rattle.lines.specs.declared.Frame.{Frame}
 use Rattle.lines.specs.declared.Read.the-variants as RV
@@ -41,14 +42,6 @@ use Rattle.texts.proofs.Shapes.{depth-more}
 use Rattle.texts.proofs.Faults.{bad-first, good-first}
 
 -- the depth is at most the number of points
-deeper-grows : (d p : ℕ) → deeper d p ≤ suc d
-deeper-grows d p = go (eqb p DO) (eqb p ENDDO)
-  where
-    go : (s t : Bool) → pick s (suc d) (pick t (d - 1) d) ≤ suc d
-    go true t = omega arith
-    go false true = omega arith
-    go false false = omega arith
-
 depth-bound : (d : ℕ) (ps : List ℕ) → depthFrom d ps ≤ d + length ps
 depth-bound d [] = omega arith
 depth-bound d (p ∷ ps) = omega (arith, depth-bound (deeper d p) ps, deeper-grows d p)

@@ -1,7 +1,7 @@
 -- What the program writes, case by case: a valid nest's spelling is never too long for it, so its key and counts are
 -- written.
--- Main statements: `spelling-short`, `program-accepted`, `program-blocked`, `program-blank`, `program-refused`,
--- `program-long`, `refusal-bytes`.
+-- Main statements: `frame-length`, `spelling-short`, `program-accepted`, `program-blocked`, `program-blank`,
+-- `program-refused`, `program-long`, `refusal-bytes`.
 use mathlib.Core.Path.{_≡_, refl}
 use mathlib.Core.Bool.{Bool, true, false}
 use mathlib.Core.List.{List, [], _∷_, _++_}
@@ -28,7 +28,7 @@ use Rattle.texts.proofs.Refusals.{numbers-to-14, place-within}
 use Rattle.texts.proofs.Spelled.{valid-accepted}
 
 -- a point's line has 3 bytes, a dependence's at most 9, a barred gap's 5
-frame-length : (e : Dep) → length (lineText (depFrame e)) ≤ 9
+pub frame-length : (e : Dep) → length (lineText (depFrame e)) ≤ 9
 frame-length e = go (eqb (e .kind) INDEPENDENT)
   where
     go

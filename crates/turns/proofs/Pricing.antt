@@ -17,9 +17,8 @@ use Rattle.nests.specs.Kinds.{DO, POINTS, DEPTH}
 use Rattle.nests.specs.Loops.{isDo, ownerOf}
 use Rattle.nests.specs.Valid.{isShape}
 use Rattle.nests.proofs.Levels.{point-in}
-use Rattle.nests.proofs.Loops.{end-after, end-there, owner-is-do, owner-below}
+use Rattle.nests.proofs.Loops.{end-after, end-there, owner-is-do, owner-below, owner-at-most}
 use Rattle.owners.specs.Tables.{OwnersAre}
-use Rattle.owners.proofs.Walk.{owner-at-most}
 use Rattle.calls.specs.Calls.{TURNS, dosBefore, turnsOf, timesFrom, timesAt, fitIn}
 use Rattle.calls.proofs.Turns.{in-list, turns-most}
 use Rattle.calls.proofs.Times.{times-own, times-do}

@@ -5,8 +5,8 @@ use native.Mathlib.Omega.{arith}
 use lib.ListN.{length, getD}
 use Rattle.laws.proofs.Copies.{copies, copies-at}
 use Rattle.nests.specs.Loops.{ownerOf}
+use Rattle.nests.proofs.Loops.{owner-at-most}
 use borrow.Author.Needs.{needs}
-use Rattle.owners.proofs.Walk.{owner-at-most}
 use Rattle.owners.proofs.Tallied.{Tallied, tally-start, tally-few, tally-on, tally-done}
 use Rattle.owners.proofs.counts_of.Statement.{statement}
 use Rattle.owners.proofs.counts_of.Tie as tie

@@ -4,8 +4,9 @@ use Prim.Native.Nat.{_+_}
 use borrow.Author.Needs.{needs}
 use Rattle.laws.specs.Entries.{at}
 use Rattle.nests.specs.Stored.{depIn}
+use Rattle.nests.proofs.Deps.{is-line, is-back}
 use Rattle.skipping.specs.Covering.{CoverSays}
-use Rattle.skipping.proofs.Listing.{is-line, is-back, line-bare, line-listed}
+use Rattle.skipping.proofs.Listing.{line-bare, line-listed}
 use Rattle.skipping.proofs.Listing.{front-bare, rear-bare, back-listed}
 use Rattle.skipping.proofs.list_by.Statement.{statement}
 use Rattle.skipping.proofs.list_by.Tie as tie

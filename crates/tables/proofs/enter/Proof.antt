@@ -5,9 +5,9 @@ use native.Mathlib.Omega.{arith}
 use borrow.Author.Needs.{needs}
 use Rattle.nests.specs.Kinds.{POINTS}
 use Rattle.nests.specs.Stored.{depIn}
-use Rattle.nests.proofs.Deps.{Line, Back}
+use Rattle.nests.proofs.Deps.{Line, Back, is-line, is-back}
 use Rattle.tables.specs.Charts.{TABLE, cell}
-use Rattle.tables.proofs.Entering.{is-line, is-back, line-there, back-there, line-entered, back-entered}
+use Rattle.tables.proofs.Entering.{line-there, back-there, line-entered, back-entered}
 use Rattle.tables.proofs.enter.Statement.{statement}
 use Rattle.tables.proofs.enter.Tie as tie
 

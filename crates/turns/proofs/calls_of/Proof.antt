@@ -3,7 +3,7 @@ use Prim.Native.Nat.{_-_, _<_}
 use native.Mathlib.Omega.{arith}
 use lib.ListN.{length, getD}
 use borrow.Author.Needs.{needs}
-use Rattle.owners.proofs.Walk.{owner-at-most}
+use Rattle.nests.proofs.Loops.{owner-at-most}
 use Rattle.turns.proofs.Summing.{Summed, sum-start, sum-on, sum-most, sum-done}
 use Rattle.turns.proofs.calls_of.Statement.{statement}
 use Rattle.turns.proofs.calls_of.Tie as tie
