@@ -20,6 +20,7 @@ use Rattle.placements.specs.Placements.{isFree}
 use Rattle.barred.specs.Ranks.{rank}
 use Rattle.barred.proofs.Bars.{none-behind, bar-at}
 use Rattle.barred.proofs.Ranks.{rank-zero, rank-le}
+use Rattle.tables.proofs.Entries.{copies-there}
 use Rattle.foundation.specs.Tables.{HasFree, HasRanks}
 
 -- ---- the gaps that are not barred
@@ -30,12 +31,6 @@ pub record FreeFrom (n : DN.Nest) (i : ℕ) (xs : List ℕ) : Type 0 where
   pub long : length xs ≡ POINTS
   pub free-is : HasFree (drop i (nestIn n .barred)) xs
 
-all-ones : (k i : ℕ) → i < k → at (copies k 1) i ≡ 1
-unfolding copies
-all-ones zero i l = absurd (omega arith)
-all-ones (suc k) zero l = refl
-all-ones (suc k) (suc i) l = all-ones k i (omega arith)
-
 -- without barred gaps it is 1 everywhere
 pub free-start : (n : DN.Nest) → IsCounted n → FreeFrom n (n .bars) (copies POINTS 1)
 unfolding copies
@@ -43,7 +38,7 @@ free-start n p =
     record {
       within = omega arith;
       long = refl;
-      free-is = λ g l. all-ones POINTS g l ∙ rw (none-behind n p) refl;
+      free-is = λ g l. copies-there POINTS 1 g l ∙ rw (none-behind n p) refl;
     }
 
 -- a gap in front of the barred ones

@@ -17,7 +17,7 @@ pub fn plan(nest: Nest) -> Placement
     requires { ⌜ isValid (nestIn nest) ≡ true ⌝ }
     ensures { λ r. ⌜ PlanSays (nestIn nest) (r .words) ⌝ }
 {
-    // Every entry is written before it is read. A filling with a variable is no call of memset.
+    // n is above every gap. A filling with a variable is no call of memset.
     let n = nest.count;
     let mut own = [0; ROW];
     let mut ends = [0; ROW];
@@ -35,6 +35,7 @@ pub fn plan(nest: Nest) -> Placement
         &mut has,
     );
     let points = nest.points;
+    // Here every entry is written before it is read.
     let mut left = [n; TABLE];
     let mut choice = [n; TABLE];
     settling::settle(

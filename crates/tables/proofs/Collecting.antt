@@ -18,22 +18,20 @@ use Rattle.nests.proofs.Deps.{Fits}
 use Rattle.planner.proofs.Instance.{AllFit}
 use Rattle.planner.specs.Home.{leastEnd, reachOf, hasAt}
 use Rattle.tables.specs.Charts.{TABLE, cell, Points, HeightsAre}
-use Rattle.tables.specs.Collected.{backOf, Collected, Entered, LinesRoom}
-use Rattle.tables.proofs.Entries.{all-zero}
+use Rattle.tables.specs.Collected.{backOf, Collected, Entered, LinesRoom, Blank}
 use Rattle.tables.proofs.Entering.{cell-there}
 
 -- with no dependence every cell holds n and no loop is a home
 pub collect-none :
-    (ps heights reach back has : List ℕ) → ((i : ℕ) → i < TABLE → at reach i ≡ length ps) →
-    ((i : ℕ) → i < TABLE → at back i ≡ length ps) → ((i : ℕ) → at has i ≡ 0) →
+    (ps heights reach back has : List ℕ) → Blank (length ps) reach back has →
     ((d q : ℕ) → isDo ps d ≡ true → d < q → q ≤ endOf ps d → cell heights d q < TABLE) →
     Collected ps [] heights reach back has
 unfolding reachOf backOf hasAt leastEnd
-collect-none ps heights reach back has r b z f =
+collect-none ps heights reach back has blank f =
     record {
-      reach-is = λ d q h l m. r (cell heights d q) (f d q h l m);
-      back-is = λ d q h l m. b (cell heights d q) (f d q h l m);
-      has-is = λ d h. z d;
+      reach-is = λ d q h l m. blank .reach-is (cell heights d q) (f d q h l m);
+      back-is = λ d q h l m. blank .back-is (cell heights d q) (f d q h l m);
+      has-is = λ d h. blank .has-is d;
     }
 
 -- the dependences from the i-th on are in the tables
@@ -45,9 +43,8 @@ pub record Collecting (ps : List ℕ) (ds : List Dep) (heights : List ℕ) (i : 
 pub collect-start :
     (ps : List ℕ) → Points ps → (heights : List ℕ) → HeightsAre ps heights → (ds : List Dep) (i : ℕ) →
     i ≡ length ds → (reach back has : List ℕ) → LinesRoom reach back has →
-    ((k : ℕ) → k < length reach → at reach k ≡ length ps) → ((k : ℕ) → k < length back → at back k ≡ length ps) →
-    ((k : ℕ) → k < length has → at has k ≡ 0) → Collecting ps ds heights i reach back has
-collect-start ps w heights tall ds i e reach back has room r b z =
+    Blank (length ps) reach back has → Collecting ps ds heights i reach back has
+collect-start ps w heights tall ds i e reach back has room blank =
     record { here = omega arith; rest = rw (drop-of-length-le ds at-end) none; room = room }
   where
     at-end : length ds ≤ i
@@ -55,9 +52,7 @@ collect-start ps w heights tall ds i e reach back has room r b z =
 
     none : Collected ps [] heights reach back has
     none =
-        collect-none ps heights reach back has (λ k l. r k (omega (arith, room .reach-room)))
-        (λ k l. b k (omega (arith, room .limit-room))) (all-zero has (length has) refl z)
-        (cell-there ps w heights tall)
+        collect-none ps heights reach back has blank (cell-there ps w heights tall)
 
 pub collect-done :
     (ps : List ℕ) (ds : List Dep) (heights : List ℕ) (i : ℕ) (reach back has : List ℕ) → i ≤ 0 →

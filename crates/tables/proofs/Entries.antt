@@ -1,14 +1,15 @@
--- Entries of a list after a store.
--- Main statements: `entry-here`, `entry-elsewhere`, `entry-past`, `filled-more`, `lowered`, `kept`.
-use mathlib.Core.Path.{_≡_, sym}
+-- Entries of a list after a store, and of an array of one value.
+-- Main statements: `entry-here`, `entry-elsewhere`, `entries-more`, `copies-there`, `lowered`, `left-low`.
+use mathlib.Core.Path.{_≡_, refl, sym}
 use mathlib.Core.List.{List}
-use mathlib.Core.Logic.{_⊎_, ⊎-elim}
-use Prim.Native.Nat.{ℕ, _+_, _≤_, _<_, min}
+use mathlib.Core.Logic.{⊎-elim}
+use Prim.Native.Nat.{ℕ, zero, suc, _+_, _≤_, _<_, min}
 use native.Mathlib.Omega.{arith}
-use lib.ListN.{length, set, List·getD-eq-default}
+use lib.ListN.{length, set}
 use lib.Seq.{getD-set-same, getD-set-other, set-getD}
 use Rattle.laws.specs.Entries.{at}
-use Rattle.laws.proofs.Tests.{eq-or, le-or}
+use Rattle.laws.proofs.Copies.{copies}
+use Rattle.laws.proofs.Tests.{eq-or}
 
 module _ (xs : List ℕ) (i v : ℕ) where
   pub entry-here : i < length xs → at (set xs i v) i ≡ v
@@ -26,14 +27,12 @@ module _ (xs : List ℕ) (i v : ℕ) where
       (λ (e : k ≡ i → ⊥). rw (entry-elsewhere k e) (below k (omega arith)))
       (eq-or k i)
 
--- past the end every entry is 0
-pub entry-past : (xs : List ℕ) (i : ℕ) → length xs ≤ i → at xs i ≡ 0
-entry-past xs i h = List·getD-eq-default xs 0 h
-
--- entries that are 0 up to the end are all 0
-pub all-zero : (xs : List ℕ) (n : ℕ) → length xs ≡ n → ((i : ℕ) → i < n → at xs i ≡ 0) → (i : ℕ) → at xs i ≡ 0
-all-zero xs n e z i =
-    ⊎-elim (λ (h : n ≤ i). entry-past xs i (omega arith)) (λ (h : i < n). z i h) (le-or n i)
+-- an array of one value has it at each of its places
+pub copies-there : (k v i : ℕ) → i < k → at (copies k v) i ≡ v
+unfolding copies
+copies-there zero v i l = absurd (omega arith)
+copies-there (suc k) v zero l = refl
+copies-there (suc k) v (suc i) l = copies-there k v i (omega arith)
 
 -- the lesser of an entry and t in its place, stored or left
 pub lowered : (xs : List ℕ) (i t : ℕ) → t < at xs i → set xs i t ≡ set xs i (min t (at xs i))

@@ -1,22 +1,37 @@
 -- The tables of a nest, from their parts.
--- Main statements: `count-there`, `all-prepared`, and what a valid nest gives: `points-of`, `fits-of`.
-use mathlib.Core.Path.{_≡_}
+-- Main statements: `count-there`, `unowned-filled`, `blank-filled`, `all-prepared`, and what a valid nest gives:
+-- `points-of`, `fits-of`.
+use mathlib.Core.Path.{_≡_, _∙_}
 use mathlib.Core.Bool.{true}
 use mathlib.Core.List.{List}
 use Prim.Native.Nat.{ℕ, _≤_}
 use native.Mathlib.Omega.{arith}
 use lib.ListN.{length, take, length-take}
+use Rattle.laws.proofs.Copies.{copies, copies-at}
 use Rattle.nests.specs.Nests.{Dep, Nest}
 use Rattle.nests.specs.Valid.{isValid}
 use Rattle.nests.proofs.Deps.{valid-is, deps-fit}
 use Rattle.planner.proofs.Instance.{AllFit}
-use Rattle.tables.specs.Charts.{Points, Charted}
-use Rattle.tables.specs.Collected.{Collected, Limited}
+use Rattle.tables.specs.Charts.{ROW, TABLE, Points, Charted, Unowned}
+use Rattle.tables.specs.Collected.{Collected, Blank, Limited}
 use Rattle.tables.specs.Prepared.{Prepared}
+use Rattle.tables.proofs.Entries.{copies-there}
 
 -- the first n of a list are there
 pub count-there : (n : ℕ) (xs : List ℕ) → n ≡ length (take n xs) → n ≤ length xs
 count-there n xs e = omega (arith, length-take n xs)
+
+-- new lists, filled with 0 and with n
+pub unowned-filled : Unowned (copies ROW 0)
+unowned-filled = copies-at ROW 0
+
+pub blank-filled : (n m : ℕ) → n ≡ m → Blank m (copies TABLE n) (copies TABLE n) (copies ROW 0)
+blank-filled n m e =
+    record {
+      reach-is = λ i l. copies-there TABLE n i l ∙ e;
+      back-is = λ i l. copies-there TABLE n i l ∙ e;
+      has-is = copies-at ROW 0;
+    }
 
 pub all-prepared :
     (ps : List ℕ) (ds : List Dep) (own ends heights reach back limit has : List ℕ) → Charted ps own ends heights →

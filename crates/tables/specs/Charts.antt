@@ -48,6 +48,10 @@ pub record Charted (ps own ends heights : List ℕ) : Type 0 where
 abbrev pub Rows : List ℕ → List ℕ → List ℕ → (ℕ → ℕ → ℕ) → Type 0
 Rows ps heights xs f = (d q : ℕ) → isDo ps d ≡ true → d < q → q ≤ endOf ps d → at xs (cell heights d q) ≡ f d q
 
+-- of no gap a loop is noted
+abbrev pub Unowned : List ℕ → Type 0
+Unowned own = (g : ℕ) → at own g ≡ 0
+
 -- room for an entry at each point
 pub record ChartRoom (own ends heights : List ℕ) : Type 0 where
   pub own-room : POINTS ≤ length own

@@ -1,5 +1,5 @@
 -- The dependences of a nest as tables: by the row of their home, the least t.
--- Main definitions: `backOf`, `Collected`, `Entered`, `Limited`, `lowestFrom`, `Narrowed`.
+-- Main definitions: `backOf`, `Collected`, `Entered`, `Blank`, `Limited`, `lowestFrom`, `Narrowed`.
 use mathlib.Core.Path.{_≡_}
 use mathlib.Core.Bool.{Bool, true, _&&_, not}
 use mathlib.Core.List.{List, _∷_}
@@ -40,6 +40,12 @@ pub record LinesRoom (reach limit has : List ℕ) : Type 0 where
   pub reach-room : TABLE ≤ length reach
   pub limit-room : TABLE ≤ length limit
   pub has-room : POINTS ≤ length has
+
+-- no dependence is entered: the least t is n everywhere, and no loop is a home
+pub record Blank (n : ℕ) (reach back has : List ℕ) : Type 0 where
+  pub reach-is : (i : ℕ) → i < TABLE → at reach i ≡ n
+  pub back-is : (i : ℕ) → i < TABLE → at back i ≡ n
+  pub has-is : (d : ℕ) → at has d ≡ 0
 
 -- the limits of each loop from what goes back in it
 abbrev pub Limited : List ℕ → List ℕ → List ℕ → List ℕ → Type 0

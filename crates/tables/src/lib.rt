@@ -10,14 +10,14 @@ ghost use Rattle.nests.specs.Loops.{ownerFrom};
 ghost use Rattle.nests.specs.Stored.{depIn, nestIn, IsCounted};
 ghost use Rattle.nests.proofs.Deps.{Fits};
 ghost use Rattle.planner.proofs.Instance.{AllFit};
-ghost use Rattle.tables.specs.Charts.{TABLE, Points, OwnIs, EndsAre, HeightsAre, Charted, ChartRoom};
-ghost use Rattle.tables.specs.Collected.{Collected, Entered, LinesRoom, Narrowed, Limited};
+ghost use Rattle.tables.specs.Charts.{TABLE, Points, OwnIs, EndsAre, HeightsAre, Charted, ChartRoom, Unowned};
+ghost use Rattle.tables.specs.Collected.{Collected, Entered, LinesRoom, Blank, Narrowed, Limited};
 ghost use Rattle.tables.specs.Prepared.{Prepared};
 
 // The entries of a row, one for each point.
 const ROW: usize = 256;
 
-// All tables of a nest.
+// All tables of a nest, in lists that nothing is noted in.
 pub fn prepare(
     nest: Nest,
     own: &mut [usize],
@@ -32,6 +32,8 @@ pub fn prepare(
     requires { ⌜ AllFit (nestIn nest .points) (nestIn nest .deps) ⌝ }
     requires { ⌜ ChartRoom (now own) (now ends) (now heights) ⌝ }
     requires { ⌜ LinesRoom (now reach) (now limit) (now has) ⌝ }
+    requires { ⌜ Unowned (now own) ⌝ }
+    requires { ⌜ Blank (length (nestIn nest .points)) (now reach) (now limit) (now has) ⌝ }
     ensures { λ r. ⌜ Prepared (nestIn nest .points) (nestIn nest .deps) (now (own .exit)) (now (ends .exit))
         (now (heights .exit)) (now (reach .exit)) (now (limit .exit)) (now (has .exit)) ⌝ }
 {
@@ -46,9 +48,9 @@ pub fn prepare(
 fn chart(points: &[u8], own: &mut [usize], ends: &mut [usize], heights: &mut [usize])
     requires { ⌜ Points (now points) ⌝ }
     requires { ⌜ ChartRoom (now own) (now ends) (now heights) ⌝ }
+    requires { ⌜ Unowned (now own) ⌝ }
     ensures { λ r. ⌜ Charted (now (points .entry)) (now (own .exit)) (now (ends .exit)) (now (heights .exit)) ⌝ }
 {
-    fill(own, 0);
     let mut o = 0;
     let mut h = Nest::DEPTH;
     let mut i = 0;
@@ -88,12 +90,10 @@ fn collect(
     requires { ⌜ LinesRoom (now reach) (now back) (now has) ⌝ }
     requires { ⌜ IsCounted nest ⌝ }
     requires { ⌜ AllFit (now points) (nestIn nest .deps) ⌝ }
+    requires { ⌜ Blank (length (now points)) (now reach) (now back) (now has) ⌝ }
     ensures { λ r. ⌜ Collected (now (points .entry)) (nestIn nest .deps) (now (heights .entry))
         (now (reach .exit)) (now (back .exit)) (now (has .exit)) ⌝ }
 {
-    fill(reach, points.len());
-    fill(back, points.len());
-    fill(has, 0);
     let mut i = nest.many;
     while 0 < i {
         i -= 1;
@@ -203,16 +203,5 @@ fn lower(xs: &mut [usize], place: usize, t: usize)
 {
     if t < xs[place] {
         xs[place] = t;
-    }
-}
-
-// Every entry is v.
-fn fill(xs: &mut [usize], v: usize)
-    ensures { λ r. ⌜ ((i : ℕ) → i < length (now (xs .entry)) → at (now (xs .exit)) i ≡ v) ⌝ }
-{
-    let mut i = 0;
-    while i < xs.len() {
-        xs[i] = v;
-        i += 1;
     }
 }

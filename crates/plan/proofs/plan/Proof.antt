@@ -1,9 +1,11 @@
 -- `plan` meets its contract: the tables are what settling and laying ask, and what loop 0 lays is the key (Planning).
 use native.Mathlib.Omega.{arith}
+use lib.ListN.{length}
+use Rattle.laws.proofs.Copies.{copies}
 use Rattle.nests.specs.Stored.{nestIn}
 use Rattle.nests.proofs.Levels.{starts-with-do}
 use Rattle.nests.proofs.Loops.{end-after}
-use Rattle.tables.proofs.Preparing.{count-there, points-of, fits-of}
+use Rattle.tables.proofs.Preparing.{count-there, unowned-filled, blank-filled, points-of, fits-of}
 use Rattle.plan.proofs.Planning.{charts, choices, key, top-height}
 use borrow.Author.Needs.{needs}
 use Rattle.plan.proofs.plan.Statement.{statement}
@@ -28,6 +30,7 @@ slice-aggregate-prepare-6 : tie.Need-slice-aggregate-prepare-6
 slice-aggregate-prepare-6 c = search needs
 
 prepare-requires : tie.Need-prepare-requires
+unfolding copies
 prepare-requires c κs =
     let b6 = c .before .before .before .before .before .before in
     let n = b6 .args .nest in
@@ -39,7 +42,10 @@ prepare-requires c κs =
           fits-of (nestIn n) (p .1),
           (
             record { own-room = omega arith; ends-room = omega arith; heights-room = omega arith },
-            record { reach-room = omega arith; limit-room = omega arith; has-room = omega arith },
+            (
+              record { reach-room = omega arith; limit-room = omega arith; has-room = omega arith },
+              (unowned-filled, blank-filled (n .count) (length (nestIn n .points)) (p .0 .count-is)),
+            ),
           ),
         ),
       ),

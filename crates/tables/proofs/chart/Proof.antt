@@ -4,7 +4,6 @@ use Prim.Native.Nat.{_-_}
 use native.Mathlib.Omega.{arith}
 use borrow.Author.Needs.{needs}
 use lib.ListN.{length, length-set}
-use Rattle.tables.proofs.Entries.{all-zero}
 use Rattle.tables.proofs.Charting.{Charting, chart-start, chart-done, on-do, on-end, on-plain, height-there}
 use Rattle.tables.proofs.chart.Statement.{statement}
 use Rattle.tables.proofs.chart.Tie as tie
@@ -19,18 +18,13 @@ abbrev μ-loop : tie.MeasureT-loop
 
 -- the call, from the loop
 abbrev called : tie.At-loop Inv-loop μ-loop → tie.Start Inv-loop μ-loop
-called c = c .before .before .before .before .before .before .before .before .before
-
-fill-requires : tie.Need-fill-requires Inv-loop μ-loop
-fill-requires c κs = search needs
+called c = c .before
 
 loop-holds : tie.Need-loop-holds Inv-loop μ-loop
 loop-holds c =
-    let a = c .before .before .before .before .before .before .before .before .args in
-    let f = c .before .before .fill in
-    let room = c .before .before .before .before .before .before .before .before .pre .1 in (
-      chart-start (a .points .now) (f .last .0) (a .ends .now) (a .heights .now)
-          (all-zero (f .last .0) (length (a .own .now)) (omega arith) (f .ensures)) (search needs),
+    let a = c .args in
+    let w = c .pre .1 in (
+      chart-start (a .points .now) (a .own .now) (a .ends .now) (a .heights .now) (w .1) (w .0),
       (refl, (refl, refl)),
     )
 
@@ -148,7 +142,6 @@ chart-spec =
     (tie.spec
     Inv-loop
     μ-loop
-    fill-requires
     loop-holds
     mul-own
     slice-write-own

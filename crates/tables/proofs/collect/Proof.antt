@@ -18,35 +18,16 @@ abbrev μ-loop : tie.MeasureT-loop
 μ-loop points own ends heights reach₀ back₀ has₀ nest i₀ reach back has i = i
 
 -- the call, from before the loop
-abbrev called : tie.After-slice-known6 Inv-loop μ-loop → tie.Start Inv-loop μ-loop
-called c =
-    let f = c .before .before .before .before .before .before .before .before .before .before in
-    f .before .before .before .before .before .before .before .before .before
-
-fill-requires : tie.Need-fill-requires Inv-loop μ-loop
-fill-requires c κs = search needs
-
-fill-requires-2 : tie.Need-fill-requires-2 Inv-loop μ-loop
-fill-requires-2 c κs = search needs
-
-fill-requires-3 : tie.Need-fill-requires-3 Inv-loop μ-loop
-fill-requires-3 c κs = search needs
+abbrev called : tie.After-slice-known3 Inv-loop μ-loop → tie.Start Inv-loop μ-loop
+called c = c .before .before .before .before .before .before .before
 
 loop-holds : tie.Need-loop-holds Inv-loop μ-loop
 loop-holds c =
-    let s = called c in
-    let a = s .args in
-    let w = s .pre in
-    let r = c .before .before .before .before .before .before .before .before .before .before .fill in
-    let b = c .before .before .before .before .before .before .fill2 in
-    let h = c .before .before .fill3 in (
+    let a = called c .args in
+    let w = called c .pre in (
       collect-start (a .points .now) (w .0) (a .heights .now) (w .1 .0 .heights-are)
-          (depsIn (a .t1 .many) (a .t1 .deps)) (a .t1 .many) (w .1 .1 .1 .1 .0 .many-is) (r .last .0) (b .last .0)
-          (h .last .0)
-          (room-kept (a .reach .now) (a .back .now) (a .has .now) (r .last .0) (b .last .0) (h .last .0) (w .1 .1 .1 .0)
-          (r .kept .0) (b .kept .0) (h .kept .0))
-          (λ k l. r .ensures k (omega (arith, r .kept .0))) (λ k l. b .ensures k (omega (arith, b .kept .0)))
-          (λ k l. h .ensures k (omega (arith, h .kept .0))),
+          (depsIn (a .t1 .many) (a .t1 .deps)) (a .t1 .many) (w .1 .1 .1 .1 .0 .many-is) (a .reach .now)
+          (a .back .now) (a .has .now) (w .1 .1 .1 .0) (w .1 .1 .1 .1 .1 .1),
       (refl, (refl, refl)),
     )
 
@@ -74,7 +55,7 @@ enter-requires c κs =
           (
             l .inv .0 .room,
             fits-here (a .points .now) (a .t1 .many) (a .t1 .deps) (w .1 .1 .1 .1 .0 .many-is) (l .i)
-                (t .loop-test .taken) (l .inv .0 .here) (w .1 .1 .1 .1 .1),
+                (t .loop-test .taken) (l .inv .0 .here) (w .1 .1 .1 .1 .1 .0),
           ),
         ),
       ),
@@ -127,9 +108,6 @@ collect-spec =
     (tie.spec
     Inv-loop
     μ-loop
-    fill-requires
-    fill-requires-2
-    fill-requires-3
     loop-holds
     sub-i
     mul-e

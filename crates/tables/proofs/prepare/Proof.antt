@@ -48,7 +48,7 @@ collect-requires c κs =
             ends-room = omega (arith, h .kept .1 .1 .0, w .1 .1 .1 .0 .ends-room);
             heights-room = omega (arith, h .kept .1 .1 .1 .0, w .1 .1 .1 .0 .heights-room);
           },
-          (w .1 .1 .1 .1, (w .0, w .1 .1 .0)),
+          (w .1 .1 .1 .1 .0, (w .0, (w .1 .1 .0, w .1 .1 .1 .1 .1 .1))),
         ),
       ),
     )
@@ -76,7 +76,7 @@ narrow-requires c κs =
             omega (arith, h .kept .1 .1 .0, w .1 .1 .1 .0 .ends-room),
             (
               omega (arith, h .kept .1 .1 .1 .0, w .1 .1 .1 .0 .heights-room),
-              omega (arith, l .kept .1 .1 .1 .1 .1 .1 .0, w .1 .1 .1 .1 .limit-room),
+              omega (arith, l .kept .1 .1 .1 .1 .1 .1 .0, w .1 .1 .1 .1 .0 .limit-room),
             ),
           ),
         ),
