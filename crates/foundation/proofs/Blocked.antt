@@ -1,29 +1,27 @@
 -- All gaps of a dependence are barred exactly if no rank rises along them: of an independent one from s to t, of a
 -- carried one from the DO to t and from s to the ENDDO.
--- Main statements: `shut-ranked`, `never-blocked`.
-use mathlib.Core.Path.{_≡_, refl, sym, ap, _∙_}
-use mathlib.Core.Bool.{Bool, true, false, _&&_, _||_}
-use mathlib.Core.List.{List, [], _∷_}
-use mathlib.Core.Logic.{_⊎_, inl, inr, ⊎-elim}
+-- Main statement: `shut-ranked`.
+use mathlib.Core.Path.{_≡_, refl, sym, _∙_}
+use mathlib.Core.Bool.{Bool, true, false, _&&_}
+use mathlib.Core.List.{List}
+use mathlib.Core.Logic.{inl, inr, ⊎-elim}
 use Prim.Native.Nat.{ℕ, suc, _-_, _≤_, _<_}
 use native.Mathlib.Omega.{arith}
 use lib.Dec.{eqb}
 use lib.ListN.{length}
 use borrow.Author.Tests.{eqb-false, ne-eqb}
-use Rattle.laws.specs.Members.{Among}
 use Rattle.laws.proofs.Connectives.{and-off}
 use Rattle.laws.proofs.Tests.{and-false, true-by, lt-by}
-use Rattle.nests.specs.Nests.{Dep, Nest}
+use Rattle.nests.specs.Nests.{Dep}
 use Rattle.nests.specs.Loops.{endOf}
 use Rattle.nests.specs.Ring.{oneLoop}
-use Rattle.nests.specs.Valid.{isShape, isValid}
+use Rattle.nests.specs.Valid.{isShape}
 use Rattle.nests.proofs.Deps.{Line, Back, Fits, line-gap, gap-of-line, back-gap, gap-before-target, gap-after-source}
-use Rattle.nests.proofs.Deps.{target-gap, valid-is, deps-fit}
-use Rattle.nests.proofs.Loops.{end-there, outermost}
+use Rattle.nests.proofs.Loops.{outermost}
 use Rattle.nests.proofs.Ring.{one-loop-is-first}
 use Rattle.placements.specs.Placements.{isFree}
 use Rattle.barred.specs.Ranks.{rank}
-use Rattle.barred.specs.Reduced.{isShut, someShut, isBlocked}
+use Rattle.barred.specs.Reduced.{isShut}
 use Rattle.barred.proofs.Ranks.{rank-monotone, rank-of-free, rank-first, rank-found}
 use Rattle.barred.proofs.Reduced.{Open, open-there, open-by}
 use Rattle.foundation.specs.Renumbering.{isShutAt}
@@ -146,28 +144,3 @@ module _
       (eqb (rank bs (e .t)) 0 && eqb (rank bs (e .s)) top) =
       rw (back .kind-is) refl in
       back-shut back ∙ sym k
-
--- ---- nothing barred
-
-module _ (ps : List ℕ) (shape : isShape ps ≡ true) where
-  target-within : (e : Dep) → Fits ps e → (0 < e .t) × (e .t ≤ length ps - 1)
-  target-within e (inl line) = (omega (arith, line .forward), omega (arith, line .target-there))
-  target-within e (inr back) =
-      (omega (arith, back .target-after), omega (arith, back .target-before, end-there ps shape (e .d) (back .loop)))
-
-  -- every dependence has the gap before its target
-  none-barred : (ds : List Dep) → ((e : Dep) → Among e ds → Fits ps e) → someShut ps [] ds ≡ false
-  none-barred [] fits = refl
-  none-barred (e ∷ es) fits =
-      let f = fits e (inl refl) in
-      let w = target-within e f in
-      let o : Open ps [] e =
-      record { gap = e .t; first = w .0; last = w .1; its = target-gap ps e f; free = refl } in
-      let z : isShut ps [] e ≡ false = open-by ps [] e o in
-      ap (λ (b : Bool). b || someShut ps [] es) z ∙ none-barred es (λ x a. fits x (inr a))
-
-pub never-blocked : (n : Nest) → isValid n ≡ true → n .barred ≡ [] → isBlocked n ≡ false
-never-blocked n h z =
-    let v = valid-is n h in
-    ap (λ (bs : List ℕ). someShut (n .points) bs (n .deps)) z ∙
-    none-barred (n .points) (v .shape) (n .deps) (deps-fit (n .points) (n .deps) (v .all-deps))
