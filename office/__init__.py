@@ -1,4 +1,5 @@
-"""What stands between the proved program and the people of an office: words for its numbers, and pictures.
+"""What stands between the proved library and the people of an office: its calls, words for its numbers, pictures.
 
-Nothing about papers is worked out here that the program answers: numbers, lines, keys and counts come from it.
+Nothing about papers is worked out here that a call answers: numbers, lines, verdicts, keys, counts, cuts and slips
+come from the library.
 """

@@ -1,4 +1,6 @@
-"""What every command shares: a fault becomes a message and a status in one place, and output is written whole."""
+"""What every command shares: a fault becomes a message and a status in one place, files are read and written whole."""
+import argparse
+import contextlib
 import os
 import pathlib
 import signal
@@ -6,22 +8,43 @@ import sys
 from collections.abc import Callable
 
 ROOT = pathlib.Path(__file__).resolve().parent.parent
-REFUSED, FAILED = 1, 2
-# More bytes than any text that is accepted has.
-ENOUGH = 65536
+REFUSED, FAILED, INTERRUPTED = 1, 2, 130
+# More bytes than any text, listing or sheet has.
+ENOUGH = 1 << 20
 
 
 class Fault(Exception):
-    """What a user has to mend. The message is empty where it was said already."""
+    """What a user has to mend, a sentence a line."""
 
     def __init__(self, message: str, status: int = FAILED):
         super().__init__(message)
         self.status = status
 
 
+class Parser(argparse.ArgumentParser):
+    """Reads arguments; what is wrong with them is a fault like any other, and the help is written like any result."""
+
+    def error(self, message: str) -> None:
+        raise Fault(f'{message}; {self.prog} --help says how to ask')
+
+    def _print_message(self, message: str, file: object = None) -> None:
+        write_out(message.encode())
+
+
 def version() -> int:
     """The number of the last change request that has landed."""
     return max(int(note.stem) for note in (ROOT / 'docs' / 'changes').glob('*.md'))
+
+
+def printable(name: str) -> str:
+    """A file's name for a message or a title."""
+    return ''.join(c if c.isprintable() else '?' for c in name)
+
+
+def tell(name: str, message: str) -> None:
+    """Says something on standard error, a sentence a line."""
+    for sentence in message.splitlines():
+        print(f'{name}: {sentence}', file=sys.stderr)
 
 
 def write_out(data: bytes) -> None:
@@ -35,12 +58,45 @@ def write_out(data: bytes) -> None:
 
 
 def read_in(file: str) -> bytes:
-    """The bytes of a file, or the first of them where it is longer than any text."""
+    """The bytes of a file, or of standard input for a dash."""
     try:
-        with open(file, 'rb') as opened:
-            return opened.read(ENOUGH)
+        with open(0 if file == '-' else file, 'rb', closefd=file != '-') as opened:
+            data = opened.read(ENOUGH + 1)
     except OSError as fault:
-        raise Fault(f'cannot read {file}: {fault.strerror}') from fault
+        raise Fault(f'cannot read {printable(file)}: {fault.strerror}') from fault
+    if len(data) > ENOUGH:
+        raise Fault(f'cannot read {printable(file)}: it has more than {ENOUGH:,} bytes, which no text has')
+    return data
+
+
+def place_of(file: str) -> str:
+    """Where a file stands that may be written over."""
+    place = os.path.realpath(file)
+    if os.path.exists(place) and not os.path.isfile(place):
+        raise Fault(f'cannot write {printable(file)}: it is there and no plain file')
+    return place
+
+
+def write_over(file: str, data: bytes, lasting: bool = False) -> None:
+    """Writes a file beside and renames it over: at every moment the old one or the new one is there, whole. What is
+    lasting is on the disk before it takes the old one's place."""
+    target = place_of(file)
+    beside = f'{target}.new'
+    try:
+        with contextlib.suppress(FileNotFoundError):
+            os.unlink(beside)
+        with open(beside, 'xb') as opened:
+            if os.path.exists(target):
+                os.fchmod(opened.fileno(), os.stat(target).st_mode & 0o777)
+            opened.write(data)
+            opened.flush()
+            if lasting:
+                os.fsync(opened.fileno())
+        os.replace(beside, target)
+    except OSError as fault:
+        with contextlib.suppress(OSError):
+            os.unlink(beside)
+        raise Fault(f'cannot write {printable(file)}: {fault.strerror}') from fault
 
 
 def run(name: str, command: Callable[[list[str]], None]) -> None:
@@ -48,6 +104,7 @@ def run(name: str, command: Callable[[list[str]], None]) -> None:
     try:
         command(sys.argv[1:])
     except Fault as fault:
-        if str(fault):
-            print(f'{name}: {fault}', file=sys.stderr)
+        tell(name, str(fault))
         sys.exit(fault.status)
+    except KeyboardInterrupt:
+        sys.exit(INTERRUPTED)

@@ -1,69 +1,91 @@
-"""A paper that the program has accepted, for a picture of it: its points, loops, gaps, dependences and barred gaps.
+"""A paper as the calls tell of it: its loops, the loop of each gap, the gaps of each dependence; and placements on it.
 
-The owner of a gap and the gaps of a dependence are read off for the picture alone; no mark is made with them.
+A gap's loop is the one that counts a barrier there, by the candidate's slip. The gaps of a dependence are those where
+a barrier of the sitting cuts it. Barred gaps are asked of the same nest with nothing barred.
 """
-from dataclasses import dataclass, field
+from dataclasses import dataclass
 
-DO, ENDDO, STATEMENT, INDEPENDENT, CARRIED, BARRED = 0x01, 0x02, 0x03, 0x11, 0x12, 0x13
-BARRIER, REFUSAL = 0x21, 0x2F
-BLANK = [[DO], [ENDDO]]
+from office.frames import (BARRED, CARRIED, ENDDO, FLAGGED, INDEPENDENT, NONE, frames_of, placement_text,
+                           text_of)
+from office.library import Desk, Nest
+from office.words import ranges, runs_of
 
 
 @dataclass(frozen=True)
 class Dependence:
-    """From s to t; carried by the loop whose DO is d, or independent where d is None. Its stretches of gaps, each from
-    its first gap to its last, in the order of the text."""
+    """From s to t; carried by the loop whose DO is d, or independent where d is None. The gaps that cut it, rising."""
     d: int | None
     s: int
     t: int
-    stretches: tuple[tuple[int, int], ...]
-
-    def is_cut_by(self, gap: int) -> bool:
-        return any(low <= gap <= high for low, high in self.stretches)
+    gaps: list[int]
 
 
-@dataclass
+@dataclass(frozen=True)
 class Paper:
     """Kinds of the points, the ENDDO of each DO, how many loops each point is in, the loop of each gap; the gaps where
-    no barrier may stand."""
-    points: list[int] = field(default_factory=list)
-    end: dict[int, int] = field(default_factory=dict)
-    depth: list[int] = field(default_factory=list)
-    owner: dict[int, int] = field(default_factory=dict)
-    dependences: list[Dependence] = field(default_factory=list)
-    barred: set[int] = field(default_factory=set)
+    no barrier may stand, and the DOs of loops that may not run."""
+    points: list[int]
+    end: dict[int, int]
+    depth: list[int]
+    owner: dict[int, int]
+    dependences: list[Dependence]
+    barred: set[int]
+    flagged: set[int]
 
-    def add_point(self, kind: int, opened: list[int]) -> None:
-        at = len(self.points)
-        if opened:
-            self.owner[at] = opened[-1]
-        if kind == ENDDO:
-            self.end[opened.pop()] = at
-        self.depth.append(len(opened))
-        if kind == DO:
-            opened.append(at)
-        self.points.append(kind)
+    def inside(self, d: int) -> list[int]:
+        """The loops inside a loop."""
+        return [k for k in self.end if d < k < self.end[d]]
 
-    def add_dependence(self, d: int | None, s: int, t: int) -> None:
-        stretches = ((s + 1, t),) if d is None else ((d + 1, t), (s + 1, self.end[d]))
-        self.dependences.append(Dependence(d, s, t, stretches))
+    def told(self, x: Dependence) -> str:
+        """A dependence in words: its kind, its gaps, and which of them are barred."""
+        kind = 'independent' if x.d is None else f'carried by loop {x.d}'
+        barred = ranges([gap for gap in x.gaps if gap in self.barred])
+        return f'{kind}, {x.s} to {x.t}: gaps {" and ".join(runs_of(x.gaps))}{f"; barred {barred}" if barred else ""}'
 
 
-def frames_of(text: bytes) -> list[list[int]]:
-    """The frames that the lines of a text spell."""
-    return [list(bytes.fromhex(line)) for line in text.decode('ascii').split()]
+@dataclass(frozen=True)
+class Placed:
+    """A placement: its gaps, rising, how many of them each loop has, by its DO, and the first dependence left uncut."""
+    gaps: list[int]
+    counts: dict[int, int]
+    uncut: int | None
 
 
-def paper_in(text: bytes) -> Paper:
-    """The paper of an accepted text; an empty one is the blank paper."""
-    paper, opened = Paper(), []
-    for kind, *operands in frames_of(text) or BLANK:
-        if kind == INDEPENDENT:
-            paper.add_dependence(None, *operands)
-        elif kind == CARRIED:
-            paper.add_dependence(*operands)
-        elif kind == BARRED:
-            paper.barred.update(operands)
-        else:
-            paper.add_point(kind, opened)
-    return paper
+def nest_text(nest: Nest, with_barred: bool = True) -> bytes:
+    """The text of a nest: points, dependences, then barred gaps, each once."""
+    frames = [[FLAGGED if i in nest.flagged else kind] for i, kind in enumerate(nest.points)]
+    frames += [[kind, d, s, t] if kind == CARRIED else [kind, s, t] for kind, d, s, t in nest.dependences]
+    return text_of(frames + [[BARRED, gap] for gap in sorted(set(nest.barred)) if with_barred])
+
+
+def placed(desk: Desk, text: bytes) -> Placed:
+    """What the candidate's slip tells of a placement text."""
+    (_, high, low), *counts = frames_of(desk.candidate_slip(text))
+    first = 256 * high + low
+    gaps = [gap for _, gap in frames_of(text)]
+    return Placed(gaps, {d: count for _, d, count in counts}, None if first == NONE else first)
+
+
+def paper_on(desk: Desk) -> Paper:
+    """The paper of the nest on a desk."""
+    nest, free = desk.nest, Desk()
+    free.load(nest_text(nest, with_barred=False))
+    owner: dict[int, int] = {}
+    cut: list[list[int]] = [[] for _ in nest.dependences]
+    for gap in range(1, len(nest.points)):
+        counts = placed(free, placement_text([gap])).counts
+        owner[gap] = next(d for d, count in counts.items() if count == 1)
+        free.put(gap)
+        for number, many in enumerate(free.cuts):
+            if many:
+                cut[number].append(gap)
+        free.take_back()
+    end = {owner[point]: point for point, kind in enumerate(nest.points) if kind == ENDDO}
+    depth = []
+    for point, kind in enumerate(nest.points):
+        around = owner.get(point)
+        depth.append(0 if around is None else depth[around] + (kind != ENDDO))
+    dependences = [Dependence(None if kind == INDEPENDENT else d, s, t, gaps)
+                   for (kind, d, s, t), gaps in zip(nest.dependences, cut)]
+    return Paper(nest.points, dict(sorted(end.items())), depth, owner, dependences, set(nest.barred),
+                 set(nest.flagged))

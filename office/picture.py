@@ -6,8 +6,10 @@ to t. Its number stands on the lane at both ends, and below the drawing it is to
 import html
 import textwrap
 
+from office.frames import DO, STATEMENT
 from office.lanes import packed
-from office.paper import DO, STATEMENT, Dependence, Paper
+from office.paper import Dependence, Paper, Placed
+from office.words import ranges
 
 ROW, INDENT, MARGIN, LABEL, LEFT = 44, 30, 10, 172, 52
 NARROWEST, CAPTION, TITLE = 560, 460, 1000
@@ -46,17 +48,6 @@ BARRED_STYLE = f'''.barred {{ stroke: {RED}; stroke-width: 8; stroke-dasharray: 
 '''
 
 
-def ranges(numbers: list[int]) -> str:
-    """Rising numbers in words: 1, 4 to 7."""
-    runs: list[list[int]] = []
-    for n in numbers:
-        if runs and runs[-1][-1] == n - 1:
-            runs[-1][1:] = [n]
-        else:
-            runs.append([n])
-    return ', '.join(f'{run[0]} to {run[-1]}' if len(run) > 1 else str(run[0]) for run in runs)
-
-
 def rows_of(paper: Paper, x: Dependence) -> tuple[int, int]:
     """The rows that a dependence passes: from s to t, or the whole loop that carries it."""
     return (x.s, x.t) if x.d is None else (x.d, paper.end[x.d])
@@ -65,9 +56,9 @@ def rows_of(paper: Paper, x: Dependence) -> tuple[int, int]:
 class Picture:
     """Drawn piece by piece into a list of elements."""
 
-    def __init__(self, paper: Paper, barriers: list[int], name: str):
-        self.paper, self.barriers, self.out = paper, barriers, []
-        self.title = f'{name}, barriers {ranges(barriers) or "none"}'
+    def __init__(self, paper: Paper, placed: Placed, name: str):
+        self.paper, self.barriers, self.counts, self.out = paper, placed.gaps, placed.counts, []
+        self.title = f'{name}, barriers {ranges(placed.gaps) or "none"}'
         self.right = LEFT + (max(paper.depth[d] for d in paper.end) + 1) * (INDENT + MARGIN) + LABEL
         self.lane = packed([rows_of(paper, x) for x in paper.dependences])
         lanes = max(self.lane, default=-1) + 1
@@ -118,8 +109,7 @@ class Picture:
             left, right = self.edges(d)
             self.add('rect', cls='box', x=left, y=self.y(d) - 15, width=right - left,
                      height=ROW * (self.paper.end[d] - d) + 30, rx=6, fill=SHADES[min(self.paper.depth[d], 7)])
-            count = sum(self.paper.owner[g] == d for g in self.barriers)
-            self.label(right - 8, self.y(d), f'count {count}', 'word end', 12)
+            self.label(right - 8, self.y(d), f'count {self.counts[d]}', 'word end', 12)
 
     def rows(self) -> None:
         self.label(LEFT - 12, self.y(0) - 28, 'point', 'pale end', 11)
@@ -132,7 +122,8 @@ class Picture:
                 self.label(left + 10, y, f'statement {point}')
             else:
                 word = 'DO' if kind == DO else 'ENDDO'
-                self.label(left + 10, y, f'{word} loop {starts.get(point, point)}', 'bold')
+                skipped = ', may not run' if point in self.paper.flagged else ''
+                self.label(left + 10, y, f'{word} loop {starts.get(point, point)}{skipped}', 'bold')
 
     def gaps(self) -> None:
         for gap in range(1, len(self.paper.points)):
@@ -143,7 +134,7 @@ class Picture:
                 self.add('path', cls='barred' if is_barred else 'gap', d=f'M{left + INDENT:g} {y:g}H{right - 8:g}')
                 self.label(middle, y, gap, 'word middle bold red' if is_barred else 'pale middle', 11)
                 continue
-            cut = sorted(self.x(i, gap) for i, x in enumerate(self.paper.dependences) if x.is_cut_by(gap))
+            cut = sorted(self.x(i, gap) for i, x in enumerate(self.paper.dependences) if gap in x.gaps)
             self.add('path', cls='on', d=f'M{right:g} {y:g}H{max(cut, default=right):g}')
             self.add('path', cls='bar', d=f'M{left + 4:g} {y:g}H{right - 4:g}')
             self.add('rect', x=middle - 14, y=y - 9, width=28, height=18, rx=9, fill=INK)
@@ -193,7 +184,7 @@ class Picture:
     def badges(self, number: int, places: list[tuple[float, float]]) -> None:
         """A dependence's number in some places; hollow if no barrier cuts it."""
         dependence = self.paper.dependences[number]
-        is_cut = any(dependence.is_cut_by(gap) for gap in self.barriers)
+        is_cut = bool(self.cutting(dependence))
         self.out.append(f'<g class="{"i" if dependence.d is None else "c"}{"" if is_cut else " u"}">')
         for x, y in places:
             self.add('circle', cls='b', cx=x, cy=y, r=self.radius)
@@ -212,15 +203,15 @@ class Picture:
             y = self.wrapped(LEFT - 32, y, line, self.width - 40, 'pale', 11)
         return y
 
+    def cutting(self, dependence: Dependence) -> list[int]:
+        """The barriers that cut a dependence."""
+        return [gap for gap in self.barriers if gap in dependence.gaps]
+
     def caption(self, x: float, y: float, number: int, wide: float) -> float:
         dependence = self.paper.dependences[number]
-        kind = 'independent' if dependence.d is None else f'carried by loop {dependence.d}'
-        spans = ' and '.join(f'{low} to {high}' if low < high else str(low) for low, high in dependence.stretches)
-        barred = ranges(sorted(g for g in self.paper.barred if dependence.is_cut_by(g)))
-        cutting = ranges([g for g in self.barriers if dependence.is_cut_by(g)])
-        verdict = (f'barred {barred}; ' if barred else '') + (f'cut by {cutting}' if cutting else 'UNCUT')
+        cutting = ranges(self.cutting(dependence))
         self.badges(number, [(x, y)])
-        words = f'{kind}, {dependence.s} to {dependence.t}: gaps {spans}; {verdict}'
+        words = f'{self.paper.told(dependence)}; {f"cut by {cutting}" if cutting else "UNCUT"}'
         return max(self.wrapped(x + 21, y, words, wide - 40, 'word', 12), y + 18)
 
     def svg(self) -> str:

@@ -30,6 +30,14 @@ class Refusal:
         return [where, f'number {self.number}: {RULES[self.number]}', *slips]
 
 
+class Refused(Exception):
+    """A call of the desk was refused."""
+
+    def __init__(self, refusal: Refusal):
+        super().__init__(refusal)
+        self.refusal = refusal
+
+
 def refusal_in(answer: str) -> Refusal:
     """The refusal that the program's line 2f tells: the number in one byte, the line in two."""
     _, number, high, low = bytes.fromhex(answer)

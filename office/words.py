@@ -1,4 +1,5 @@
-"""The numbers of the desk's refusals in words. This table stands once; every command takes its words from it."""
+"""Words for the desk's numbers and verdicts. These tables stand once; every command takes its words from them."""
+from office.header import DECLARED
 
 RULES = {
     1: 'a line is an even number of digits 0-9 a-f, at least two, and a line feed after them',
@@ -18,4 +19,41 @@ RULES = {
     14: 'a barred gap stands in a nest of more than one loop, or the textbook method is asked of one',
     15: 'a dependence has all its gaps barred, so no placement is correct and there is no key',
     16: 'the gap is barred: no barrier may stand there',
+    17: 'the turns are not one number for each loop, from 2 to 16, for the outermost loop (and to improve a key, for '
+        'every loop) from 1; or the paper has barred gaps or loops that may not run, for which no calls are counted',
+    18: 'the joint paper would have more than 256 points, more than 512 dependences or a loop 9 deep',
+    19: 'a sheet has 1 to 16 processors and 1 to 64 phases, a duration for each processor in each phase, and a set of '
+        'waits for each after the first phase',
+    20: 'a set of waits lacks its own processor, or names one that does not exist',
 }
+
+VERDICTS = {DECLARED.numbers[f'DESK_{word.upper()}']: word for word in ('Uncut', 'Dearer', 'Best')}
+REFUSED, UNREAD = 'Refused', 'Not read'
+
+
+def counted(many: int, one: str, more: str = '') -> str:
+    """A number of things: 1 loop, 2 loops."""
+    return f'{many:,} {one if many == 1 else more or one + "s"}'
+
+
+def runs_of(numbers: list[int]) -> list[str]:
+    """Rising numbers as unbroken runs: 1, then 4 to 7."""
+    runs: list[list[int]] = []
+    for n in numbers:
+        if runs and runs[-1][-1] == n - 1:
+            runs[-1][1:] = [n]
+        else:
+            runs.append([n])
+    return [f'{run[0]} to {run[-1]}' if len(run) > 1 else str(run[0]) for run in runs]
+
+
+def ranges(numbers: list[int]) -> str:
+    """Rising numbers in words: 1, 4 to 7."""
+    return ', '.join(runs_of(numbers))
+
+
+def gaps_named(gaps: list[int]) -> str:
+    """Gaps by their number: gap 4; gaps 4, 7; no gap."""
+    if not gaps:
+        return 'no gap'
+    return ('gap ' if len(gaps) == 1 else 'gaps ') + ', '.join(map(str, gaps))

@@ -7,7 +7,7 @@ import sys
 from dataclasses import dataclass
 
 ROOT = pathlib.Path(__file__).resolve().parent.parent
-PROGRAM, KEY, DRAW = ROOT / 'target' / 'bin' / 'key', ROOT / 'key', ROOT / 'draw'
+PROGRAM, KEY, DRAW, DESK = ROOT / 'target' / 'bin' / 'key', ROOT / 'key', ROOT / 'draw', ROOT / 'desk'
 VERSION = len(list((ROOT / 'docs' / 'changes').glob('*.md')))
 TIMEOUT, BASH = shutil.which('timeout'), shutil.which('bash')
 EXAMPLES = {name: (ROOT / 'examples' / f'{name}.hex').read_bytes() for name in 'pqr'}

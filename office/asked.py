@@ -1,0 +1,70 @@
+"""What the arguments of a command name: a paper, a placement, turns. What is wrong with one is a fault in words."""
+import re
+
+from office.command import REFUSED, Fault, printable, read_in
+from office.frames import placement_text
+from office.library import Desk
+from office.refusal import Refused
+from office.words import counted, ranges
+
+TURNS = 16
+GAPS_HELP = "gaps in decimal with commas between, '' for none, or a file with a placement text"
+PAPER_HELP = 'a file with a nest text; - for standard input'
+
+
+def refused(file: str, refusal: Refused, text: bytes) -> Fault:
+    """The refusal of a file's text in words."""
+    where, *rules = refusal.refusal.words(text)
+    return Fault('\n'.join([f'{printable(file)}: {where}', *rules]), REFUSED)
+
+
+def loaded(file: str) -> tuple[Desk, bytes]:
+    """A desk with the paper of a file, and the text."""
+    text, desk = read_in(file), Desk()
+    try:
+        desk.load(text)
+    except Refused as refusal:
+        raise refused(file, refusal, text) from refusal
+    return desk, text
+
+
+def planned(file: str) -> tuple[Desk, bytes]:
+    """A desk with the paper of a file and its key, and the text."""
+    desk, text = loaded(file)
+    try:
+        desk.plan()
+    except Refused as refusal:
+        raise refused(file, refusal, text) from refusal
+    return desk, text
+
+
+def placement_asked(argument: str, desk: Desk) -> bytes:
+    """The placement text that an argument names: a list of gaps in decimal, or a file."""
+    if not re.fullmatch('[0-9, ]*', argument):
+        text = read_in(argument)
+        try:
+            desk.candidate_slip(text)
+        except Refused as refusal:
+            raise refused(argument, refusal, text) from refusal
+        return text
+    gaps = {str(gap): gap for gap in range(1, len(desk.nest.points))}
+    named = [word for word in re.split('[, ]+', argument) if word]
+    if not gaps.keys() >= set(named):
+        raise Fault(f'no gaps of this paper, which has 1 to {len(gaps)}: {argument}')
+    text = placement_text(sorted({gaps[word] for word in named}))
+    try:
+        desk.candidate_slip(text)
+    except Refused as refusal:
+        barred = sorted(set(desk.nest.barred).intersection(gaps[word] for word in named))
+        raise Fault(f'barred on this paper, so that no barrier may stand there: {ranges(barred)}') from refusal
+    return text
+
+
+def turns_asked(argument: str, loops: int) -> bytes:
+    """The turns that an argument names, in order of the loops' DOs; one number stands for all of them."""
+    words = [word for word in re.split('[, ]+', argument) if word]
+    if not all(re.fullmatch('[0-9]{1,2}', word) and 1 <= int(word) <= TURNS for word in words):
+        raise Fault(f'turns are numbers from 1 to {TURNS} with commas between: {argument}')
+    if len(words) not in (1, loops):
+        raise Fault(f'this paper has {counted(loops, "loop")}, so it wants one number of turns or {loops}: {argument}')
+    return bytes(map(int, words * loops if len(words) == 1 else words))

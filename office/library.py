@@ -1,0 +1,171 @@
+"""The proved library: built where it is missing or older than its sources, and a desk with its calls.
+
+Nothing is worked out here. A call takes bytes and numbers and gives what the library replied.
+"""
+import ctypes
+import functools
+import os
+import pathlib
+import shutil
+import subprocess
+import sys
+from collections.abc import Iterator
+from dataclasses import dataclass
+
+from office.command import ROOT, Fault
+from office.header import DECLARED
+from office.refusal import Refusal, Refused
+
+ARCHIVE, SHARED = ROOT / 'target' / 'staticlib' / 'libhost.a', ROOT / 'target' / 'libdesk.so'
+TEXT, SLIP = DECLARED.numbers['DESK_TEXT'], DECLARED.numbers['DESK_SLIP']
+UNCUT, DEARER, BEST = (DECLARED.numbers[f'DESK_{verdict}'] for verdict in ('UNCUT', 'DEARER', 'BEST'))
+
+
+@dataclass(frozen=True)
+class Nest:
+    """The nest on a desk: kinds of points, dependences as kind, d, s and t, barred gaps and DOs of loops that may not
+    run, each in the order of the text."""
+    points: list[int]
+    dependences: list[tuple[int, int, int, int]]
+    barred: list[int]
+    flagged: list[int]
+
+
+@dataclass(frozen=True)
+class Mark:
+    """A verdict: of Uncut the first dependence that is, of Dearer a loop with their count and ours."""
+    verdict: int
+    uncut: int | None = None
+    loop: int | None = None
+    theirs: int | None = None
+    ours: int | None = None
+
+
+class Desk:
+    """A desk, empty at first. A call that is refused raises Refused and leaves the desk as it was."""
+
+    def __init__(self) -> None:
+        self.held = library().desk_new()
+
+    def load(self, text: bytes) -> None:
+        self.held = given(library().desk_load(self.held, text, len(text))).desk
+
+    def plan(self) -> None:
+        self.held = given(library().desk_plan(self.held)).desk
+
+    def count(self, point: int) -> int:
+        return given(library().desk_count(self.held, point)).value
+
+    def mark(self, text: bytes) -> Mark:
+        mark = given(library().desk_mark(self.held, text, len(text)))
+        if mark.verdict == UNCUT:
+            return Mark(UNCUT, uncut=mark.a)
+        if mark.verdict == DEARER:
+            return Mark(DEARER, loop=mark.a, theirs=mark.b, ours=mark.c)
+        return Mark(mark.verdict)
+
+    def key(self) -> bytes:
+        """The key as a placement text."""
+        return self.written(library().desk_write, TEXT)
+
+    def put(self, gap: int) -> int:
+        """How many dependences remain uncut, as after the next two calls."""
+        return self.moved(library().desk_put(self.held, gap))
+
+    def lift(self, gap: int) -> int:
+        return self.moved(library().desk_lift(self.held, gap))
+
+    def take_back(self) -> int:
+        return self.moved(library().desk_take_back(self.held))
+
+    def sitting(self) -> bytes:
+        """The barriers put, as a placement text."""
+        return self.written(library().desk_sitting, TEXT)
+
+    def textbook(self) -> list[int]:
+        return gaps_in(given(library().desk_textbook(self.held)).gaps)
+
+    def candidate_slip(self, text: bytes) -> bytes:
+        return self.written(library().desk_candidate_slip, SLIP, text, len(text))
+
+    def examiner_slip(self, text: bytes) -> bytes:
+        return self.written(library().desk_examiner_slip, SLIP, text, len(text))
+
+    @property
+    def nest(self) -> Nest:
+        nest = self.held.nest
+        dependences = [(e.kind, e.d, e.s, e.t) for e in nest.deps[:nest.many]]
+        flagged = list(nest.flagged[:nest.flags]) if hasattr(nest, 'flags') else []
+        return Nest(list(nest.points[:nest.count]), dependences, list(nest.barred[:nest.bars]), flagged)
+
+    @property
+    def cuts(self) -> bytes:
+        """How many barriers of the sitting cut each dependence."""
+        return bytes(self.held.sitting.counts)[:self.held.nest.many]
+
+    def moved(self, reply: ctypes.Structure) -> int:
+        self.held = given(reply).desk
+        return reply.uncut
+
+    def written(self, call: object, room: int, *told: object) -> bytes:
+        out = ctypes.create_string_buffer(room)
+        length = given(call(self.held, *told, out, room)).value
+        return out.raw[:length]
+
+
+def given(reply: ctypes.Structure) -> ctypes.Structure:
+    """The reply of a call that is not refused."""
+    if reply.number != 0:
+        raise Refused(Refusal(reply.number, reply.line))
+    return reply
+
+
+def gaps_in(placement: ctypes.Structure) -> list[int]:
+    """The gaps of a placement, rising."""
+    return [64 * i + bit for i, word in enumerate(placement.words) for bit in range(64) if word >> bit & 1]
+
+
+@functools.cache
+def library() -> ctypes.CDLL:
+    """The library with what desk.h declares of each function."""
+    build()
+    found = ctypes.CDLL(str(SHARED))
+    for name, (gives, takes) in DECLARED.functions.items():
+        function = getattr(found, name)
+        function.restype, function.argtypes = gives, takes
+    return found
+
+
+def build() -> None:
+    """Proves and builds the archive unless no source is newer, and links it unless that was done since."""
+    state = 'not built yet' if not ARCHIVE.exists() else 'older than its sources'
+    if not ARCHIVE.exists() or any(newer(sources(), ARCHIVE)):
+        if not shutil.which('rt'):
+            raise Fault(f'the library is {state}, and there is no rt to build it with')
+        print(f'desk: the library is {state}: it is being built, which takes minutes the first time', file=sys.stderr)
+        done('rt', 'staticlib', 'host')
+        os.utime(ARCHIVE)
+    if not SHARED.exists() or any(newer([ARCHIVE], SHARED)):
+        if not shutil.which('gcc'):
+            raise Fault('the library is not linked yet, and there is no gcc to link it with')
+        beside = f'{SHARED}.{os.getpid()}'
+        done('gcc', '-shared', '-o', beside, '-Wl,--whole-archive', str(ARCHIVE), '-Wl,--no-whole-archive')
+        os.replace(beside, SHARED)
+
+
+def sources() -> Iterator[pathlib.Path]:
+    yield ROOT / 'crates.txt'
+    for folder, _, files in os.walk(ROOT / 'crates'):
+        yield from (pathlib.Path(folder, file) for file in files)
+
+
+def newer(files: Iterator[pathlib.Path], than: pathlib.Path) -> Iterator[pathlib.Path]:
+    made = than.stat().st_mtime
+    return (file for file in files if file.stat().st_mtime > made)
+
+
+def done(*command: str) -> None:
+    """Runs a step of the build; what it says goes to standard error."""
+    step = subprocess.run(command, cwd=ROOT, stdin=subprocess.DEVNULL, stdout=sys.stderr.fileno(), check=False)
+    if step.returncode != 0:
+        raise Fault(f'the library could not be built: {" ".join(command[:3])} failed')
