@@ -1,0 +1,49 @@
+"""./desk key: the key of a paper as the program writes it, or in words."""
+import argparse
+
+from office.asked import PAPER_HELP, refused
+from office.command import read_in, write_out
+from office.frames import COUNT, REFUSAL, text_of
+from office.library import Desk
+from office.paper import paper_on, placed
+from office.refusal import Refusal, Refused
+from office.trees import drawn
+from office.words import gaps_named
+
+HELP = 'writes the key of a paper and the counts of its loops, as the program does'
+MORE = 'A refused paper gets the line 2f of its refusal, and standard error has it in words.'
+# The program refuses a longer text whatever it says (docs/RULES.md, "The program").
+LONGEST, TOO_LONG = 8192, Refusal(5, 0)
+
+
+def answer_to(text: bytes, desk: Desk) -> bytes:
+    """What the program writes for a paper that is not refused; the desk then has the paper and its key."""
+    if len(text) > LONGEST:
+        raise Refused(TOO_LONG)
+    desk.load(text)
+    desk.plan()
+    key = desk.key()
+    return key + text_of((COUNT, d, desk.count(d)) for d in placed(desk, key).counts)
+
+
+def in_words(desk: Desk) -> bytes:
+    """The key's gaps, and the tree of its counts."""
+    key = placed(desk, desk.key())
+    return '\n'.join([f'key: {gaps_named(key.gaps)}', *drawn(paper_on(desk), key.counts), '']).encode()
+
+
+def arguments(parser: argparse.ArgumentParser) -> None:
+    parser.add_argument('paper', metavar='PAPER', help=PAPER_HELP)
+    parser.add_argument('--words', action='store_true', help='in words: gaps in decimal, counts as a tree')
+
+
+def main(asked: argparse.Namespace) -> None:
+    text, desk = read_in(asked.paper), Desk()
+    try:
+        answer = answer_to(text, desk)
+    except Refused as refusal:
+        number, line = refusal.refusal.number, refusal.refusal.line
+        if not asked.words:
+            write_out(text_of([[REFUSAL, number, line >> 8, line & 255]]))
+        raise refused(asked.paper, refusal, text) from refusal
+    write_out(in_words(desk) if asked.words else answer)

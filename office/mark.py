@@ -1,0 +1,119 @@
+"""./desk mark: answers marked beside the key of a paper, with slips for two readers and a row each in the register."""
+import argparse
+import contextlib
+import hashlib
+import os
+import pathlib
+from collections import Counter
+from dataclasses import dataclass
+
+from office.asked import PAPER_HELP, planned
+from office.command import FAILED, REFUSED, Fault, printable, read_in, tell, write_out, write_over
+from office.library import BEST, Desk
+from office.progress import Progress
+from office.refusal import Refused
+from office.register import NO, YES, Row, add, as_csv, rows_in
+from office.words import REFUSED as REFUSED_WORD
+from office.words import UNREAD, VERDICTS, counted
+
+HELP = 'marks answers beside the key of a paper, a row of CSV for each'
+MORE = """A candidate is called as the file of the answer, without .hex. A file that is refused or cannot be read has a
+row too, a line on standard error says why, and the others are marked. The status is then 1, or 2 where one was not
+read.
+
+  ./desk mark paper.hex answers/*.hex
+  ./desk mark paper.hex answers/*.hex --slips slips --register register.csv
+"""
+SLIPS = {'candidate': Desk.candidate_slip, 'examiner': Desk.examiner_slip}
+
+
+@dataclass
+class Hall:
+    """A paper with its key on a desk, the paper's hash, and where slips go."""
+    desk: Desk
+    paper: str
+    slips: str | None
+
+    def row(self, candidate: str, file: str) -> tuple[Row, str]:
+        """The row of an answer, and why it has no verdict."""
+        try:
+            text = read_in(file)
+        except Fault as fault:
+            self.hand_out(candidate, None)
+            return Row(candidate, UNREAD, paper_sha256=self.paper), str(fault)
+        hashes = {'paper_sha256': self.paper, 'answer_sha256': hashlib.sha256(text).hexdigest()}
+        try:
+            mark = self.desk.mark(text)
+        except Refused as refused:
+            self.hand_out(candidate, None)
+            fault, (where, *rules) = refused.refusal, refused.refusal.words(text)
+            row = Row(candidate, REFUSED_WORD, number=str(fault.number), line=str(fault.line), **hashes)
+            return row, f'{printable(file)}: {where}: {"; ".join(rules)}'
+        self.hand_out(candidate, text)
+        told = {name: '' if value is None else str(value) for name, value in vars(mark).items()}
+        certificate = YES if mark.verdict == BEST else NO
+        return Row(candidate, **told | {'verdict': VERDICTS[mark.verdict]}, certificate=certificate, **hashes), ''
+
+    def hand_out(self, candidate: str, text: bytes | None) -> None:
+        """Writes both slips of an answer. One that has no verdict has none, and loses those of a time before."""
+        for reader, slip in SLIPS.items() if self.slips is not None else ():
+            file = os.path.join(self.slips, f'{candidate}.{reader}.hex')
+            if text is not None:
+                write_over(file, slip(self.desk, text))
+                continue
+            with contextlib.suppress(FileNotFoundError):
+                os.unlink(file)
+
+
+def candidates(files: list[str]) -> dict[str, str]:
+    """The file of each candidate."""
+    named: dict[str, str] = {}
+    for file in files:
+        name = pathlib.PurePath(file).name.removesuffix('.hex') or file
+        if name in named:
+            raise Fault(f'two answers of candidate {printable(name)}: {printable(named[name])}, {printable(file)}')
+        named[name] = file
+    return named
+
+
+def summary(rows: list[Row]) -> str:
+    """How many answers there are of each verdict."""
+    many = Counter(row.verdict for row in rows)
+    words = [*reversed(VERDICTS.values()), REFUSED_WORD, UNREAD]
+    return f'{counted(len(rows), "answer")}: ' + ', '.join(f'{many[word]:,} {word}' for word in words if many[word])
+
+
+def arguments(parser: argparse.ArgumentParser) -> None:
+    parser.add_argument('paper', metavar='PAPER', help=PAPER_HELP)
+    parser.add_argument('answers', metavar='ANSWER', nargs='+', help='a file with a placement text')
+    parser.add_argument('--slips', metavar='DIR',
+                        help='writes both slips of each answer: DIR/NAME.candidate.hex, DIR/NAME.examiner.hex')
+    parser.add_argument('--register', metavar='FILE',
+                        help='adds the rows to a register, and writes how many there are to standard output instead')
+
+
+def main(asked: argparse.Namespace) -> None:
+    desk, text = planned(asked.paper)
+    files = candidates(asked.answers)
+    if asked.slips is not None:
+        try:
+            os.makedirs(asked.slips, exist_ok=True)
+        except OSError as fault:
+            raise Fault(f'cannot write in {printable(asked.slips)}: {fault.strerror}') from fault
+    if asked.register is not None:
+        rows_in(asked.register)  # what is no register is told before anything is marked
+    hall = Hall(desk, hashlib.sha256(text).hexdigest(), asked.slips)
+    rows: list[Row] = []
+    bar = Progress('marking', len(files))
+    for candidate, file in bar.over([*files.items()]):
+        row, why = hall.row(candidate, file)
+        rows.append(row)
+        if why:
+            bar.hide()
+            tell('desk', why)
+    if asked.register is not None:
+        add(asked.register, rows)
+    write_out(as_csv(rows) if asked.register is None else f'{summary(rows)}\n'.encode())
+    verdicts = {row.verdict for row in rows}
+    if verdicts & {UNREAD, REFUSED_WORD}:
+        raise Fault('', FAILED if UNREAD in verdicts else REFUSED)

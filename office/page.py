@@ -1,0 +1,53 @@
+"""A page to print: two placements on a paper, their pictures, their cost trees and the reasons. It needs no network."""
+import base64
+import html
+import pathlib
+from dataclasses import dataclass
+
+from office.command import printable
+from office.paper import Paper, Placed
+from office.picture import Picture
+
+NARROW = 700
+SIGN = ('Each loop stands under the one around it, by the point of its DO, with the count of its own barriers. A loop '
+        'marked &lt; decides.')
+STYLE = """
+@page { size: A4; margin: 15mm }
+body { font: 11pt/1.4 Helvetica, Arial, sans-serif; color: #17202a; max-width: 180mm; margin: 0 auto }
+h1 { font-size: 15pt }
+.two { display: grid; grid-template-columns: 1fr 1fr; gap: 8mm }
+.small { font-size: 9pt }
+figure { margin: 0 0 5mm 0; break-inside: avoid }
+figcaption { font-weight: bold; margin-bottom: 2mm }
+img { max-width: 100%; height: auto }
+pre { font: 9pt/1.3 "DejaVu Sans Mono", monospace; margin: 0; white-space: pre-wrap }
+"""
+
+
+@dataclass(frozen=True)
+class Shown:
+    """A placement on the page: its title, what the slip tells of it, and its cost tree."""
+    title: str
+    placed: Placed
+    tree: list[str]
+
+
+def figure(drawing: Picture, caption: str) -> str:
+    """A picture inside the page."""
+    data = base64.b64encode(drawing.svg().encode()).decode()
+    return (f'<figure><figcaption>{html.escape(caption)}</figcaption>'
+            f'<img alt="{html.escape(drawing.title)}" src="data:image/svg+xml;base64,{data}"></figure>\n')
+
+
+def page(file: str, paper: Paper, shown: list[Shown], told: list[str]) -> str:
+    """The page. Pictures stand side by side where they are narrow enough to be read so."""
+    name = printable(pathlib.Path(file).stem)
+    title = html.escape(f'{name}: {" and ".join(side.title for side in shown)}')
+    drawings = [Picture(paper, side.placed, name) for side in shown]
+    columns = 'two' if max(drawing.width for drawing in drawings) <= NARROW else 'one'
+    pictures = ''.join(figure(drawing, side.title) for drawing, side in zip(drawings, shown))
+    trees = ''.join('<pre>{}</pre>\n'.format(html.escape('\n'.join([side.title, '', *side.tree]))) for side in shown)
+    reasons = ''.join(f'<p>{html.escape(words)}</p>\n' for words in told)
+    return (f'<!DOCTYPE html>\n<html lang="en">\n<head>\n<meta charset="utf-8">\n<title>{title}</title>\n'
+            f'<style>{STYLE}</style>\n</head>\n<body>\n<h1>{title}</h1>\n{reasons}<div class="two">\n{trees}</div>\n'
+            f'<p class="small">{SIGN}</p>\n<div class="{columns}">\n{pictures}</div>\n</body>\n</html>\n')

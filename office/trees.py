@@ -1,0 +1,58 @@
+"""Cost trees: drawn, and two of them held beside each other as docs/WHY.md does.
+
+The counts are the calls'. Which of two trees is as good or better, and how many calls a placement makes, is read off
+the counts here, since no call of the desk tells it of two placements.
+"""
+from dataclasses import dataclass
+
+from office.paper import Paper
+
+Counts = dict[int, int]
+FORK, LAST, BAR, SPACE = '├ ', '└ ', '│ ', '  '
+
+
+def drawn(paper: Paper, counts: Counts, marked: list[int] | None = None) -> list[str]:
+    """The tree of counts, a loop a line, each under the loop around it; some loops are marked."""
+    lines: list[str] = []
+
+    def add(d: int, lead: str, below: str) -> None:
+        lines.append(f'{lead}loop {d}: {counts[d]}' + ('  <' if marked and d in marked else ''))
+        *others, last = [k for k in paper.end if k != d and paper.owner.get(k) == d] or [None]
+        for k in others:
+            add(k, below + FORK, below + BAR)
+        if last is not None:
+            add(last, below + LAST, below + SPACE)
+
+    add(0, '', '')
+    return lines
+
+
+def beside(left: list[str], right: list[str], apart: int = 4) -> list[str]:
+    """Two columns of lines."""
+    wide = max(map(len, left)) + apart
+    return [f'{a:{wide}}{b}'.rstrip() for a, b in zip(left, right)]
+
+
+@dataclass(frozen=True)
+class Balance:
+    """Two trees: the loops where they differ while all loops inside agree, in the order of their ENDDOs, those where
+    the first has less and those where the second has."""
+    deciding: list[int]
+    first: list[int]
+    second: list[int]
+
+
+def balance(paper: Paper, first: Counts, second: Counts) -> Balance:
+    """001, definition 1, for two trees: the first is as good or better if it has less at all deciding loops."""
+    differ = {d for d in paper.end if first[d] != second[d]}
+    deciding = sorted((d for d in differ if not differ.intersection(paper.inside(d))), key=paper.end.get)
+    return Balance(deciding, [d for d in deciding if first[d] < second[d]],
+                   [d for d in deciding if second[d] < first[d]])
+
+
+def calls(paper: Paper, counts: Counts, turns: bytes) -> int:
+    """How often a thread calls a barrier, if each loop makes as many turns as are given, in the order of the DOs."""
+    price: dict[int, int] = {}
+    for d, many in zip(paper.end, turns):
+        price[d] = many * price.get(paper.owner.get(d), 1)
+    return sum(counts[d] * price[d] for d in paper.end)

@@ -1,0 +1,168 @@
+"""./desk why: how one placement beats another on a paper: both cost trees, the loop that decides, calls, in words."""
+import argparse
+import contextlib
+import textwrap
+from dataclasses import dataclass
+
+from office.asked import GAPS_HELP, PAPER_HELP, loaded, placement_asked, planned, turns_asked
+from office.command import write_out, write_over
+from office.library import DEARER, UNCUT, Desk, Mark
+from office.page import Shown, page
+from office.paper import Paper, Placed, paper_on, placed
+from office.refusal import Refused
+from office.trees import Balance, balance, beside, calls, drawn
+from office.words import VERDICTS, counted, gaps_named, ranges, runs_of
+
+HELP = 'tells how one placement beats another on a paper, or how it stands beside the key'
+MORE = """  ./desk why paper.hex 4,7                  gaps 4 and 7 beside the key
+  ./desk why paper.hex 4,7 answer.hex       beside the placement of a file
+  ./desk why paper.hex 4,7 --turns 10,2,3   calls, if the loops make so many turns, in the order of their DOs
+  ./desk why paper.hex 4,7 --html why.html  a page to print, with both pictures
+"""
+KEY, TURNS, WIDE, FEW = 'the key', '10', 100, 6
+INSIDE_OUT = ('Barriers are not added up: they are counted loop by loop, and the counts are compared from the inside '
+              'out.')
+FEWEST = ('Of the key alone it is true that no correct placement makes fewer calls, and only where each inner loop '
+          'makes at least two turns.')
+
+
+@dataclass(frozen=True)
+class Side:
+    """A placement in the comparison: what a sentence calls it if its gaps are many, what the slip tells of it, the
+    desk's verdict where there is a key, and how many dependences it leaves uncut."""
+    called: str
+    placed: Placed
+    mark: Mark | None
+    uncut: int
+
+    @property
+    def name(self) -> str:
+        return self.called if self.called == KEY or len(self.placed.gaps) > FEW else gaps_named(self.placed.gaps)
+
+    @property
+    def title(self) -> str:
+        many = len(self.placed.gaps)
+        gaps = f'{many} gaps' if many > FEW else gaps_named(self.placed.gaps)
+        return gaps if self.name == gaps else f'{self.name}: {gaps}'
+
+
+def side_of(desk: Desk, called: str, text: bytes) -> Side:
+    """A placement text held beside the key and put on the sitting."""
+    try:
+        mark = desk.mark(text)
+    except Refused:
+        mark = None  # a paper that has no key
+    told, uncut = placed(desk, text), len(desk.nest.dependences)
+    for gap in told.gaps:
+        uncut = desk.put(gap)
+    for gap in told.gaps:
+        desk.lift(gap)
+    return Side(called, told, mark, uncut)
+
+
+def verdict(side: Side) -> str:
+    """What the desk says of a placement."""
+    mark = side.mark
+    told = VERDICTS[mark.verdict]
+    if mark.verdict == UNCUT:
+        told += f' {mark.uncut}'
+    elif mark.verdict == DEARER:
+        told += f', loop {mark.loop}, {mark.theirs} against {mark.ours}'
+    return f'The desk says of {side.name}: {told}.'
+
+
+def uncut_words(paper: Paper, side: Side) -> str:
+    """That a placement is not correct, by its first uncut dependence."""
+    first = side.placed.uncut
+    gaps = ' and '.join(runs_of(paper.dependences[first].gaps))
+    many = f', the first of {side.uncut},' if side.uncut > 1 else ''
+    return (f'With {side.name} dependence {first}{many} is not cut: no barrier stands in any of its gaps, {gaps}. The '
+            'program could go wrong, so nothing is said about cost.')
+
+
+def decided(paper: Paper, d: int, first: Side, second: Side) -> str:
+    """What decides at a loop: the loops inside agree, its own counts differ, the loops around are not looked at."""
+    ours, theirs = first.placed.counts, second.placed.counts
+    inside, around = paper.inside(d), [k for k in paper.end if k < d < paper.end[k]]
+    agree = rest = ''
+    if len(inside) > FEW:
+        agree = f'At all {len(inside)} loops inside loop {d} the counts agree. '
+    elif inside:
+        agree = f'Inside loop {d} the counts agree: {", ".join(f"loop {k} has {ours[k]} each" for k in inside)}. '
+    if around:
+        rest = f' {"Loop" if len(around) == 1 else "Loops"} {ranges(around)} around it '
+        rest += f'{"is" if len(around) == 1 else "are"} not looked at any more.'
+    return f'{agree}Loop {d}: {ours[d]} against {theirs[d]}, and this decides.{rest}'
+
+
+def cost_words(paper: Paper, held: Balance, first: Side, second: Side) -> list[str]:
+    """How the costs of two correct placements compare."""
+    if not held.deciding:
+        return ['Every loop has the same count in both, so they cost the same, wherever their barriers stand.']
+    if held.first and held.second:
+        each = [f'at loop {d} it is {first.placed.counts[d]} against {second.placed.counts[d]}' for d in held.deciding]
+        return [INSIDE_OUT, f'Neither is as good or better than the other: {", ".join(each)}, and inside these loops '
+                'the counts agree.']
+    d, *others = held.deciding
+    told = [INSIDE_OUT, decided(paper, d, first, second)]
+    if others:
+        told.append(f'{"Loop" if len(others) == 1 else "Loops"} {ranges(others)} would decide the same way.')
+    if d != 0:
+        told.append(f'A barrier in loop {d} is called in each turn of that loop, one outside it once for all turns.')
+    better = (first if held.first else second).name
+    return [*told, f'So {better} {"are" if better.startswith("gaps") else "is"} better.']
+
+
+def reasons(paper: Paper, held: Balance, first: Side, second: Side) -> str:
+    """One paragraph: whether both cut all, how the costs compare, what the desk says."""
+    wrong = [uncut_words(paper, side) for side in (first, second) if side.placed.uncut is not None]
+    told = wrong or ['Both cut every dependence.', *cost_words(paper, held, first, second)]
+    return ' '.join(told + [verdict(side) for side in (first, second) if side.mark and side.name != KEY])
+
+
+def calls_words(paper: Paper, held: Balance, turns: bytes, first: Side, second: Side) -> str:
+    """How many calls each makes under the turns."""
+    made = [calls(paper, side.placed.counts, turns) for side in (first, second)]
+    if len(set(turns)) == 1:
+        when = f'If each loop makes {counted(turns[0], "turn")}'
+    else:
+        when = 'If the turns are ' + ', '.join(f'{many} of loop {d}' for d, many in zip(paper.end, turns))
+    told = (f'{when}, each thread calls barriers {counted(made[0], "time")} with {first.name} and {made[1]:,} with '
+            f'{second.name}.')
+    if held.first and not held.second and made[0] > made[1] or held.second and not held.first and made[0] < made[1]:
+        told += f' {FEWEST}'
+    return told
+
+
+def arguments(parser: argparse.ArgumentParser) -> None:
+    parser.add_argument('paper', metavar='PAPER', help=PAPER_HELP)
+    parser.add_argument('gaps', metavar='GAPS', help=GAPS_HELP)
+    parser.add_argument('other', metavar='GAPS', nargs='?', help='what to hold it beside; the key if none is named')
+    parser.add_argument('--turns', default=TURNS, help=f'the turns of the loops, or one number for all ({TURNS})')
+    parser.add_argument('--html', metavar='FILE', help='writes a page for printing, with both pictures')
+
+
+def main(asked: argparse.Namespace) -> None:
+    desk, _ = planned(asked.paper) if asked.other is None else loaded(asked.paper)
+    with contextlib.suppress(Refused):  # two placements can be compared on a paper that has no key
+        desk.plan()
+    paper = paper_on(desk)
+    first = side_of(desk, 'the first placement', placement_asked(asked.gaps, desk))
+    if asked.other is None:
+        second = side_of(desk, KEY, desk.key())
+    else:
+        second = side_of(desk, 'the second placement', placement_asked(asked.other, desk))
+    turns = turns_asked(asked.turns, len(paper.end))
+    held = balance(paper, first.placed.counts, second.placed.counts)
+    correct = first.placed.uncut is None and second.placed.uncut is None
+    trees = [drawn(paper, side.placed.counts, held.deciding if correct else []) for side in (first, second)]
+    told = [reasons(paper, held, first, second)]
+    if correct:
+        told.append(calls_words(paper, held, turns, first, second))
+    if asked.html is not None:
+        shown = [Shown(side.title, side.placed, tree) for side, tree in zip((first, second), trees)]
+        write_over(asked.html, page(asked.paper, paper, shown, told).encode())
+        return
+    columns = [[side.title, '', *tree] for side, tree in zip((first, second), trees)]
+    paragraphs = ['\n'.join(beside(*columns)), *('\n'.join(textwrap.wrap(words, WIDE)) for words in told)]
+    write_out(('\n\n'.join(paragraphs) + '\n').encode())
