@@ -257,7 +257,7 @@ FAULTS = [
     ('docs/RULES.md', '\n2. **', '\n4. **'),
     ('README.md', '#numbers-from-the-input', '#numbers'),
     ('README.md', '(docs/WHY.md)', '(docs/WHAT.md)'),
-    ('README.md', '`./draw ', '`./drawn '),
+    ('README.md', '`./desk draw ', '`./desks draw '),
     ('README.md', '`put_gap(', '`put_gaps('),
     ('README.md', '`lift_gap(desk, gap)`', 'Take back'),
     ('docs/CONTRIBUTING.md', '`rt must-fail lines`', '`rt must-fail line`'),
