@@ -10,7 +10,7 @@ def record(**fields):
     return type('Record', (Structure,), {'_fields_': list(fields.items())})
 
 
-Desk = record(words=c_uint64 * 416)  # DESK_WORDS of desk.h: handed on, never opened
+Desk = record(words=c_uint64 * 449)  # DESK_WORDS of desk.h: handed on, never opened
 Reply = record(number=c_uint8, line=c_size_t, desk=Desk)
 Answer = record(number=c_uint8, line=c_size_t, value=c_size_t)
 Moved = record(number=c_uint8, line=c_size_t, uncut=c_size_t, desk=Desk)

@@ -1,7 +1,7 @@
 //! Reads a paper, works out its key, marks the placement 3, 9 beside it, and puts a barrier at gap 5 of a sitting.
 //!   rustc -L target/staticlib -l static=host examples/desk.rs -o target/desk && target/desk examples/p.hex
 
-#[repr(C)] #[derive(Clone, Copy)] struct Desk { words: [u64; 416] } // DESK_WORDS of desk.h: handed on, never opened
+#[repr(C)] #[derive(Clone, Copy)] struct Desk { words: [u64; 449] } // DESK_WORDS of desk.h: handed on, never opened
 #[repr(C)] struct Reply { number: u8, line: usize, desk: Desk }
 #[repr(C)] struct Answer { number: u8, line: usize, value: usize }
 #[repr(C)] struct Moved { number: u8, line: usize, uncut: usize, desk: Desk }

@@ -5,9 +5,9 @@ from office.command import REFUSED, Fault, printable, read_in
 from office.frames import placement_text
 from office.library import Desk
 from office.refusal import Refused
-from office.words import counted, ranges
+from office.words import ranges
 
-TURNS = 16
+TURNS, TURNS_HELP = 16, 'the turns of the loops in the order of their DOs, with commas between, or one number for all'
 GAPS_HELP = "gaps in decimal with commas between, '' for none, or a file with a placement text"
 PAPER_HELP = 'a file with a nest text; - for standard input'
 
@@ -61,10 +61,9 @@ def placement_asked(argument: str, desk: Desk) -> bytes:
 
 
 def turns_asked(argument: str, loops: int) -> bytes:
-    """The turns that an argument names, in order of the loops' DOs; one number stands for all of them."""
+    """The turns that an argument names, in order of the loops' DOs; one number stands for all of them. The desk says
+    whether they fit."""
     words = [word for word in re.split('[, ]+', argument) if word]
-    if not all(re.fullmatch('[0-9]{1,2}', word) and 1 <= int(word) <= TURNS for word in words):
-        raise Fault(f'turns are numbers from 1 to {TURNS} with commas between: {argument}')
-    if len(words) not in (1, loops):
-        raise Fault(f'this paper has {counted(loops, "loop")}, so it wants one number of turns or {loops}: {argument}')
+    if not all(re.fullmatch('[0-9]{1,3}', word) and int(word) < 256 for word in words):
+        raise Fault(f'turns are numbers up to {TURNS} with commas between: {argument}')
     return bytes(map(int, words * loops if len(words) == 1 else words))

@@ -85,6 +85,10 @@ class Desk:
     def textbook(self) -> list[int]:
         return gaps_in(given(library().desk_textbook(self.held)).gaps)
 
+    def missing_runs(self) -> list[int]:
+        """The DOs of the loops that need a barrier for their missing run."""
+        return gaps_in(given(library().desk_missing_runs(self.held)).gaps)
+
     def candidate_slip(self, text: bytes) -> bytes:
         return self.written(library().desk_candidate_slip, SLIP, text, len(text))
 

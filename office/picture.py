@@ -1,7 +1,8 @@
 """A paper as SVG: one row a point, in the boxes of its loops; gaps between rows; at the right the dependences.
 
 A dependence runs down its lane from s to t; one that is carried runs on to the loop's ENDDO, round to its DO and down
-to t. Its number stands on the lane at both ends, and below the drawing it is told in words. A barred gap has a band.
+to t. Its number stands on the lane at both ends, and below the drawing it is told in words. A barred gap has a band,
+and the box of a loop that may not run is dashed.
 """
 import html
 import textwrap
@@ -19,6 +20,7 @@ SIGNS = ['Small numbers are gaps, in the column of the loop they belong to.',
          'A black bar is a barrier; a dot marks each dependence that it cuts. A hollow number: uncut.',
          'A dashed line goes round to the next turn of the loop.']
 BARRED_SIGN = 'A red band of strokes is a barred gap: no barrier may stand there.'
+FLAGGED_SIGN = 'A dashed box is a loop that may not run.'
 STYLE = f'''
 text {{ font-size: 13px; fill: {INK} }}
 .title {{ font-size: 15px; font-weight: bold }}
@@ -45,6 +47,8 @@ text {{ font-size: 13px; fill: {INK} }}
 '''
 BARRED_STYLE = f'''.barred {{ stroke: {RED}; stroke-width: 8; stroke-dasharray: 3 5 }}
 .red {{ fill: {RED} }}
+'''
+FLAGGED_STYLE = '''.flagged { stroke-width: 2; stroke-dasharray: 7 5 }
 '''
 
 
@@ -107,7 +111,8 @@ class Picture:
     def loops(self) -> None:
         for d in sorted(self.paper.end):
             left, right = self.edges(d)
-            self.add('rect', cls='box', x=left, y=self.y(d) - 15, width=right - left,
+            kind = 'box flagged' if d in self.paper.flagged else 'box'
+            self.add('rect', cls=kind, x=left, y=self.y(d) - 15, width=right - left,
                      height=ROW * (self.paper.end[d] - d) + 30, rx=6, fill=SHADES[min(self.paper.depth[d], 7)])
             self.label(right - 8, self.y(d), f'count {self.counts[d]}', 'word end', 12)
 
@@ -199,9 +204,13 @@ class Picture:
             below = [self.caption(LEFT - 21 + wide * k, y, first + k, wide)
                      for k in range(min(columns, len(self.paper.dependences) - first))]
             y = max(below) + 10
-        for line in [*SIGNS, BARRED_SIGN] if self.paper.barred else SIGNS:
+        for line in self.signs():
             y = self.wrapped(LEFT - 32, y, line, self.width - 40, 'pale', 11)
         return y
+
+    def signs(self) -> list[str]:
+        """What the signs mean that the picture has."""
+        return [*SIGNS, *[BARRED_SIGN] * bool(self.paper.barred), *[FLAGGED_SIGN] * bool(self.paper.flagged)]
 
     def cutting(self, dependence: Dependence) -> list[int]:
         """The barriers that cut a dependence."""
@@ -224,7 +233,7 @@ class Picture:
         for number in range(len(self.paper.dependences)):
             self.badges(number, [(self.x(number), self.level(number, 1)), (self.x(number, 0), self.level(number, 2))])
         height = self.words(self.y(len(self.paper.points)) + 8)
-        style = STYLE + BARRED_STYLE if self.paper.barred else STYLE
+        style = STYLE + BARRED_STYLE * bool(self.paper.barred) + FLAGGED_STYLE * bool(self.paper.flagged)
         size = f'width="{self.width:g}" height="{height:g}" viewBox="0 0 {self.width:g} {height:g}"'
         return '\n'.join([f'<svg xmlns="http://www.w3.org/2000/svg" {size} role="img" '
                           'font-family="Helvetica, Arial, sans-serif">', f'<title>{html.escape(self.title)}</title>',

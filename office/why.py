@@ -4,8 +4,8 @@ import contextlib
 import textwrap
 from dataclasses import dataclass
 
-from office.asked import GAPS_HELP, PAPER_HELP, loaded, placement_asked, planned, turns_asked
-from office.command import write_out, write_over
+from office.asked import GAPS_HELP, PAPER_HELP, TURNS, TURNS_HELP, loaded, placement_asked, planned, turns_asked
+from office.command import Fault, write_out, write_over
 from office.library import DEARER, UNCUT, Desk, Mark
 from office.page import Shown, page
 from office.paper import Paper, Placed, paper_on, placed
@@ -19,7 +19,7 @@ MORE = """  ./desk why paper.hex 4,7                  gaps 4 and 7 beside the ke
   ./desk why paper.hex 4,7 --turns 10,2,3   calls, if the loops make so many turns, in the order of their DOs
   ./desk why paper.hex 4,7 --html why.html  a page to print, with both pictures
 """
-KEY, TURNS, WIDE, FEW = 'the key', '10', 100, 6
+KEY, TEN, WIDE, FEW = 'the key', '10', 100, 6
 INSIDE_OUT = ('Barriers are not added up: they are counted loop by loop, and the counts are compared from the inside '
               'out.')
 FEWEST = ('Of the key alone it is true that no correct placement makes fewer calls, and only where each inner loop '
@@ -138,7 +138,7 @@ def arguments(parser: argparse.ArgumentParser) -> None:
     parser.add_argument('paper', metavar='PAPER', help=PAPER_HELP)
     parser.add_argument('gaps', metavar='GAPS', help=GAPS_HELP)
     parser.add_argument('other', metavar='GAPS', nargs='?', help='what to hold it beside; the key if none is named')
-    parser.add_argument('--turns', default=TURNS, help=f'the turns of the loops, or one number for all ({TURNS})')
+    parser.add_argument('--turns', default=TEN, help=f'{TURNS_HELP} ({TEN})')
     parser.add_argument('--html', metavar='FILE', help='writes a page for printing, with both pictures')
 
 
@@ -153,6 +153,8 @@ def main(asked: argparse.Namespace) -> None:
     else:
         second = side_of(desk, 'the second placement', placement_asked(asked.other, desk))
     turns = turns_asked(asked.turns, len(paper.end))
+    if len(turns) != len(paper.end) or not all(1 <= many <= TURNS for many in turns):
+        raise Fault(f'this paper wants {counted(len(paper.end), "number")} of turns from 1 to {TURNS}: {asked.turns}')
     held = balance(paper, first.placed.counts, second.placed.counts)
     correct = first.placed.uncut is None and second.placed.uncut is None
     trees = [drawn(paper, side.placed.counts, held.deciding if correct else []) for side in (first, second)]

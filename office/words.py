@@ -16,7 +16,8 @@ RULES = {
     11: 'there is a nest but no key: Plan comes first',
     12: 'Put of a gap that is there, or Lift of one that is not',
     13: 'Take back where no move is left',
-    14: 'a barred gap stands in a nest of more than one loop, or the textbook method is asked of one',
+    14: 'a barred gap stands in a nest of more than one loop, or the textbook method is asked of one, or a paper with '
+        'barred gaps is to be joined',
     15: 'a dependence has all its gaps barred, so no placement is correct and there is no key',
     16: 'the gap is barred: no barrier may stand there',
     17: 'the turns are not one number for each loop, from 2 to 16, for the outermost loop (and to improve a key, for '

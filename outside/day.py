@@ -2,7 +2,8 @@
 """A day in the office, from nothing to the register: what is typed, what is seen, and what is there afterwards.
 
 Three papers are set as listings, checked and planned; forty answers of every sort, and three that cannot be read, are
-marked as they come in; the same day in another order gives the same bytes; then ten thousand answers at once. Needs the library's archive (rt staticlib host). The last line is 'N passed, M failed'.
+marked as they come in; the same day in another order gives the same bytes; then ten thousand answers at once. Needs
+the library's archive (rt staticlib host). The last line is 'N passed, M failed'.
 """
 import csv
 import hashlib

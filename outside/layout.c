@@ -14,13 +14,15 @@ AT(DeskDependence, kind, 0, 1);
 AT(DeskDependence, d, 1, 1);
 AT(DeskDependence, s, 2, 1);
 AT(DeskDependence, t, 3, 1);
-SIZE(DeskNest, 2584);
+SIZE(DeskNest, 2848);
 AT(DeskNest, count, 0, 8);
 AT(DeskNest, points, 8, 256);
 AT(DeskNest, many, 264, 8);
 AT(DeskNest, deps, 272, 2048);
 AT(DeskNest, bars, 2320, 8);
 AT(DeskNest, barred, 2328, 255);
+AT(DeskNest, flags, 2584, 8);
+AT(DeskNest, flagged, 2592, 256);
 SIZE(DeskPlacement, 32);
 AT(DeskPlacement, words, 0, 32);
 SIZE(DeskSitting, 552);
@@ -36,29 +38,29 @@ AT(DeskMoves, head, 128, 8);
 AT(DeskMoves, many, 136, 8);
 SIZE(Desk, 8 * DESK_WORDS);
 AT(Desk, loaded, 0, 1);
-AT(Desk, nest, 8, 2584);
-AT(Desk, planned, 2592, 1);
-AT(Desk, key, 2600, 32);
-AT(Desk, sitting, 2632, 552);
-AT(Desk, moves, 3184, 144);
+AT(Desk, nest, 8, 2848);
+AT(Desk, planned, 2856, 1);
+AT(Desk, key, 2864, 32);
+AT(Desk, sitting, 2896, 552);
+AT(Desk, moves, 3448, 144);
 SIZE(DeskPlain, 8 * DESK_PLAIN_WORDS);
 AT(DeskPlain, loaded, 0, 1);
-AT(DeskPlain, nest, 8, 2584);
-AT(DeskPlain, planned, 2592, 1);
-AT(DeskPlain, key, 2600, 32);
-SIZE(DeskReply, 3344);
+AT(DeskPlain, nest, 8, 2848);
+AT(DeskPlain, planned, 2856, 1);
+AT(DeskPlain, key, 2864, 32);
+SIZE(DeskReply, 3608);
 AT(DeskReply, number, 0, 1);
 AT(DeskReply, line, 8, 8);
-AT(DeskReply, desk, 16, 3328);
+AT(DeskReply, desk, 16, 3592);
 SIZE(DeskAnswer, 24);
 AT(DeskAnswer, number, 0, 1);
 AT(DeskAnswer, line, 8, 8);
 AT(DeskAnswer, value, 16, 8);
-SIZE(DeskMoved, 3352);
+SIZE(DeskMoved, 3616);
 AT(DeskMoved, number, 0, 1);
 AT(DeskMoved, line, 8, 8);
 AT(DeskMoved, uncut, 16, 8);
-AT(DeskMoved, desk, 24, 3328);
+AT(DeskMoved, desk, 24, 3592);
 SIZE(DeskMark, 48);
 AT(DeskMark, number, 0, 1);
 AT(DeskMark, line, 8, 8);
@@ -103,6 +105,8 @@ static const uint8_t P[] = "01\n01\n03\n03\n03\n03\n02\n01\n03\n03\n03\n03\n02\n
 
 static const uint8_t FOUNDATION[] = "01\n03\n03\n03\n03\n03\n02\n12000503\n12000401\n110005\n1301\n1302\n1304\n";
 
+static const uint8_t SKIPPING[] = "01\n03\n04\n03\n02\n03\n02\n12020303\n110105\n";
+
 typedef void *Fresh(void *);
 typedef void *OnDesk(void *, Desk);
 typedef void *OnText(void *, Desk, const uint8_t *, size_t);
@@ -123,6 +127,7 @@ static void sizes(Desk desk, DeskPlain plain) {
     GIVES(OnDesk, desk_take_back, sizeof(DeskMoved), room, desk);
     GIVES(OnPlain, desk_go_over, sizeof(Desk), room, plain);
     GIVES(OnDesk, desk_textbook, sizeof(DeskChosen), room, desk);
+    GIVES(OnDesk, desk_missing_runs, sizeof(DeskChosen), room, desk);
     GIVES(OnBoth, desk_candidate_slip, sizeof(DeskAnswer), room, desk, P, 0, lent, sizeof lent);
     GIVES(OnBoth, desk_examiner_slip, sizeof(DeskAnswer), room, desk, P, 0, lent, sizeof lent);
 }
@@ -169,12 +174,26 @@ static void barred(Desk desk) {
     that("gone over", desk.planned && desk.nest.bars == 3 && desk.key.words[0] == (1u << 3 | 1u << 5));
 }
 
+static void skipping(Desk desk) {
+    const uint8_t *flagged = desk.nest.flagged;
+    that("flags", desk.nest.flags == 1 && flagged[0] == 2 && flagged[1] == 0 && flagged[255] == 0);
+    that("a flagged DO is a DO", desk.nest.points[2] == DESK_DO && desk.nest.bars == 0);
+    that("no key, no list", desk_missing_runs(desk).number == 11);
+    desk = desk_plan(desk).desk;
+    DeskChosen listed = desk_missing_runs(desk);
+    that("missing runs", listed.number == 0 && listed.gaps.words[0] == 1u << 2 && listed.gaps.words[3] == 0);
+    DeskPlain plain = {.loaded = true, .nest = desk.nest, .planned = true};
+    desk = desk_go_over(plain);
+    that("gone over with flags", desk.planned && desk.nest.flags == 1 && desk.key.words[0] == 1u << 3);
+}
+
 int main(void) {
     Desk desk = desk_load(desk_new(), P, sizeof P - 1).desk;
     DeskPlain plain = {.loaded = true, .nest = desk.nest, .planned = true};
     sizes(desk, plain);
     fields(desk);
     barred(desk_load(desk, FOUNDATION, sizeof FOUNDATION - 1).desk);
+    skipping(desk_load(desk, SKIPPING, sizeof SKIPPING - 1).desk);
     printf("%d passed, %d failed\n", passed, failed);
     return failed != 0;
 }

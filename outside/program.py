@@ -31,7 +31,7 @@ SLIPS = [
     (b'01\n0g\n', 1, 2, ['no digits: g']),
     (b'01\n' + b'zz' * 400 + b'\n02\n', 1, 2, ['"' + 'z' * 48 + '..." and 752 bytes more']),
     (b'01\n\x1b[31m\x00\xff\n', 1, 2, ['"\\x1b[31m\\x00\\xff"']),
-    (b'04\n', 2, 1, ['"04"', 'the kind is none of this text']),
+    (b'05\n', 2, 1, ['"05"', 'the kind is none of this text']),
     (b'01\n02\n110001\n03\n', 3, 4, ['"03"', 'a point stands after a dependence']),
     (b'01\n', 4, 2, ['the end of the text is refused, which counts as line 2', 'a loop is open']),
     (b'01\n' + b'03\n' * 300, 5, 257, ['line 257 is refused: "03"', 'a 257th point']),
@@ -95,7 +95,7 @@ def statuses(tally: Tally, folder: pathlib.Path) -> None:
         tally.check(f'{option}, output full', seen.out == b'' and seen.err != '' and seen.status == 2, seen)
     (folder / 'office').mkdir()
     (folder / 'office' / '__init__.py').touch()
-    seen = run(KEY, given=b'04\n', shell=f'cd {folder} && "$@"')
+    seen = run(KEY, given=b'05\n', shell=f'cd {folder} && "$@"')
     tally.check('beside another office', 'number 2: the kind' in seen.err and seen.status == 1, seen)
     hidden = folder / 'hidden.hex'
     for name, word, seen in [
@@ -106,7 +106,7 @@ def statuses(tally: Tally, folder: pathlib.Path) -> None:
             ('input closed', 'standard input is closed', run(KEY, given=None)),
             ('output full', NOT_WRITTEN, run(KEY, paper, shell=FULL)),
             ('output closed', NOT_WRITTEN, run(KEY, paper, shell=NO_OUTPUT)),
-            ('refused, output full', NOT_WRITTEN, run(KEY, given=b'04\n', shell=FULL)),
+            ('refused, output full', NOT_WRITTEN, run(KEY, given=b'05\n', shell=FULL)),
             ('no room for a copy', 'no room', run(KEY, paper, shell='"$@" 2> >(tail -n 1 >&2)', TMPDIR=str(hidden)))]:
         tally.check(name, seen.failed(word), seen)
     left = [name for name in os.listdir(folder) if name.startswith('tmp.')]
@@ -150,7 +150,7 @@ def other_machines(tally: Tally, folder: pathlib.Path) -> None:
     shutil.copy(PROGRAM, program)
     seen = asked()
     tally.check('built, no rt', (seen.out, seen.err, seen.status) == (P_ANSWER, '', 0), seen)
-    seen = asked(b'04\n')
+    seen = asked(b'05\n')
     tally.check('refused, no python3', (seen.out, seen.status) == (b'2f020001\n', 1) and 'python3' in seen.err, seen)
     os.utime(program, (1, 1))
     seen = asked()

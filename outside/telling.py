@@ -260,8 +260,8 @@ def reasons(tally: Tally, folder: pathlib.Path) -> None:
     blocked.write_bytes(b'01\n03\n03\n02\n110001\n1301\n')
     tally.check('no key', 'number 15' in run(DESK, 'why', blocked, '2').err)
     tally.check('two without a key', told(run(DESK, 'why', blocked, '2', '3'), 'With gap 2 dependence 0 is not cut'))
-    for asked, word in [(['14'], 'no gaps of this paper'), (['5', '--turns', '0'], 'from 1 to 16'),
-                        (['5', '--turns', '2,2'], 'has 3 loops'), (['5', '--turns', 'x'], 'from 1 to 16')]:
+    for asked, word in [(['14'], 'no gaps of this paper'), (['5', '--turns', '0'], '3 numbers of turns from 1 to 16'),
+                        (['5', '--turns', '2,2'], '3 numbers of turns'), (['5', '--turns', 'x'], 'up to 16')]:
         seen = run(DESK, 'why', p, *asked)
         tally.check(f'why {asked}', seen.failed(word), seen)
     page = folder / 'why.html'

@@ -42,8 +42,8 @@ extern "C" {
 /* Limits: points, dependences, barred gaps, the gaps of a placement, the moves that can be taken back. */
 enum { DESK_POINTS = 256, DESK_DEPENDENCES = 512, DESK_BARS = 255, DESK_GAPS = 256, DESK_MOVES = 64 };
 
-/* The kinds of points, of dependences, and of barred gaps. */
-enum { DESK_DO = 0x01, DESK_ENDDO = 0x02, DESK_STATEMENT = 0x03 };
+/* The kinds of points, of dependences, and of barred gaps. In a text 04 is the DO of a loop that may not run. */
+enum { DESK_DO = 0x01, DESK_ENDDO = 0x02, DESK_STATEMENT = 0x03, DESK_FLAGGED = 0x04 };
 enum { DESK_INDEPENDENT = 0x11, DESK_CARRIED = 0x12, DESK_BARRED = 0x13 };
 
 /* The verdicts of a mark. */
@@ -56,14 +56,15 @@ enum { DESK_TEXT = 1275 };
 enum { DESK_SLIP = 3474 };
 
 /* A Desk has so many words of 8 bytes, and a DeskPlain: for hosts that only hand them on. */
-enum { DESK_WORDS = 416, DESK_PLAIN_WORDS = 329 };
+enum { DESK_WORDS = 449, DESK_PLAIN_WORDS = 362 };
 
 /* From point s to point t, independent or carried by the loop of DO d. */
 typedef struct DeskDependence {
     uint8_t kind, d, s, t;
 } DeskDependence;
 
-/* The first `count` points, by their kinds, the first `many` dependences and the first `bars` barred gaps. */
+/* The first `count` points, by their kinds, the first `many` dependences, the first `bars` barred gaps, and the DOs of
+   the first `flags` loops that may not run, rising; among the points they are DOs. */
 typedef struct DeskNest {
     size_t count;
     uint8_t points[DESK_POINTS];
@@ -71,6 +72,8 @@ typedef struct DeskNest {
     DeskDependence deps[DESK_DEPENDENCES];
     size_t bars;
     uint8_t barred[DESK_BARS];
+    size_t flags;
+    uint8_t flagged[DESK_POINTS];
 } DeskNest;
 
 /* A set of gaps: gap g is bit g % 64 of word g / 64. */
@@ -134,7 +137,7 @@ typedef struct DeskMoved {
     Desk desk;
 } DeskMoved;
 
-/* A set of gaps, empty where the call is refused. */
+/* A set of gaps, or of loops by their DOs, in the same bits; empty where the call is refused. */
 typedef struct DeskChosen {
     uint8_t number;
     size_t line;
@@ -193,9 +196,13 @@ DeskChosen desk_textbook(Desk desk);
 DeskAnswer desk_candidate_slip(Desk desk, const uint8_t *text, size_t length, uint8_t *out, size_t room);
 DeskAnswer desk_examiner_slip(Desk desk, const uint8_t *text, size_t length, uint8_t *out, size_t room);
 
+/* The loops that need a barrier for their missing run: those that may not run and hold a barrier of the key on which a
+   dependence past them relies. Numbers 10, 11. */
+DeskChosen desk_missing_runs(Desk desk);
+
 /* A desk in use goes over from the kind before sittings: the nest is kept, the sitting is empty, and where there was a
-   key it is worked out anew, unless Plan would refuse. `old` has a nest that desk_load accepted, or none (count, many
-   and bars 0) and then no key. */
+   key it is worked out anew, unless Plan would refuse. `old` has a nest that desk_load accepted, or none (count, many,
+   bars and flags 0) and then no key. */
 Desk desk_go_over(DeskPlain old);
 
 #ifdef __cplusplus

@@ -1,6 +1,7 @@
 //! The calls of the library: what each is given, and what the library does with it.
 
 use crate::host::{self, Desk, Placement, PlainDesk, WORDS};
+use crate::skipping;
 use crate::slips;
 use crate::textbook;
 use crate::texts::shown;
@@ -25,6 +26,7 @@ pub enum Call {
     Textbook,
     /// The examiner's slip or the candidate's, of a text, into a buffer.
     Slip(bool, Vec<u8>, Vec<u8>),
+    MissingRuns,
 }
 
 impl Call {
@@ -46,6 +48,7 @@ impl Call {
             Call::Textbook => "textbook",
             Call::Slip(false, ..) => "candidate's slip",
             Call::Slip(true, ..) => "examiner's slip",
+            Call::MissingRuns => "missing runs",
         }
     }
 
@@ -132,6 +135,7 @@ pub fn play(desk: &mut Desk, call: &Call) -> Reply {
             }
             Call::Textbook => textbook::play(*desk),
             Call::Slip(examiner, text, out) => slips::play(*desk, *examiner, text, out),
+            Call::MissingRuns => skipping::play(*desk),
         }
     }
 }

@@ -1,10 +1,11 @@
-//! The judge's own desk (01, "The desk" and "Numbers from the state"; 02, jobs 4, 5, 6 and 7). A key is searched for,
+//! The judge's own desk (01, "The desk" and "Numbers from the state"; 02, jobs 4 to 7 and 10). A key is searched for,
 //! the sitting is a set of gaps, every count is made anew, and to take back it keeps every placement of before.
 
 use crate::calls::{guarded, Call, Reply};
 use crate::host::{self, gaps_of, KEPT};
 use crate::nests::*;
 use crate::order::{first_key, mark, Mark};
+use crate::skipping;
 use crate::slips;
 use crate::textbook;
 use crate::texts::{line, read_nest, read_placement};
@@ -91,6 +92,7 @@ impl Desk {
             }
             Call::Textbook => (number, values) = textbook::answer(self.nest.as_ref()),
             Call::Slip(examiner, text, out) => return slips::answer(self, *examiner, text, out),
+            Call::MissingRuns => (number, values) = skipping::answer(self),
         }
         Reply { number, line, values, lent }
     }
@@ -160,6 +162,7 @@ impl Desk {
         let record = |x: &Dependence| [x.kind, x.d as u8, x.s as u8, x.t as u8];
         let records: Vec<[u8; 4]> = nest.dependences.iter().map(record).collect();
         let barred: Vec<u8> = (0..BARS).map(|i| nest.barred.get(i).map_or(0, |&g| g as u8)).collect();
+        let flagged: Vec<u8> = (0..POINTS).map(|i| nest.flagged.get(i).map_or(0, |&d| d as u8)).collect();
         let moves: Vec<(u8, u8)> = self.moves.iter().rev().map(|(gap, put, _)| (*gap as u8, *put as u8)).collect();
         let differ = |what: &str, same: bool| if same { None } else { Some(what.to_string()) };
         differ("loaded", seen.loaded == self.nest.is_some() as u8)
@@ -172,6 +175,8 @@ impl Desk {
             })
             .or_else(|| differ("the number of barred gaps", seen.nest.bars == nest.barred.len()))
             .or_else(|| differ("the barred gaps", seen.nest.barred[..] == barred[..]))
+            .or_else(|| differ("the number of flagged loops", seen.nest.flags == nest.flagged.len()))
+            .or_else(|| differ("the flagged loops", seen.nest.flagged[..] == flagged[..]))
             .or_else(|| differ("planned", seen.planned == (self.key != Key::None) as u8))
             .or_else(|| differ("the key", self.key == Key::Unknown || gaps_of(&seen.key) == self.key()))
             .or_else(|| differ("the sitting", gaps_of(&seen.sitting.placement).iter().eq(&self.sitting)))

@@ -146,7 +146,7 @@ fn altered_replies(seen: &Reply) -> Vec<(String, Reply)> {
 
 /// Every part of a desk with a nest and some dependences, one altered at a time.
 fn altered_desks(desk: &host::Desk) -> Vec<(&'static str, host::Desk)> {
-    let alter: [(&'static str, fn(&mut host::Desk)); 20] = [
+    let alter: [(&'static str, fn(&mut host::Desk)); 23] = [
         ("loaded", |d| d.loaded ^= 1),
         ("loaded, not 0 or 1", |d| d.loaded ^= 2),
         ("the number of points", |d| d.nest.count ^= 1),
@@ -159,6 +159,9 @@ fn altered_desks(desk: &host::Desk) -> Vec<(&'static str, host::Desk)> {
         ("the number of barred gaps", |d| d.nest.bars ^= 1),
         ("the first barred gap", |d| d.nest.barred[0] ^= 4),
         ("a byte behind the barred gaps", |d| d.nest.barred[254] ^= 1),
+        ("the number of flagged loops", |d| d.nest.flags ^= 1),
+        ("the first flagged loop", |d| d.nest.flagged[0] ^= 4),
+        ("a byte behind the flagged loops", |d| d.nest.flagged[255] ^= 1),
         ("planned", |d| d.planned ^= 1),
         ("the key", |d| d.key.words[0] ^= 1 << 7),
         ("the key's last word", |d| d.key.words[3] ^= 1),

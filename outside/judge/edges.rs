@@ -19,12 +19,12 @@ pub fn edges() -> Vec<Edge> {
 /// Every two of some lines, one behind the other, behind some beginnings: the first faulty line decides, and on it the
 /// lowest number.
 pub fn pairs() -> Vec<Vec<u8>> {
-    const BEGINNINGS: [&str; 8] = [
-        "", "01", "01 01", "01 03 03 02", "01 01 03 02 02", "01 03 03 02 110001 1302", "01 03*254 02 1301*255",
-        "01 03*254 02 110001*512",
+    const BEGINNINGS: [&str; 11] = [
+        "", "01", "04", "01 01", "01 04", "01 03 03 02", "01 01 03 02 02", "04 04 03 02 02", "01 03 03 02 110001 1302",
+        "01 03*254 02 1301*255", "01 03*254 02 110001*512",
     ];
-    const LINES: &str = "01 02 03 04 _ 00 11 110001 110002 110004 110101 110300 120001 12000101 12000102 12000004 \
-        12010101 13 130 13g1 1300 1301 1303 1304 1305 13ff 130100 1301~ 2101";
+    const LINES: &str = "01 02 03 04 05 0401 04~ _ 00 11 110001 110002 110004 110101 110300 120001 12000101 12000102 \
+        12000004 12010101 13 130 13g1 1300 1301 1303 1304 1305 13ff 130100 1301~ 2101";
     let text = |words: &str| words.split_whitespace().flat_map(edge_lines).collect::<Vec<u8>>();
     let lines: Vec<Vec<u8>> = LINES.split_whitespace().map(edge_lines).collect();
     let behind = |begin: &Vec<u8>, a: &Vec<u8>| lines.iter().map(|b| [&begin[..], a, b].concat()).collect::<Vec<_>>();

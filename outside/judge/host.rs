@@ -17,6 +17,8 @@ pub struct Nest {
     pub deps: [Dependence; 512],
     pub bars: usize,
     pub barred: [u8; 255],
+    pub flags: usize,
+    pub flagged: [u8; 256],
 }
 
 #[repr(C)]
@@ -82,6 +84,7 @@ extern "C" {
     pub fn desk_textbook(desk: Desk) -> Chosen;
     pub fn desk_candidate_slip(desk: Desk, text: *const u8, length: usize, out: *mut u8, room: usize) -> Answer;
     pub fn desk_examiner_slip(desk: Desk, text: *const u8, length: usize, out: *mut u8, room: usize) -> Answer;
+    pub fn desk_missing_runs(desk: Desk) -> Chosen;
 }
 
 /// A set of gaps as four words.

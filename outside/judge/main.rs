@@ -14,7 +14,8 @@
 //! Of other full-size papers: that the key is correct, has no barrier to spare and none that could stand earlier among
 //! the gaps of its loop, and comes with the right counts.
 //! The library's calls are played in random scripts, in and out of turn; number, line, values, every lent byte and the
-//! whole desk are compared after each. Before them every two lines of a list are loaded, one behind the other.
+//! whole desk are compared after each. Before them every two lines of a list are loaded, one behind the other, and
+//! every paper of at most 7 points and two dependences, whichever of its loops are flagged.
 //! A difference is printed with the text or the script that shows it, and the judge ends with status 1.
 //!
 //! It links the library: rustc -O outside/judge/main.rs -L target/staticlib -l static=host -o target/judge
@@ -31,6 +32,7 @@ mod papers;
 mod program;
 mod scripts;
 mod self_check;
+mod skipping;
 mod slips;
 mod textbook;
 mod texts;

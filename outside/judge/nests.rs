@@ -1,4 +1,4 @@
-//! Nests, their gaps and their dependences (01, "The nest and its gaps"; 02, jobs 1, 3 and 7).
+//! Nests, their gaps and their dependences (01, "The nest and its gaps"; 02, jobs 1, 3, 7 and 10).
 
 use crate::texts::line;
 
@@ -10,6 +10,7 @@ pub const BARS: usize = 255;
 pub const DO: u8 = 0x01;
 pub const ENDDO: u8 = 0x02;
 pub const STATEMENT: u8 = 0x03;
+pub const FLAGGED: u8 = 0x04;
 pub const INDEPENDENT: u8 = 0x11;
 pub const CARRIED: u8 = 0x12;
 pub const BARRED: u8 = 0x13;
@@ -21,8 +22,8 @@ pub const REFUSAL: u8 = 0x2f;
 #[derive(Clone, Copy)]
 pub struct Dependence { pub kind: u8, pub d: usize, pub s: usize, pub t: usize }
 
-/// Points in text order, the ENDDO of each DO, the loops that are still open while reading, the dependences, and the
-/// barred gaps as they were typed.
+/// Points in text order, the ENDDO of each DO, the loops that are still open while reading, the dependences, the
+/// barred gaps as they were typed, and the DOs of the loops that may not run, rising: among the points they are DOs.
 #[derive(Clone, Default)]
 pub struct Nest {
     pub points: Vec<u8>,
@@ -30,6 +31,7 @@ pub struct Nest {
     pub open: Vec<usize>,
     pub dependences: Vec<Dependence>,
     pub barred: Vec<usize>,
+    pub flagged: Vec<usize>,
 }
 
 impl Nest {
@@ -92,7 +94,8 @@ impl Nest {
 
     /// A line for each point, each dependence and each barred gap, in this order.
     pub fn lines(&self) -> Vec<Vec<u8>> {
-        let mut lines: Vec<Vec<u8>> = self.points.iter().map(|&k| line(&[k])).collect();
+        let kind = |p: usize| if self.flagged.contains(&p) { FLAGGED } else { self.points[p] };
+        let mut lines: Vec<Vec<u8>> = (0..self.points.len()).map(|p| line(&[kind(p)])).collect();
         for x in &self.dependences {
             let (d, s, t) = (x.d as u8, x.s as u8, x.t as u8);
             lines.push(if x.kind == INDEPENDENT { line(&[x.kind, s, t]) } else { line(&[x.kind, d, s, t]) });

@@ -29,7 +29,7 @@ impl Random {
 }
 
 /// A closed nest of n points, at most `depth` deep, of any shape: at each place a kind is drawn from those that
-/// leave room to close what is open.
+/// leave room to close what is open. In one of three nests loops are flagged, some or all.
 pub fn random_points(random: &mut Random, n: usize, depth: usize) -> Nest {
     let weights: Vec<usize> = (0..3).map(|_| 1 + random.below(4)).collect();
     let mut nest = Nest::default();
@@ -42,7 +42,47 @@ pub fn random_points(random: &mut Random, n: usize, depth: usize) -> Nest {
         if left > open { kinds.extend(vec![STATEMENT; weights[2]]) }
         take_point(&mut nest, random.pick(&kinds)).unwrap();
     }
+    if random.one_in(3) { flag_loops(random, &mut nest) }
     nest
+}
+
+/// Flags each loop with the same chance: all of them, every second, or few.
+pub fn flag_loops(random: &mut Random, nest: &mut Nest) {
+    let chance = random.pick(&[1, 2, 2, 6]);
+    nest.flagged = nest.loops().into_iter().filter(|_| random.one_in(chance)).collect();
+}
+
+/// Every closed nest of so many points.
+fn every_shape(points: usize) -> Vec<Nest> {
+    let mut open = vec![Nest::default()];
+    for left in (0..points).rev() {
+        let with = |nest: &Nest, kind: u8| {
+            let mut nest = nest.clone();
+            take_point(&mut nest, kind).ok().filter(|()| nest.open.len() <= left)?;
+            if nest.closed() && left > 0 { None } else { Some(nest) }
+        };
+        open = open.iter().flat_map(|nest| [DO, ENDDO, STATEMENT].map(|kind| with(nest, kind))).flatten().collect();
+    }
+    open
+}
+
+/// Every paper of so many points with no dependence, one or two different ones, and any loops flagged.
+pub fn every_paper(points: usize) -> Vec<Nest> {
+    let mut papers = Vec::new();
+    for nest in every_shape(points) {
+        let loops = nest.loops();
+        let ends = |kind, d| (0..points * points).map(move |i| Dependence { kind, d, s: i / points, t: i % points });
+        let carried = loops.iter().flat_map(|&d| ends(CARRIED, d));
+        let all: Vec<Dependence> = ends(INDEPENDENT, 0).chain(carried).filter(|x| nest.fault(x).is_none()).collect();
+        let mut some = vec![Vec::new()];
+        for i in 0..all.len() { some.extend((0..=i).map(|j| if j < i { vec![all[j], all[i]] } else { vec![all[i]] })) }
+        for set in 0..1 << loops.len() {
+            let flagged: Vec<usize> = (0..loops.len()).filter(|i| set >> i & 1 == 1).map(|i| loops[i]).collect();
+            let with = |x: &Vec<Dependence>| Nest { dependences: x.clone(), flagged: flagged.clone(), ..nest.clone() };
+            papers.extend(some.iter().map(with));
+        }
+    }
+    papers
 }
 
 /// Adds up to `number` dependences whose gaps mostly span up to `reach`; some nests admit few.
@@ -108,6 +148,17 @@ pub fn small_barred(random: &mut Random) -> Nest {
     nest
 }
 
+/// A small nest with flagged loops, short dependences that want barriers here and there, and longer ones past them.
+pub fn small_flagged(random: &mut Random) -> Nest {
+    let (n, depth) = (5 + random.below(SMALL - 4), 2 + random.below(3));
+    let mut nest = random_points(random, n, depth);
+    flag_loops(random, &mut nest);
+    let (short, long) = (1 + random.below(5), 1 + random.below(3));
+    add_dependences(random, &mut nest, short, 1);
+    add_dependences(random, &mut nest, short + long, n);
+    nest
+}
+
 /// 256 points in one loop, up to 512 dependences and up to 255 barred gaps.
 pub fn full_barred(random: &mut Random) -> Nest {
     let mut nest = full_nest(random, 1);
@@ -128,9 +179,13 @@ pub fn spelled(random: &mut Random, nest: &Nest) -> Vec<u8> {
     lines.concat()
 }
 
-/// The text of a small nest, one in three of one loop with barred gaps.
+/// The text of a small nest: any, of one loop with barred gaps, or with flagged loops.
 pub fn small_text(random: &mut Random) -> (Vec<u8>, usize) {
-    let nest = if random.one_in(3) { small_barred(random) } else { small_nest(random) };
+    let nest = match random.below(6) {
+        0 | 1 => small_barred(random),
+        2 => small_flagged(random),
+        _ => small_nest(random),
+    };
     (spelled(random, &nest), nest.points.len())
 }
 
@@ -153,6 +208,7 @@ pub fn side_by_side(random: &mut Random, points: usize) -> (Nest, Vec<usize>) {
         part.points.iter().for_each(|&k| take_point(&mut whole, k).unwrap());
         let moved = |x: &Dependence| Dependence { kind: x.kind, d: x.d + at, s: x.s + at, t: x.t + at };
         dependences.extend(part.dependences.iter().map(moved));
+        whole.flagged.extend(part.flagged.iter().map(|d| d + at));
         key.extend(search(&part)[0].iter().map(|g| g + at));
     }
     take_point(&mut whole, ENDDO).unwrap();
@@ -163,10 +219,11 @@ pub fn side_by_side(random: &mut Random, points: usize) -> (Nest, Vec<usize>) {
 /// A frame that may be out of place: any kind, mostly of the right length, operands around the nest's size.
 pub fn stray_line(random: &mut Random, n: usize) -> Vec<u8> {
     let kinds = [
-        0, DO, ENDDO, STATEMENT, 4, INDEPENDENT, INDEPENDENT, CARRIED, CARRIED, BARRED, BARRED, BARRIER, COUNT, REFUSAL,
+        0, DO, ENDDO, STATEMENT, FLAGGED, 5, INDEPENDENT, INDEPENDENT, CARRIED, CARRIED, BARRED, BARRED, BARRIER, COUNT,
+        REFUSAL,
     ];
     let kind = if random.one_in(12) { random.next() as u8 } else { random.pick(&kinds) };
-    let right = match kind { DO | ENDDO | STATEMENT => 0, INDEPENDENT | COUNT => 2, CARRIED => 3, _ => 1 };
+    let right = match kind { DO | ENDDO | STATEMENT | FLAGGED => 0, INDEPENDENT | COUNT => 2, CARRIED => 3, _ => 1 };
     let length = if random.one_in(8) { random.below(6) } else { right };
     let mut operand = || if random.one_in(10) { random.next() as u8 } else { random.below(n + 2) as u8 };
     let operands: Vec<u8> = (0..length).map(|_| operand()).collect();

@@ -8,6 +8,7 @@ use crate::nests::*;
 use crate::order::key_fault;
 use crate::papers::*;
 use crate::program::{finish, THREADS};
+use crate::skipping;
 use crate::slips::slip_length;
 use crate::texts::line;
 use std::collections::BTreeMap;
@@ -103,7 +104,7 @@ fn random_call(random: &mut Random, desk: &Desk, mix: Mix, edges: &[Vec<u8>]) ->
 }
 
 fn random_ask(random: &mut Random, desk: &Desk) -> Call {
-    match random.below(14) {
+    match random.below(16) {
         0 => Call::Count(random_point(random, desk)),
         1 | 2 => Call::Write(buffer(random, 5 * desk.key().len())),
         3 => Call::Sitting(buffer(random, 5 * desk.sitting.len())),
@@ -114,6 +115,7 @@ fn random_ask(random: &mut Random, desk: &Desk) -> Call {
             let length = desk.nest.as_ref().map_or(0, |nest| slip_length(nest, examiner));
             Call::Slip(examiner, text, buffer(random, length))
         }
+        11 | 12 => Call::MissingRuns,
         _ => Call::Mark(placement_text(random, desk)),
     }
 }
@@ -228,6 +230,15 @@ fn record(random: &mut Random, desk: &Desk, any: bool) -> [u8; 4] {
 
 type Numbers = BTreeMap<String, usize>;
 
+/// Of papers with so many points or fewer, all are played.
+const SMALLEST: usize = 7;
+
+/// How many random papers are made for a call.
+const FIXED: usize = 8000;
+
+/// One in so many of the first scripts is random.
+const RANDOM: usize = 32;
+
 /// Makes a call on both desks and counts how it ended; false where there is a difference.
 fn make_counted(pair: &mut Pair, call: &Call, tally: &mut Numbers) -> bool {
     let full = pair.ours.moves.len() == KEPT && matches!(call, Call::Put(_) | Call::Lift(_));
@@ -241,10 +252,20 @@ fn make_counted(pair: &mut Pair, call: &Call, tally: &mut Numbers) -> bool {
     true
 }
 
-/// Loads a text and plans; where there is a difference, gives the calls.
-fn play_text(text: &[u8], tally: &mut Numbers) -> Option<Vec<Call>> {
-    let (mut pair, calls) = (Pair::new(), vec![Call::Load(text.to_vec()), Call::Plan]);
+/// Makes some calls; where there is a difference, gives them.
+fn play_calls(calls: Vec<Call>, tally: &mut Numbers) -> Option<Vec<Call>> {
+    let mut pair = Pair::new();
     if calls.iter().all(|call| make_counted(&mut pair, call, tally)) { None } else { Some(calls) }
+}
+
+/// What is asked of every two lines of a list, one behind the other, of every small paper, and of papers made for a
+/// call.
+fn fixed_scripts() -> Vec<Vec<Call>> {
+    let lines = pairs().into_iter().map(|text| vec![Call::Load(text), Call::Plan]);
+    let flagged = (0..FIXED).map(|case| small_flagged(&mut Random::new(14, case)).text());
+    let every = (2..=SMALLEST).flat_map(every_paper).map(|nest| nest.text());
+    let papers = skipping::PAPERS.iter().map(|paper| words(paper.0)).chain(flagged).chain(every);
+    lines.chain(papers.map(|text| vec![Call::Load(text), Call::Plan, Call::MissingRuns])).collect()
 }
 
 /// Plays the script of a number; where there is a difference, gives the calls up to it.
@@ -278,18 +299,19 @@ fn shortened(mut calls: Vec<Call>) -> Vec<Call> {
     calls
 }
 
-/// The first scripts are the pairs of lines, whatever the seed.
+/// Among the first scripts are the fixed ones, whatever the seed, with a random one before every so many of them.
 pub fn compare(seed: u64, seconds: u64) -> bool {
-    let (pairs, texts) = (pairs(), edges().into_iter().map(|(text, _)| text).collect::<Vec<_>>());
+    let (fixed, texts) = (fixed_scripts(), edges().into_iter().map(|(text, _)| text).collect::<Vec<_>>());
     let until = Instant::now() + Duration::from_secs(seconds);
-    let (next, failed, tally) = (AtomicUsize::new(0), AtomicUsize::new(0), Mutex::new(Numbers::new()));
+    let (next, failed, tally) = (AtomicUsize::new(1), AtomicUsize::new(0), Mutex::new(Numbers::new()));
     let work = || {
         let mut own = Numbers::new();
         loop {
             let script = next.fetch_add(1, SeqCst);
-            if failed.load(SeqCst) > 0 || (script >= pairs.len() && Instant::now() > until) { break }
-            let differs = match pairs.get(script) {
-                Some(text) => play_text(text, &mut own),
+            let place = script - script / RANDOM - 1;
+            if failed.load(SeqCst) > 0 || (place >= fixed.len() && Instant::now() > until) { break }
+            let differs = match fixed.get(place).filter(|_| script % RANDOM > 0) {
+                Some(calls) => play_calls(calls.clone(), &mut own),
                 None => play_script(seed, script, &texts, &mut own),
             };
             let Some(calls) = differs else { continue };
@@ -305,6 +327,6 @@ pub fn compare(seed: u64, seconds: u64) -> bool {
     std::thread::scope(|threads| (0..THREADS).for_each(|_| drop(threads.spawn(work))));
     let tally = tally.into_inner().unwrap();
     tally.iter().for_each(|(what, number)| println!("{number:8}  {what}"));
-    println!("{:8}  scripts", next.into_inner());
+    println!("{:8}  scripts", next.into_inner() - 1);
     finish(tally.values().sum(), failed.into_inner())
 }

@@ -1,4 +1,4 @@
-//! Texts read line by line (01, "Text" and "Numbers from the input"; 02, jobs 1, 3 and 7).
+//! Texts read line by line (01, "Text" and "Numbers from the input"; 02, jobs 1, 3, 7 and 10).
 
 use crate::nests::*;
 
@@ -46,6 +46,7 @@ pub fn take_frame(nest: &mut Nest, frame: &[u8]) -> Result<(), u8> {
     let at = |i: usize| frame[i] as usize;
     match (frame[0], frame.len()) {
         (kind @ (DO | ENDDO | STATEMENT), 1) => take_point(nest, kind),
+        (FLAGGED, 1) => take_flagged(nest),
         (kind @ INDEPENDENT, 3) => take_dependence(nest, Dependence { kind, d: 0, s: at(1), t: at(2) }),
         (kind @ CARRIED, 4) => take_dependence(nest, Dependence { kind, d: at(1), s: at(2), t: at(3) }),
         (BARRED, 2) => take_barred(nest, at(1)),
@@ -66,6 +67,13 @@ pub fn take_point(nest: &mut Nest, kind: u8) -> Result<(), u8> {
         ENDDO => { let d = nest.open.pop().unwrap(); nest.end[d] = point }
         _ => {}
     }
+    Ok(())
+}
+
+/// A DO of a loop that may not run is refused where a DO would be.
+pub fn take_flagged(nest: &mut Nest) -> Result<(), u8> {
+    take_point(nest, DO)?;
+    nest.flagged.push(nest.points.len() - 1);
     Ok(())
 }
 

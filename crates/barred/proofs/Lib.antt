@@ -6,4 +6,3 @@ pub mod RingNests
 pub mod Reduced
 pub mod ReducedNest
 pub mod Blocked
-pub mod Bars

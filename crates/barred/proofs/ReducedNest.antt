@@ -75,6 +75,7 @@ module _ (ps bs : List ℕ) (shape : isShape ps ≡ true) (one : oneLoop ps ≡ 
         all-deps = reduced-deps ds fits (none-shut ps bs ds h);
         few-bars = omega arith;
         all-bars = refl;
+        all-flags = refl;
       })
     where
       points : length (ringPoints (rank bs (length ps - 1))) ≤ length ps

@@ -12,12 +12,5 @@ pub fn barred_of(nest: Nest) -> Placement
     requires { ⌜ IsCounted nest ⌝ }
     ensures { λ r. ⌜ ((g : ℕ) → holds (r .words) g ≡ isIn g (nestIn nest .barred)) ⌝ }
 {
-    let mut set = Placement::empty();
-    let mut i = nest.bars;
-    while 0 < i {
-        i -= 1;
-        let g = nest.barred[i] as usize;
-        set = set.put(g);
-    }
-    set
+    placements::set_of(&nest.barred, nest.bars)
 }

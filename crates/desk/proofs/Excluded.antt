@@ -56,6 +56,8 @@ P-nest =
           copies 506 (dependence 0 0 0 0);
       bars = 0;
       barred = copies 255 0;
+      flags = 0;
+      flagged = copies 256 0;
     }
 
 -- the key's word has the bits 5 and 11
@@ -89,6 +91,8 @@ P-holds =
       many-fits = omega arith;
       bars-is = refl;
       bars-fit = omega arith;
+      flags-is = refl;
+      flags-fit = omega arith;
     })
     (record { no-gaps = no-words; no-cuts = λ i. copies-at 512 0 i; uncut-is = refl })
     (record { moves-are = refl; ring = record { head-fits = omega arith; many-fits = omega arith } })

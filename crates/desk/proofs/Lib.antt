@@ -3,6 +3,7 @@ pub mod Held
 pub mod Loads
 pub mod Ready
 pub mod Answers
+pub mod Choosing
 pub mod Judged
 pub mod Made
 pub mod TwoDesks

@@ -16,6 +16,7 @@ use Rattle.nests.specs.Nests.{Dep, Nest}
 use Rattle.nests.specs.Stored.{depsIn, nestIn}
 use Rattle.nests.specs.Valid.{isValid}
 use Rattle.nests.proofs.Deps.{valid-is}
+use Rattle.nests.proofs.Flags.{flags-few}
 use Rattle.placements.specs.Verdicts.{Verdict, Uncut, Dearer, Best}
 use Rattle.placements.proofs.Words.{holds-empty, gaps-none}
 use Rattle.moves.specs.Ring as Ring
@@ -107,6 +108,8 @@ deskOut n =
             deps = depsOut (n .deps);
             bars = length (n .barred);
             barred = n .barred;
+            flags = length (n .flagged);
+            flagged = n .flagged;
           };
       planned = false;
       key = record { words = 0 ∷ (0 ∷ (0 ∷ (0 ∷ []))) };
@@ -119,15 +122,22 @@ deps-out : (es : List Dep) → depsIn (length es) (depsOut es) ≡ es
 deps-out [] = refl
 deps-out (e ∷ es) = ap (λ (fs : List Dep). e ∷ fs) (deps-out es)
 
-same-nest : (n m : Nest) → n .points ≡ m .points → n .deps ≡ m .deps → n .barred ≡ m .barred → n ≡ m
-same-nest n m p q b = rw (← p, ← q, ← b)
+same-nest
+    : (n m : Nest)
+    → n .points ≡ m .points
+    → n .deps ≡ m .deps
+    → n .barred ≡ m .barred
+    → n .flagged ≡ m .flagged
+    → n ≡ m
+same-nest n m p q b f = rw (← p, ← q, ← b, ← f)
 
 nest-out : (n : Nest) → nestIn (deskOut n .nest) ≡ n
 nest-out n =
     let p : nestIn (deskOut n .nest) .points ≡ n .points = take-length (n .points) in
     let q : nestIn (deskOut n .nest) .deps ≡ n .deps = deps-out (n .deps) in
     let b : nestIn (deskOut n .nest) .barred ≡ n .barred = take-length (n .barred) in
-    same-nest (nestIn (deskOut n .nest)) n p q b
+    let f : nestIn (deskOut n .nest) .flagged ≡ n .flagged = take-length (n .flagged) in
+    same-nest (nestIn (deskOut n .nest)) n p q b f
 
 holds-out : (n : Nest) → isValid n ≡ true → Holds (deskOut n) (loadedDesk n)
 unfolding Ring.backFrom
@@ -136,6 +146,7 @@ holds-out n v =
     let p : length (nestIn (deskOut n .nest) .points) ≡ length (n .points) = ap (λ (m : Nest). length (m .points)) e in
     let q : length (nestIn (deskOut n .nest) .deps) ≡ length (n .deps) = ap (λ (m : Nest). length (m .deps)) e in
     let b : length (nestIn (deskOut n .nest) .barred) ≡ length (n .barred) = ap (λ (m : Nest). length (m .barred)) e in
+    let f : length (nestIn (deskOut n .nest) .flagged) ≡ length (n .flagged) = ap (λ (m : Nest). length (m .flagged)) e in
     let w = valid-is n v in
     let none = gaps-none (0 ∷ (0 ∷ (0 ∷ (0 ∷ [])))) (λ i l. holds-empty i) in
     held (deskOut n) true n false [] refl e refl none
@@ -146,6 +157,8 @@ holds-out n v =
       many-fits = w .few-deps;
       bars-is = sym b;
       bars-fit = w .few-bars;
+      flags-is = sym f;
+      flags-fit = flags-few 0 (n .points) (n .flagged) (w .all-flags);
     })
     (record { no-gaps = none; no-cuts = λ i. refl; uncut-is = refl })
     (record { moves-are = refl; ring = record { head-fits = omega arith; many-fits = omega arith } })

@@ -16,9 +16,10 @@ use Rattle.laws.proofs.Stores.{stored}
 use Rattle.nests.specs.declared.Nest as DN
 use Rattle.nests.specs.Kinds.{POINTS}
 use Rattle.nests.specs.Stored.{nestIn, IsCounted}
+use Rattle.nests.proofs.Stored.{counted-bars}
 use Rattle.placements.specs.Placements.{isFree}
+use Rattle.placements.proofs.Sets.{none-behind, number-at}
 use Rattle.barred.specs.Ranks.{rank}
-use Rattle.barred.proofs.Bars.{none-behind, bar-at}
 use Rattle.barred.proofs.Ranks.{rank-zero, rank-le}
 use Rattle.tables.proofs.Entries.{copies-there}
 use Rattle.foundation.specs.Tables.{HasFree, HasRanks}
@@ -38,7 +39,7 @@ free-start n p =
     record {
       within = omega arith;
       long = refl;
-      free-is = λ g l. copies-there POINTS 1 g l ∙ rw (none-behind n p) refl;
+      free-is = λ g l. copies-there POINTS 1 g l ∙ rw (none-behind (n .barred) (n .bars) (counted-bars n p)) refl;
     }
 
 -- a gap in front of the barred ones
@@ -60,7 +61,7 @@ free-on n p i some xs h f =
     record {
       within = omega (arith, f .within);
       long = length-set xs g 0 ∙ f .long;
-      free-is = rw (bar-at n p i some (f .within)) (λ j l.
+      free-is = rw (number-at (n .barred) (n .bars) (counted-bars n p) i some (f .within)) (λ j l.
           stored xs g 0 j (one (isFree (g ∷ bs) j)) (omega (arith, f .long))
           (λ e. rw e (barred-here g bs))
           (λ e. rw (free-elsewhere g bs j e) (f .free-is j l)));

@@ -96,14 +96,15 @@ module _ (ps bs : List ℕ) (e : Dep) (es : List Dep) where
       or-left (someShut ps bs xs) y
   shut-there (x ∷ xs) (suc i) q h = or-right (isShut ps bs x) (shut-there xs i q h)
 
--- a nest with nothing barred, part by part
+-- a nest with nothing barred or flagged, part by part
 same-nest
-    : (ps qs : List ℕ) (ds es : List Dep) (bs : List ℕ)
+    : (ps qs : List ℕ) (ds es : List Dep) (bs fs : List ℕ)
     → ps ≡ qs
     → ds ≡ es
     → bs ≡ []
-    → _≡_ {A = Nest} (record { points = ps; deps = ds; barred = bs }) (nest qs es)
-same-nest ps qs ds es bs p d b = rw (p, d, b) refl
+    → fs ≡ []
+    → _≡_ {A = Nest} (record { points = ps; deps = ds; barred = bs; flagged = fs }) (nest qs es)
+same-nest ps qs ds es bs fs p d b f = rw (p, d, b, f) refl
 
 -- after the last turn
 pub reduce-done
@@ -123,12 +124,14 @@ reduce-done n ring i counted l r p =
     rw k
     (deps-by bs (topOf n) (n .many) (n .deps) (ring .deps) many (p .long) (λ j h. p .passed j (omega arith) h)) in
     let bars : take (ring .bars) (ring .barred) ≡ [] = rw (r .no-bars) refl in
+    let flags : take (ring .flags) (ring .flagged) ≡ [] = rw (r .no-flags) refl in
     record {
       blocked-is = sym open-all;
       ring-is =
           rw open-all
           (same-nest (nestIn ring .points) (ringPoints (topOf n)) (nestIn ring .deps)
-          (reducedDeps bs (topOf n) (nestIn n .deps)) (nestIn ring .barred) (r .points-are) deps bars);
+          (reducedDeps bs (topOf n) (nestIn n .deps)) (nestIn ring .barred) (nestIn ring .flagged) (r .points-are) deps
+          bars flags);
       counted =
           record {
             count-is = r .count-is;
@@ -137,6 +140,8 @@ reduce-done n ring i counted l r p =
             many-fits = omega (arith, counted .many-fits);
             bars-is = rw bars (r .no-bars);
             bars-fit = omega (arith, r .no-bars);
+            flags-is = rw flags (r .no-flags);
+            flags-fit = omega (arith, r .no-flags);
           };
     }
 

@@ -44,13 +44,15 @@ end-within (suc m) k l f = rw (ne-eqb (suc m) 0 (λ z. omega arith)) (omega arit
 abbrev pub topOf : DN.Nest → ℕ
 topOf n = rank (nestIn n .barred) (length (nestIn n .points) - 1)
 
--- the stored nest has the points of the ring, as many dependences as before, and nothing barred
+-- the stored nest has the points of the ring, as many dependences as before, and nothing barred or
+-- flagged
 pub record IsRing (n ring : DN.Nest) : Type 0 where
   pub points-are : nestIn ring .points ≡ ringPoints (topOf n)
   pub count-is : ring .count ≡ length (nestIn ring .points)
   pub count-fits : ring .count ≤ POINTS
   pub same-many : ring .many ≡ n .many
   pub no-bars : ring .bars ≡ 0
+  pub no-flags : ring .flags ≡ 0
 
 -- a stored nest with other dependences
 abbrev pub withDeps : DN.Nest → List DE.Dependence → DN.Nest
@@ -62,6 +64,8 @@ withDeps n ds =
       deps = ds;
       bars = n .bars;
       barred = n .barred;
+      flags = n .flags;
+      flagged = n .flagged;
     }
 
 pub ring-kept : (n ring : DN.Nest) (ds : List DE.Dependence) → IsRing n ring → IsRing n (withDeps ring ds)
@@ -72,6 +76,7 @@ ring-kept n ring ds r =
       count-fits = r .count-fits;
       same-many = r .same-many;
       no-bars = r .no-bars;
+      no-flags = r .no-flags;
     }
 
 module _ (n : DN.Nest) (counted : IsCounted n) (valid : isValid (nestIn n) ≡ true)
@@ -124,6 +129,8 @@ module _ (n : DN.Nest) (counted : IsCounted n) (valid : isValid (nestIn n) ≡ t
         deps = n .deps;
         bars = 0;
         barred = n .barred;
+        flags = 0;
+        flagged = n .flagged;
       })
   ring-start end e =
       let are : take (end + 1) (set (n .points) end ENDDO) ≡ ringPoints (topOf n) = rw e points-reduced in
@@ -133,4 +140,5 @@ module _ (n : DN.Nest) (counted : IsCounted n) (valid : isValid (nestIn n) ≡ t
         count-fits = omega (arith, end-fits, counted .count-fits);
         same-many = refl;
         no-bars = refl;
+        no-flags = refl;
       }

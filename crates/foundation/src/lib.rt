@@ -121,6 +121,7 @@ pub fn reduce(nest: Nest, ranks: &[u8; Nest::POINTS]) -> Reduced
     ring.points[end] = nests::ENDDO;
     ring.count = end + 1;
     ring.bars = 0;
+    ring.flags = 0;
     let mut i = nest.many;
     while 0 < i {
         i -= 1;

@@ -4,6 +4,7 @@ ghost use Rattle.desk.specs.Desks.{IsMade, IsMadePlain};
 ghost use Rattle.desk.specs.Says.{EmptySays, LoadSays, PlanSays, CountSays, WriteSays, ListSays, OverSays};
 ghost use Rattle.desk.specs.Says.{markIn, verdictIn};
 ghost use Rattle.screen.specs.Says.{PutSays, LiftSays, BackSays};
+ghost use Rattle.skipping.specs.Says.{MissingSays};
 ghost use Rattle.slips.specs.Says.{CandidateSays, ExaminerSays};
 ghost use Rattle.textbook.specs.Says.{TextbookSays};
 ghost use Rattle.host.specs.Says.{MarkSays, SittingSays};
@@ -184,6 +185,14 @@ pub extern "C" fn desk_examiner_slip(desk: Desk, text: &[u8], out: &mut [u8]) ->
     ensures { λ r. ⌜ ExaminerSays desk (now (text .entry)) (now (out .entry)) (now (out .exit)) r ⌝ }
 {
     slips::examiner_slip(desk, text, out)
+}
+
+#[no_mangle]
+pub extern "C" fn desk_missing_runs(desk: Desk) -> Chosen
+    requires { ⌜ IsMade desk ⌝ }
+    ensures { λ r. ⌜ MissingSays desk r ⌝ }
+{
+    skipping::missing_runs(desk)
 }
 
 #[no_mangle]

@@ -1,5 +1,6 @@
--- The definitions run: a paper of one loop before paper Q, the blank paper twice, papers at the limits and past them.
--- Main statements: `worked-joint`, `worked-limits`.
+-- The definitions run: a paper of one loop before paper Q, the blank paper twice, papers with flagged loops, papers at
+-- the limits and past them.
+-- Main statements: `worked-joint`, `worked-flags`, `worked-limits`.
 use mathlib.Core.Path.{_≡_, refl}
 use mathlib.Core.Bool.{true, false}
 use mathlib.Core.List.{List, [], _∷_}
@@ -15,7 +16,8 @@ use Rattle.planner.specs.Sweep.{stepChild, next, step, walk, sweep, close, valu
 use Rattle.planner.specs.Sweep.{childSome, someOf, costOf, frontOf, leftOf, choiceOf, layOf}
 use Rattle.planner.specs.Plan.{tableOf, tableFrom, withRow, noTables}
 use Rattle.planner.specs.Plan as Plan
-use Rattle.texts.specs.NestTexts.{blank}
+use Rattle.texts.specs.Pieces.{Point, Depend, Flagged}
+use Rattle.texts.specs.NestTexts.{blank, pointPieces, depPieces, barPieces, piecesOf}
 use Rattle.keys.specs.KeyOf.{plainKey, keyOf}
 use Rattle.keys.proofs.FirstCases.{paper-either}
 use Rattle.joining.specs.JointNests.{joined, joinedGaps, exceeds}
@@ -51,6 +53,26 @@ worked-joint =
       blanks = refl;
       blank-key = refl;
     }
+
+-- the papers 01 04 03 02 02 with 12010202 and 04 03 02: the flagged DOs of both are flagged in the joint paper
+abbrev pub paper-inner : Nest
+paper-inner =
+    record { points = 1 ∷ 1 ∷ 3 ∷ 2 ∷ 2 ∷ []; deps = carried 1 2 2 ∷ []; barred = []; flagged = 1 ∷ [] }
+
+abbrev pub paper-outer : Nest
+paper-outer = record { points = 1 ∷ 3 ∷ 2 ∷ []; deps = []; barred = []; flagged = 0 ∷ [] }
+
+pub record Flags : Type 0 where
+  pub flagged : joined paper-inner paper-outer .flagged ≡ 2 ∷ 6 ∷ []
+  pub valid : isValid (joined paper-inner paper-outer) ≡ true
+  pub pieces
+      : piecesOf (joined paper-inner paper-outer) ≡
+      Point 1 ∷ Point 1 ∷ Flagged ∷ Point 3 ∷ Point 2 ∷ Point 2 ∷
+      Flagged ∷ Point 3 ∷ Point 2 ∷ Point 2 ∷ Depend (carried 2 3 3) ∷ []
+
+pub worked-flags : Flags
+unfolding pointPieces depPieces barPieces
+worked-flags = record { flagged = refl; valid = refl; pieces = refl }
 
 -- seven loops in one another, and eight
 abbrev pub paper-seven : Nest

@@ -6,24 +6,27 @@ use mathlib.Core.Path.{_≡_, refl, sym, ap, _∙_}
 use mathlib.Core.Bool.{true, false}
 use mathlib.Core.List.{List, [], _∷_, _++_, append-assoc, append-nil}
 use mathlib.Core.Logic.{inl, inr, ⊎-elim}
-use Prim.Native.Nat.{ℕ, _+_, _*_, _≤_, _<_}
+use Prim.Native.Nat.{ℕ, suc, _+_, _*_, _≤_, _<_}
 use native.Mathlib.Omega.{arith}
+use lib.Dec.{eqb}
 use lib.ListN.{length, length-append}
 use Rattle.laws.proofs.Tests.{eq-or}
-use Rattle.nests.specs.Kinds.{DO, ENDDO, INDEPENDENT, POINTS}
+use Rattle.laws.proofs.Choices.{pick-by}
+use Rattle.nests.specs.Kinds.{DO, ENDDO, FLAGGED, INDEPENDENT, POINTS}
 use Rattle.nests.specs.Nests.{Dep, Nest}
 use Rattle.nests.specs.Valid.{isValid}
 use Rattle.nests.proofs.Deps.{Fits, valid-is, deps-fit}
 use Rattle.nests.proofs.Loops.{end-there}
 use Rattle.lines.specs.Lines.{lineText}
 use Rattle.lines.proofs.Writing.{text-length}
-use Rattle.texts.specs.Pieces.{Piece, Point, Depend, pieceFrame, depFrame, piecesText}
+use Rattle.texts.specs.Pieces.{Piece, Point, Depend, Flagged, pieceFrame, depFrame, piecesText}
 use Rattle.texts.specs.NestTexts.{pointPieces, depPieces, barPieces, nestText}
 use Rattle.joining.specs.JointNests.{movedDep, movedDeps, joined, secondAt, Papers, exceeds}
 use Rattle.joining.specs.Written.{pointsText, insideText, depsText, StaysBytes, StayBytes}
 use Rattle.joining.proofs.JointShapes.{joint-length}
+use Rattle.joining.proofs.JointFlags.{joint-pieces}
 use Rattle.joining.proofs.JointValid.{joint-by}
-use Rattle.joining.proofs.Measuring.{deps-cons}
+use Rattle.joining.proofs.Measuring.{pieces-cons, deps-cons}
 use Rattle.joining.proofs.PiecesWritten.{line-length, ring-length}
 
 -- ---- one list of pieces after another
@@ -35,51 +38,57 @@ pieces-both (x ∷ xs) ys =
     ap (λ (t : List ℕ). lineText (pieceFrame x) ++ t) (pieces-both xs ys) ∙
     sym (append-assoc (lineText (pieceFrame x)) (piecesText xs) (piecesText ys))
 
-point-pieces-both : (ps qs : List ℕ) → pointPieces (ps ++ qs) ≡ pointPieces ps ++ pointPieces qs
-unfolding pointPieces
-point-pieces-both [] qs = refl
-point-pieces-both (p ∷ ps) qs = ap (λ (xs : List Piece). Point p ∷ xs) (point-pieces-both ps qs)
-
 dep-pieces-both : (xs ys : List Dep) → depPieces (xs ++ ys) ≡ depPieces xs ++ depPieces ys
 unfolding depPieces
 dep-pieces-both [] ys = refl
 dep-pieces-both (x ∷ xs) ys = ap (λ (zs : List Piece). Depend x ∷ zs) (dep-pieces-both xs ys)
 
-points-both : (ps qs : List ℕ) → pointsText (ps ++ qs) ≡ pointsText ps ++ pointsText qs
-points-both ps qs = ap piecesText (point-pieces-both ps qs) ∙ pieces-both (pointPieces ps) (pointPieces qs)
-
 -- ---- the joint text in its parts
 
 -- points, then dependences, where nothing is barred
-pub nest-text : (n : Nest) → n .barred ≡ [] → nestText n ≡ pointsText (n .points) ++ depsText (n .deps)
+pub nest-text : (n : Nest) → n .barred ≡ [] → nestText n ≡ pointsText n ++ depsText (n .deps)
 unfolding nestText barPieces
 nest-text n none =
-    let xs = pointPieces (n .points) in
+    let xs = pointPieces 0 (n .points) (n .flagged) in
     let ys = depPieces (n .deps) in
     ap (λ (bs : List ℕ). piecesText (xs ++ (ys ++ barPieces bs))) none ∙
     ap (λ (zs : List Piece). piecesText (xs ++ zs)) (append-nil ys) ∙
     pieces-both xs ys
 
-pub joint-points : (n m : Nest) → pointsText (joined n m .points) ≡ lineText (DO ∷ []) ++ insideText n m
-unfolding piecesText pointPieces
-joint-points n m =
-    let ps = n .points in
-    let qs = m .points in
+pub joint-points : (n m : Nest) → Papers n m → pointsText (joined n m) ≡ lineText (DO ∷ []) ++ insideText n m
+unfolding piecesText
+joint-points n m papers =
+    let xs = pointPieces 0 (n .points) (n .flagged) in
+    let ys = pointPieces 0 (m .points) (m .flagged) in
+    let one = valid-is n (papers .first) .all-flags in
+    let two = valid-is m (papers .second) .all-flags in
+    ap piecesText (joint-pieces (n .points) (m .points) (n .flagged) (m .flagged) one two) ∙
     ap (λ (t : List ℕ). lineText (DO ∷ []) ++ t)
-    (points-both ps (qs ++ (ENDDO ∷ [])) ∙
-    ap (λ (t : List ℕ). pointsText ps ++ t)
-    (points-both qs (ENDDO ∷ []) ∙ ap (λ (t : List ℕ). pointsText qs ++ t) (append-nil (lineText (ENDDO ∷ [])))))
+    (pieces-both xs (ys ++ (Point ENDDO ∷ [])) ∙
+    ap (λ (t : List ℕ). piecesText xs ++ t)
+    (pieces-both ys (Point ENDDO ∷ []) ∙ ap (λ (t : List ℕ). piecesText ys ++ t) (append-nil (lineText (ENDDO ∷ [])))))
 
 pub joint-deps : (xs ys : List Dep) → depsText (xs ++ ys) ≡ depsText xs ++ depsText ys
 joint-deps xs ys = ap piecesText (dep-pieces-both xs ys) ∙ pieces-both (depPieces xs) (depPieces ys)
 
 -- ---- its length
 
-pub points-length : (ps : List ℕ) → length (pointsText ps) ≡ 3 * length ps
+-- a flagged DO has a line as long as every point
+points-length : (i : ℕ) (ps fs : List ℕ) → length (piecesText (pointPieces i ps fs)) ≡ 3 * length ps
 unfolding piecesText pointPieces
-points-length [] = refl
-points-length (p ∷ ps) =
-    omega (arith, length-append (lineText (p ∷ [])) (pointsText ps), text-length (p ∷ []), points-length ps)
+points-length i [] fs = refl
+points-length i (p ∷ ps) [] =
+    omega (arith, pieces-cons (Point p) (pointPieces (suc i) ps []), text-length (p ∷ []), points-length (suc i) ps [])
+points-length i (p ∷ ps) (f ∷ fs) =
+    let taken = points-length (suc i) ps fs in
+    let later = points-length (suc i) ps (f ∷ fs) in
+    pick-by
+    (λ (xs : List Piece). length (piecesText xs) ≡ 3 * suc (length ps))
+    {t = eqb i f}
+    {a = Flagged ∷ pointPieces (suc i) ps fs}
+    {b = Point p ∷ pointPieces (suc i) ps (f ∷ fs)}
+    (λ z. omega (arith, pieces-cons Flagged (pointPieces (suc i) ps fs), text-length (FLAGGED ∷ []), taken))
+    (λ z. omega (arith, pieces-cons (Point p) (pointPieces (suc i) ps (f ∷ fs)), text-length (p ∷ []), later))
 
 -- a dependence has a line as long where it is moved along
 line-same : (k : ℕ) (e : Dep) → length (lineText (depFrame (movedDep k e))) ≡ length (lineText (depFrame e))
@@ -110,8 +119,8 @@ joint-text-length n m =
     omega (
       arith,
       ap length (nest-text j refl),
-      length-append (pointsText (j .points)) (depsText (j .deps)),
-      points-length (j .points),
+      length-append (pointsText j) (depsText (j .deps)),
+      points-length 0 (j .points) (j .flagged),
       joint-length (n .points) (m .points),
       ap length (joint-deps xs ys),
       length-append (depsText xs) (depsText ys),

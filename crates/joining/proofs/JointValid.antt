@@ -1,5 +1,5 @@
--- The joint nest of two valid nests is valid exactly if no limit is exceeded: its points make loops and its dependences
--- are placed well, so that only the limits are left.
+-- The joint nest of two valid nests is valid exactly if no limit is exceeded: its points make loops, its dependences
+-- are placed well and its flags are DOs, so that only the limits are left.
 -- Main definition: `Joint`. Main statements: `joined-valid`, `joint-by`.
 use mathlib.Core.Path.{_≡_, refl, _∙_}
 use mathlib.Core.Bool.{true, false, _||_, not}
@@ -19,6 +19,7 @@ use Rattle.joining.proofs.Depths.{shape-deepest}
 use Rattle.joining.proofs.Parts.{Part}
 use Rattle.joining.proofs.JointShapes.{joint-shape, first-part, second-part}
 use Rattle.joining.proofs.PartDeps.{deps-moved}
+use Rattle.joining.proofs.JointFlags.{joint-flags}
 
 deps-both
     : (ps : List ℕ) (xs ys : List Dep)
@@ -77,6 +78,8 @@ module _ (n m : Nest) (papers : Papers n m) where
         (second-part (n .points) (m .points) (one .shape) (two .shape) whole) (m .deps) (two .all-deps));
     few-bars = omega arith;
     all-bars = refl;
+    all-flags =
+        joint-flags (n .points) (m .points) (n .flagged) (m .flagged) (one .all-flags) (two .all-flags);
   }
     where
       whole : isShape (joinedPoints (n .points) (m .points)) ≡ true

@@ -3,8 +3,9 @@ pub mod Parts
 pub mod Depths
 pub mod JointShapes
 pub mod PartDeps
-pub mod JointValid
 pub mod MovedGaps
+pub mod JointFlags
+pub mod JointValid
 pub mod SubNests
 pub mod BothLists
 pub mod JointPlacements

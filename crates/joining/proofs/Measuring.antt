@@ -12,7 +12,7 @@ use Rattle.nests.specs.Nests.{Dep}
 use Rattle.nests.specs.Loops.{deeper}
 use Rattle.nests.proofs.Scan.{deeper-grows}
 use Rattle.lines.specs.Lines.{lineText}
-use Rattle.texts.specs.Pieces.{depFrame, piecesText}
+use Rattle.texts.specs.Pieces.{Piece, Depend, pieceFrame, depFrame, piecesText}
 use Rattle.texts.specs.NestTexts.{depPieces}
 use Rattle.texts.proofs.ProgramTexts.{frame-length}
 use Rattle.joining.specs.JointNests.{deepestFrom, deepest}
@@ -62,11 +62,17 @@ pub record Summed (es : List Dep) (sum i : ℕ) : Type 0 where
 pub summed-begin : (es : List Dep) → Summed es 0 0
 summed-begin es = record { low = omega arith; is = omega arith }
 
+pub pieces-cons
+    : (x : Piece) (xs : List Piece)
+    → length (piecesText (x ∷ xs)) ≡ length (lineText (pieceFrame x)) + length (piecesText xs)
+unfolding piecesText
+pieces-cons x xs = length-append (lineText (pieceFrame x)) (piecesText xs)
+
 pub deps-cons
     : (e : Dep) (es : List Dep)
     → length (depsText (e ∷ es)) ≡ length (lineText (depFrame e)) + length (depsText es)
-unfolding piecesText depPieces
-deps-cons e es = length-append (lineText (depFrame e)) (depsText es)
+unfolding depPieces
+deps-cons e es = pieces-cons (Depend e) (depPieces es)
 
 module _ {es : List Dep} {sum i : ℕ} (p : Summed es sum i) where
   pub summed-on

@@ -8,7 +8,7 @@ use lib.Dec.{eqb, ltb}
 use lib.ListN.{length}
 use Rattle.laws.specs.Choice.{pick}
 use Rattle.nests.specs.Kinds.{DO, ENDDO, INDEPENDENT, POINTS, DEPTH, DEPENDENCES}
-use Rattle.nests.specs.Nests.{Dep, dep, Nest, nest}
+use Rattle.nests.specs.Nests.{Dep, dep, Nest}
 use Rattle.nests.specs.Loops.{deeper}
 use Rattle.nests.specs.Valid.{isValid}
 
@@ -20,7 +20,7 @@ abbrev pub movedDeps : ℕ → List Dep → List Dep
 movedDeps k [] = []
 movedDeps k (e ∷ es) = movedDep k e ∷ movedDeps k es
 
--- a placement whose gaps are moved along by k
+-- gaps moved along by k; the same of points
 abbrev pub movedGaps : ℕ → List ℕ → List ℕ
 movedGaps k [] = []
 movedGaps k (g ∷ gs) = (k + g) ∷ movedGaps k gs
@@ -33,10 +33,15 @@ abbrev pub secondAt : Nest → ℕ
 secondAt n = suc (length (n .points))
 
 -- a new outer loop round the first nest, then the second, all point numbers moved along, the first paper's
--- dependences before the second's; nothing is barred
+-- dependences before the second's; nothing is barred, and flagged is what was flagged
 abbrev pub joined : Nest → Nest → Nest
 joined n m =
-    nest (joinedPoints (n .points) (m .points)) (movedDeps 1 (n .deps) ++ movedDeps (secondAt n) (m .deps))
+    record {
+      points = joinedPoints (n .points) (m .points);
+      deps = movedDeps 1 (n .deps) ++ movedDeps (secondAt n) (m .deps);
+      barred = [];
+      flagged = movedGaps 1 (n .flagged) ++ movedGaps (secondAt n) (m .flagged);
+    }
 
 -- a placement of each nest, as a placement of the joint nest
 abbrev pub joinedGaps : Nest → List ℕ → List ℕ → List ℕ

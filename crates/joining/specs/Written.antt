@@ -1,8 +1,10 @@
 -- The joint text in its parts, and what their writers promise and ask.
--- Main definitions: `pointsText`, `depsText`, `Writes`, `StayBytes`.
+-- Main definitions: `pointsText`, `isNext`, `depsText`, `Writes`, `StayBytes`.
 use mathlib.Core.Path.{_≡_}
+use mathlib.Core.Bool.{Bool, false}
 use mathlib.Core.List.{List, [], _∷_, _++_}
 use Prim.Native.Nat.{ℕ, _+_, _<_}
+use lib.Dec.{eqb}
 use lib.ListN.{length}
 use Rattle.laws.specs.Members.{Among}
 use Rattle.nests.specs.declared.Nest as DN
@@ -19,16 +21,21 @@ use Rattle.joining.specs.JointNests.{joined}
 abbrev pub jointIn : DN.Nest → DN.Nest → Nest
 jointIn n m = joined (nestIn n) (nestIn m)
 
--- points as text
-abbrev pub pointsText : List ℕ → List ℕ
-pointsText ps = piecesText (pointPieces ps)
+-- the points of a nest as text, the flagged ones as such
+abbrev pub pointsText : Nest → List ℕ
+pointsText n = piecesText (pointPieces 0 (n .points) (n .flagged))
+
+-- point i is the first of these flagged ones
+abbrev pub isNext : ℕ → List ℕ → Bool
+isNext i [] = false
+isNext i (f ∷ fs) = eqb i f
 
 -- what follows the first nest's points in a joint nest, and what follows its DO
 abbrev pub secondText : Nest → List ℕ
-secondText m = pointsText (m .points) ++ lineText (ENDDO ∷ [])
+secondText m = pointsText m ++ lineText (ENDDO ∷ [])
 
 abbrev pub insideText : Nest → Nest → List ℕ
-insideText n m = pointsText (n .points) ++ secondText m
+insideText n m = pointsText n ++ secondText m
 
 -- dependences as text
 abbrev pub depsText : List Dep → List ℕ

@@ -2,20 +2,21 @@
 ghost use mathlib.Core.Path.{_≡_};
 ghost use mathlib.Core.Bool.{true, false};
 ghost use Prim.Native.Nat.{_≤_, max};
-ghost use lib.ListN.{length, take};
+ghost use lib.ListN.{length, take, drop};
 ghost use Rattle.nests.specs.Stored.{depIn, nestIn, IsCounted};
 ghost use Rattle.lines.specs.Lines.{lineText};
 ghost use Rattle.texts.specs.Pieces.{depFrame};
 ghost use Rattle.texts.specs.NestTexts.{nestText};
 ghost use Rattle.joining.specs.JointNests.{movedDep, movedDeps, Papers, deepest, exceeds};
 ghost use Rattle.joining.specs.Says.{reply, JoinSays};
-ghost use Rattle.joining.specs.Written.{jointIn, pointsText, secondText, insideText, depsText, Writes};
-ghost use Rattle.joining.specs.Written.{StaysBytes, StayBytes};
+ghost use Rattle.joining.specs.Written.{jointIn, pointsText, isNext, secondText, insideText};
+ghost use Rattle.joining.specs.Written.{depsText, Writes, StaysBytes, StayBytes};
 use lines::put_frame;
 use nests::CARRIED;
 use nests::DO;
 use nests::Dependence;
 use nests::ENDDO;
+use nests::FLAGGED;
 use nests::INDEPENDENT;
 use nests::Nest;
 use nests::deeper;
@@ -23,6 +24,7 @@ use texts::read_nest;
 
 // The reply: the number of the refusal, the text at fault (1 or 2, or 0 for neither) with its line, zeros for none; and
 // the length of the joint text.
+#[repr(C)]
 pub struct Joined {
     pub number: u8,
     pub text: u8,
@@ -177,8 +179,9 @@ fn write_joined(n: Nest, m: Nest, out: &mut [u8]) -> usize
 fn put_all_points(n: Nest, m: Nest, out: &mut [u8]) -> usize
     requires { ⌜ IsCounted n ⌝ }
     requires { ⌜ IsCounted m ⌝ }
-    requires { ⌜ length (pointsText (jointIn n m .points)) ≤ length (now out) ⌝ }
-    ensures { λ r. ⌜ Writes (pointsText (jointIn n m .points)) (now (out .entry)) (now (out .exit)) r ⌝ }
+    requires { ⌜ Papers (nestIn n) (nestIn m) ⌝ }
+    requires { ⌜ length (pointsText (jointIn n m)) ≤ length (now out) ⌝ }
+    ensures { λ r. ⌜ Writes (pointsText (jointIn n m)) (now (out .entry)) (now (out .exit)) r ⌝ }
 {
     let open = [DO];
     let at = put_frame(out, &open);
@@ -192,7 +195,7 @@ fn put_inside(n: Nest, m: Nest, out: &mut [u8]) -> usize
     requires { ⌜ length (insideText (nestIn n) (nestIn m)) ≤ length (now out) ⌝ }
     ensures { λ r. ⌜ Writes (insideText (nestIn n) (nestIn m)) (now (out .entry)) (now (out .exit)) r ⌝ }
 {
-    let at = put_points(&n.points, n.count, out);
+    let at = put_points(n, out);
     at + put_second(m, &mut out[at..])
 }
 
@@ -203,7 +206,7 @@ fn put_second(m: Nest, out: &mut [u8]) -> usize
     ensures { λ r. ⌜ Writes (secondText (nestIn m)) (now (out .entry)) (now (out .exit)) r ⌝ }
 {
     let close = [ENDDO];
-    let at = put_points(&m.points, m.count, out);
+    let at = put_points(m, out);
     at + put_frame(&mut out[at..], &close)
 }
 
@@ -221,20 +224,41 @@ fn put_all_deps(n: Nest, m: Nest, out: &mut [u8]) -> usize
     at + put_deps(m, (n.count + 1) as u8, &mut out[at..])
 }
 
-// Writes the first points, a line each, from the start of the lent part; gives the length.
-fn put_points(all: &[u8], count: usize, out: &mut [u8]) -> usize
-    requires { ⌜ count ≤ length (now all) ⌝ }
-    requires { ⌜ length (pointsText (take count (now all))) ≤ length (now out) ⌝ }
-    ensures { λ r. ⌜ Writes (pointsText (take count (now (all .entry)))) (now (out .entry)) (now (out .exit)) r ⌝ }
+// Writes the points, the flagged ones as such, a line each, from the start of the lent part; gives the length.
+fn put_points(nest: Nest, out: &mut [u8]) -> usize
+    requires { ⌜ IsCounted nest ⌝ }
+    requires { ⌜ length (pointsText (nestIn nest)) ≤ length (now out) ⌝ }
+    ensures { λ r. ⌜ Writes (pointsText (nestIn nest)) (now (out .entry)) (now (out .exit)) r ⌝ }
 {
+    let count = nest.count;
+    let flags = nest.flags;
     let mut at: usize = 0;
+    let mut f: usize = 0;
     let mut i: usize = 0;
     while i < count {
-        let frame = [all[i]];
-        at += put_frame(&mut out[at..], &frame);
-        i += 1;
+        if is_next(&nest.flagged, flags, f, i) {
+            let flag = [FLAGGED];
+            at += put_frame(&mut out[at..], &flag);
+            f += 1;
+            i += 1;
+        } else {
+            let frame = [nest.points[i]];
+            at += put_frame(&mut out[at..], &frame);
+            i += 1;
+        }
     }
     at
+}
+
+// The point is the flagged one at f.
+fn is_next(flagged: &[u8], flags: usize, f: usize, i: usize) -> bool
+    requires { ⌜ flags ≤ length (now flagged) ⌝ }
+    ensures { λ r. ⌜ r ≡ isNext i (drop f (take flags (now (flagged .entry)))) ⌝ }
+{
+    if f < flags {
+        return i == flagged[f] as usize;
+    }
+    false
 }
 
 // Writes the dependences, moved along by so many points, a line each, from the start of the lent part; gives the

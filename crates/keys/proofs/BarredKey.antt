@@ -14,7 +14,7 @@ use Rattle.laws.specs.Choice.{isIn}
 use Rattle.laws.specs.Members.{Among}
 use Rattle.laws.proofs.Members.{in-here, no-members}
 use Rattle.laws.proofs.Tests.{never, and-true, bool-by}
-use Rattle.nests.specs.Nests.{Dep, Nest}
+use Rattle.nests.specs.Nests.{Dep, Nest, barring}
 use Rattle.nests.specs.Ring.{oneLoop}
 use Rattle.nests.specs.Valid.{isShape, isValid}
 use Rattle.nests.proofs.Loops.{outermost}
@@ -172,9 +172,6 @@ module _
 
 -- ---- which gaps are barred decides, not how they are listed
 
-abbrev barring : List ℕ → List Dep → List ℕ → Nest
-barring ps ds bs = record { points = ps; deps = ds; barred = bs }
-
 module _ (ps : List ℕ) (ds : List Dep) (xs ys : List ℕ) (same : (i : ℕ) → isIn i xs ≡ isIn i ys) where
   dep-alike : (m : ℕ) (e : Dep) → reducedDep xs m e ≡ reducedDep ys m e
   dep-alike m e = rw (rank-alike xs ys same (e .s), rank-alike xs ys same (e .t))
@@ -207,6 +204,11 @@ key-alike ps ds (x ∷ xs) (y ∷ ys) same =
     barred-alike ps ds (x ∷ xs) (y ∷ ys) same ∙
     sym (key-barred (barring ps ds (y ∷ ys)) (omega arith))
 
+-- 02, job 10: which loops are flagged plays no part
+pub key-ignores-flags : (n : Nest) → keyOf n ≡ keyOf (barring (n .points) (n .deps) (n .barred))
+unfolding keyOf plainKey
+key-ignores-flags n = refl
+
 -- 02, job 7: the key depends on the set of barred gaps only
 pub barred-as-set
     : (n m : Nest)
@@ -215,6 +217,8 @@ pub barred-as-set
     → ((g : ℕ) → isIn g (n .barred) ≡ isIn g (m .barred))
     → keyOf n ≡ keyOf m
 barred-as-set n m points deps same =
+    key-ignores-flags n ∙
     ap (λ (ps : List ℕ). keyOf (barring ps (n .deps) (n .barred))) points ∙
     ap (λ (ds : List Dep). keyOf (barring (m .points) ds (n .barred))) deps ∙
-    key-alike (m .points) (m .deps) (n .barred) (m .barred) same
+    key-alike (m .points) (m .deps) (n .barred) (m .barred) same ∙
+    sym (key-ignores-flags m)

@@ -7,7 +7,7 @@ use mathlib.Core.Bool.{true, false}
 use mathlib.Core.List.{List, [], _∷_}
 use Prim.Native.Nat.{ℕ}
 use lib.ListN.{length}
-use Rattle.nests.specs.Nests.{Nest, nest}
+use Rattle.nests.specs.Nests.{Nest, barring, nest}
 use Rattle.nests.specs.Valid.{isValid}
 use Rattle.nests.proofs.Cases.{paper-P, paper-Q, paper-R, paper-turn, paper-bare, paper-ring, paper-inner}
 use Rattle.nests.proofs.Cases.{forward, carried, paper-forward, paper-P-forward, paper-door}
@@ -44,7 +44,7 @@ paper-P-inner = nest (1 ∷ 3 ∷ 3 ∷ 3 ∷ 3 ∷ 2 ∷ []) (forward 1 4 ∷ c
 
 -- 01 03 02 with every gap barred and no dependence
 abbrev pub paper-all-barred : Nest
-paper-all-barred = record { points = 1 ∷ 3 ∷ 2 ∷ []; deps = []; barred = 2 ∷ 1 ∷ [] }
+paper-all-barred = barring (1 ∷ 3 ∷ 2 ∷ []) [] (2 ∷ 1 ∷ [])
 
 -- the keys as they are computed
 pub record Computed : Type 0 where

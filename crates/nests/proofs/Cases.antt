@@ -9,7 +9,7 @@ use lib.Dec.{eqb}
 use lib.ListN.{length, replicate}
 use Rattle.laws.specs.Choice.{pick}
 use Rattle.nests.specs.Kinds.{DO, ENDDO, STATEMENT, INDEPENDENT, CARRIED}
-use Rattle.nests.specs.Nests.{Dep, dep, Nest, nest, withDep, withBar}
+use Rattle.nests.specs.Nests.{Dep, dep, Nest, barring, nest, withDep, withBar, withFlagged}
 use Rattle.nests.specs.Loops.{endOf, ownerOf}
 use Rattle.nests.specs.Gaps.{hasGap}
 use Rattle.nests.specs.Valid.{isShape, depFault, barFault, isValid}
@@ -69,15 +69,23 @@ paper-P-forward = withDep paper-P (carried 1 3 4)
 -- before the ENDDO and none before t
 abbrev pub paper-barred : Nest
 paper-barred =
-    record {
-      points = 1 ∷ 3 ∷ 3 ∷ 3 ∷ 3 ∷ 3 ∷ 2 ∷ [];
-      deps = carried 0 5 3 ∷ carried 0 4 1 ∷ forward 0 5 ∷ [];
-      barred = 1 ∷ 2 ∷ 4 ∷ [];
-    }
+    barring
+    (1 ∷ 3 ∷ 3 ∷ 3 ∷ 3 ∷ 3 ∷ 2 ∷ [])
+    (carried 0 5 3 ∷ carried 0 4 1 ∷ forward 0 5 ∷ [])
+    (1 ∷ 2 ∷ 4 ∷ [])
 
 -- 01 03 03 02 with 110102 and gap 2 barred, which is its only gap
 abbrev pub paper-blocked : Nest
-paper-blocked = record { points = 1 ∷ 3 ∷ 3 ∷ 2 ∷ []; deps = forward 1 2 ∷ []; barred = 2 ∷ 2 ∷ [] }
+paper-blocked = barring (1 ∷ 3 ∷ 3 ∷ 2 ∷ []) (forward 1 2 ∷ []) (2 ∷ 2 ∷ [])
+
+-- P whose inner loop may not run, and P with a flag at a point that is no DO
+abbrev pub paper-may-not : Nest
+paper-may-not =
+    record { points = paper-P .points; deps = paper-P .deps; barred = []; flagged = 1 ∷ [] }
+
+abbrev paper-no-loop : Nest
+paper-no-loop =
+    record { points = paper-P .points; deps = paper-P .deps; barred = []; flagged = 1 ∷ 3 ∷ [] }
 
 -- numbers listed for each number below a bound, and compared
 abbrev pub sameList : List ℕ → List ℕ → Bool
@@ -117,7 +125,9 @@ valid-papers =
     (isValid paper-bare &&
     (isValid paper-forward &&
     (isValid paper-P-forward &&
-    (isValid paper-barred && (isValid paper-blocked && not (isValid (withBar paper-P 5))))))))))
+    (isValid paper-barred &&
+    (isValid paper-blocked &&
+    (not (isValid (withBar paper-P 5)) && (isValid paper-may-not && not (isValid paper-no-loop)))))))))))
 
 abbrev shapes : Bool
 shapes =

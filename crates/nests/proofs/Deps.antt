@@ -20,7 +20,8 @@ use Rattle.nests.specs.Kinds.{STATEMENT, ENDDO, INDEPENDENT, CARRIED, PO
 use Rattle.nests.specs.Nests.{Dep, Nest}
 use Rattle.nests.specs.Loops.{isDo, endOf, inLoop}
 use Rattle.nests.specs.Gaps.{hasGap}
-use Rattle.nests.specs.Valid.{isSource, isTarget, namesPoints, runsRight, isDep, areDeps, areBars, isShape, isValid}
+use Rattle.nests.specs.Valid.{isSource, isTarget, namesPoints, runsRight, isDep, areDeps, areBars, areFlags}
+use Rattle.nests.specs.Valid.{isShape, isValid}
 use Rattle.nests.proofs.Loops.{inside-lies}
 
 -- an independent dependence
@@ -105,6 +106,7 @@ pub record Valid (n : Nest) : Type 0 where
   pub all-deps : areDeps (n .points) (n .deps) ≡ true
   pub few-bars : length (n .barred) ≤ BARS
   pub all-bars : areBars (n .points) (n .barred) ≡ true
+  pub all-flags : areFlags 0 (n .points) (n .flagged) ≡ true
 
 pub valid-is : (n : Nest) → isValid n ≡ true → Valid n
 valid-is n h =
@@ -113,18 +115,21 @@ valid-is n h =
     let deps = areDeps (n .points) (n .deps) in
     let few = leb (length (n .barred)) BARS in
     let bars = areBars (n .points) (n .barred) in
-    let a = and-true (isShape (n .points)) (points && (many && (deps && (few && bars)))) h in
-    let b = and-true points (many && (deps && (few && bars))) (a .1) in
-    let c = and-true many (deps && (few && bars)) (b .1) in
-    let d = and-true deps (few && bars) (c .1) in
-    let e = and-true few bars (d .1) in
+    let flags = areFlags 0 (n .points) (n .flagged) in
+    let a = and-true (isShape (n .points)) (points && (many && (deps && (few && (bars && flags))))) h in
+    let b = and-true points (many && (deps && (few && (bars && flags)))) (a .1) in
+    let c = and-true many (deps && (few && (bars && flags))) (b .1) in
+    let d = and-true deps (few && (bars && flags)) (c .1) in
+    let e = and-true few (bars && flags) (d .1) in
+    let f = and-true bars flags (e .1) in
     record {
       shape = a .0;
       few-points = leb-true (length (n .points)) POINTS (b .0);
       few-deps = leb-true (length (n .deps)) DEPENDENCES (c .0);
       all-deps = d .0;
       few-bars = leb-true (length (n .barred)) BARS (e .0);
-      all-bars = e .1;
+      all-bars = f .0;
+      all-flags = f .1;
     }
 
 pub is-valid : (n : Nest) → Valid n → isValid n ≡ true
@@ -137,7 +142,7 @@ is-valid n v =
     (le-leb (length (n .deps)) DEPENDENCES (v .few-deps))
     (and-intro
     (v .all-deps)
-    (and-intro (le-leb (length (n .barred)) BARS (v .few-bars)) (v .all-bars)))))
+    (and-intro (le-leb (length (n .barred)) BARS (v .few-bars)) (and-intro (v .all-bars) (v .all-flags))))))
 
 -- the gaps of a well placed dependence, as facts
 pub line-gap : (ps : List ℕ) (e : Dep) (g : ℕ) → e .kind ≡ INDEPENDENT → hasGap ps e g ≡ true → (e .s < g) × (g ≤ e .t)

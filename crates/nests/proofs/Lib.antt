@@ -6,6 +6,7 @@ pub mod Deps
 pub mod Around
 pub mod Ring
 pub mod Bars
+pub mod Flags
 pub mod Stored
 pub mod Scan
 pub mod Backward

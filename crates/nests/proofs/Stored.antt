@@ -1,6 +1,7 @@
--- Laws of the nest as the code stores it: what one more point, dependence or barred gap makes of it, its dependences one
--- by one.
--- Main statements: `point-added`, `dependence-added`, `bar-added`, `depsIn-length`, `depsIn-at`, `counted-many`, `counted-points`.
+-- Laws of the nest as the code stores it: what one more point, dependence, barred gap or flagged DO makes of it, its
+-- dependences one by one.
+-- Main statements: `point-added`, `dependence-added`, `bar-added`, `flagged-added`, `depsIn-length`, `depsIn-at`,
+-- `counted-many`, `counted-points`, `counted-bars`, `counted-flags`.
 use mathlib.Core.Path.{_≡_, refl, ap}
 use mathlib.Core.List.{List, [], _∷_, _++_}
 use Prim.Native.Nat.{ℕ, zero, suc, _+_, _≤_, _<_}
@@ -10,9 +11,9 @@ use lib.ListN.{length, take, drop, set, getD, length-append, length-take}
 use lib.Seq.{take-suc-set, length-take-le}
 use Rattle.nests.specs.declared.Dependence as DE
 use Rattle.nests.specs.declared.Nest as DN
-use Rattle.nests.specs.Kinds.{POINTS, DEPENDENCES, BARS}
+use Rattle.nests.specs.Kinds.{DO, POINTS, DEPENDENCES, BARS}
 use Rattle.nests.specs.Nests.{Dep}
-use Rattle.nests.specs.Stored.{depIn, depsIn, IsCounted, PointAdded, DependenceAdded, BarAdded}
+use Rattle.nests.specs.Stored.{depIn, depsIn, IsCounted, PointAdded, DependenceAdded, BarAdded, FlaggedAdded}
 
 -- the first dependences are as many as asked
 pub depsIn-length : (n : ℕ) (xs : List DE.Dependence) → n ≤ length xs → length (depsIn n xs) ≡ n
@@ -53,6 +54,12 @@ counted-many n p = many-within (n .many) (n .deps) (p .many-is)
 pub counted-points : (n : DN.Nest) → IsCounted n → n .count ≤ length (n .points)
 counted-points n p = omega (arith, p .count-is, length-take (n .count) (n .points))
 
+pub counted-bars : (n : DN.Nest) → IsCounted n → n .bars ≤ length (n .barred)
+counted-bars n p = omega (arith, p .bars-is, length-take (n .bars) (n .barred))
+
+pub counted-flags : (n : DN.Nest) → IsCounted n → n .flags ≤ length (n .flagged)
+counted-flags n p = omega (arith, p .flags-is, length-take (n .flags) (n .flagged))
+
 module _ (n : DN.Nest) (p : IsCounted n) where
   abbrev pub with-point : ℕ → DN.Nest
   with-point k =
@@ -63,17 +70,26 @@ module _ (n : DN.Nest) (p : IsCounted n) where
         deps = n .deps;
         bars = n .bars;
         barred = n .barred;
+        flags = n .flags;
+        flagged = n .flagged;
       }
+
+  points-more
+      : (k : ℕ)
+      → n .count < POINTS
+      → length (n .points) ≡ POINTS
+      → take (n .count + 1) (set (n .points) (n .count) k) ≡ take (n .count) (n .points) ++ (k ∷ [])
+  points-more k h e = rw add-one (take-suc-set (n .points) (n .count) k (omega arith))
 
   pub point-added : (k : ℕ) → n .count < POINTS → length (n .points) ≡ POINTS → PointAdded n k (with-point k)
   point-added k h e =
-      let pts : take (n .count + 1) (set (n .points) (n .count) k) ≡ take (n .count) (n .points) ++ (k ∷ []) =
-      rw add-one (take-suc-set (n .points) (n .count) k (omega arith)) in
+      let pts = points-more k h e in
       record {
         nest-is = rw pts;
         one-more = refl;
         same-many = refl;
         same-bars = refl;
+        same-flags = refl;
         counted =
             record {
               count-is =
@@ -89,6 +105,8 @@ module _ (n : DN.Nest) (p : IsCounted n) where
               many-fits = p .many-fits;
               bars-is = p .bars-is;
               bars-fit = p .bars-fit;
+              flags-is = p .flags-is;
+              flags-fit = omega (arith, p .flags-fit);
             };
       }
 
@@ -101,6 +119,8 @@ module _ (n : DN.Nest) (p : IsCounted n) where
         deps = set (n .deps) (n .many) e;
         bars = n .bars;
         barred = n .barred;
+        flags = n .flags;
+        flagged = n .flagged;
       }
 
   pub dependence-added
@@ -116,6 +136,7 @@ module _ (n : DN.Nest) (p : IsCounted n) where
         same-count = refl;
         one-more = refl;
         same-bars = refl;
+        same-flags = refl;
         counted =
             record {
               count-is = p .count-is;
@@ -131,6 +152,8 @@ module _ (n : DN.Nest) (p : IsCounted n) where
               many-fits = omega arith;
               bars-is = p .bars-is;
               bars-fit = p .bars-fit;
+              flags-is = p .flags-is;
+              flags-fit = p .flags-fit;
             };
       }
 
@@ -143,6 +166,8 @@ module _ (n : DN.Nest) (p : IsCounted n) where
         deps = n .deps;
         bars = n .bars + 1;
         barred = set (n .barred) (n .bars) g;
+        flags = n .flags;
+        flagged = n .flagged;
       }
 
   pub bar-added : (g : ℕ) → n .bars < BARS → length (n .barred) ≡ BARS → BarAdded n g (with-bar g)
@@ -154,6 +179,7 @@ module _ (n : DN.Nest) (p : IsCounted n) where
         same-count = refl;
         same-many = refl;
         one-more = refl;
+        same-flags = refl;
         counted =
             record {
               count-is = p .count-is;
@@ -169,5 +195,52 @@ module _ (n : DN.Nest) (p : IsCounted n) where
                     length-take-le (n .bars) (n .barred) (omega arith),
                   ));
               bars-fit = omega arith;
+              flags-is = p .flags-is;
+              flags-fit = p .flags-fit;
+            };
+      }
+
+  abbrev pub with-flagged : DN.Nest
+  with-flagged =
+      record {
+        count = n .count + 1;
+        points = set (n .points) (n .count) DO;
+        many = n .many;
+        deps = n .deps;
+        bars = n .bars;
+        barred = n .barred;
+        flags = n .flags + 1;
+        flagged = set (n .flagged) (n .flags) (n .count);
+      }
+
+  pub flagged-added
+      : n .count < POINTS → length (n .points) ≡ POINTS → length (n .flagged) ≡ POINTS → FlaggedAdded n with-flagged
+  flagged-added h e l =
+      let added = point-added DO h e in
+      let within = p .flags-fit in
+      let fs : take (n .flags + 1) (set (n .flagged) (n .flags) (n .count)) ≡ take (n .flags) (n .flagged) ++ (n .count ∷ []) =
+      rw add-one (take-suc-set (n .flagged) (n .flags) (n .count) (omega arith)) in
+      record {
+        nest-is = rw (points-more DO h e, fs, ← p .count-is);
+        one-more = refl;
+        same-many = refl;
+        same-bars = refl;
+        counted =
+            record {
+              count-is = added .counted .count-is;
+              count-fits = omega arith;
+              many-is = p .many-is;
+              many-fits = p .many-fits;
+              bars-is = p .bars-is;
+              bars-fit = p .bars-fit;
+              flags-is =
+                  rw
+                  fs
+                  (omega (
+                    arith,
+                    length-append (take (n .flags) (n .flagged)) (n .count ∷ []),
+                    length-take-le (n .flags) (n .flagged) (omega arith),
+                  ));
+              flags-fit = omega (arith, p .flags-fit);
             };
       }

@@ -11,6 +11,10 @@ ENDDO = 2
 abbrev pub STATEMENT : ℕ
 STATEMENT = 3
 
+-- 02, job 10: 04 is the DO of a loop that may not run
+abbrev pub FLAGGED : ℕ
+FLAGGED = 4
+
 -- 01, "Text": an independent dependence is 11 s t, a carried one 12 d s t
 abbrev pub INDEPENDENT : ℕ
 INDEPENDENT = 17

@@ -1,6 +1,6 @@
--- The nest of the code as a nest of the paper: the first points, dependences and barred gaps of its arrays, up to their
--- counts.
--- Main definitions: `depIn`, `depsIn`, `nestIn`, `IsCounted`, `PointAdded`, `DependenceAdded`, `BarAdded`.
+-- The nest of the code as a nest of the paper: the first points, dependences, barred gaps and flagged DOs of its arrays,
+-- up to their counts.
+-- Main definitions: `depIn`, `depsIn`, `nestIn`, `IsCounted`, `PointAdded`, `DependenceAdded`, `BarAdded`, `FlaggedAdded`.
 use mathlib.Core.Path.{_≡_}
 use mathlib.Core.List.{List, [], _∷_}
 use Prim.Native.Nat.{ℕ, zero, suc, _+_, _≤_}
@@ -8,7 +8,7 @@ use lib.ListN.{length, take}
 use Rattle.nests.specs.declared.Dependence as DE
 use Rattle.nests.specs.declared.Nest as DN
 use Rattle.nests.specs.Kinds.{POINTS, DEPENDENCES, BARS}
-use Rattle.nests.specs.Nests.{Dep, dep, Nest, empty, withPoint, withDep, withBar}
+use Rattle.nests.specs.Nests.{Dep, dep, Nest, empty, withPoint, withDep, withBar, withFlagged}
 
 abbrev pub depIn : DE.Dependence → Dep
 depIn e = dep (e .kind) (e .d) (e .s) (e .t)
@@ -25,6 +25,7 @@ nestIn n =
       points = take (n .count) (n .points);
       deps = depsIn (n .many) (n .deps);
       barred = take (n .bars) (n .barred);
+      flagged = take (n .flags) (n .flagged);
     }
 
 -- the counts are those of the nest, within the limits
@@ -35,6 +36,8 @@ pub record IsCounted (n : DN.Nest) : Type 0 where
   pub many-fits : n .many ≤ DEPENDENCES
   pub bars-is : n .bars ≡ length (nestIn n .barred)
   pub bars-fit : n .bars ≤ BARS
+  pub flags-is : n .flags ≡ length (nestIn n .flagged)
+  pub flags-fit : n .flags ≤ n .count
 
 -- r is an empty nest
 pub record IsEmpty (r : DN.Nest) : Type 0 where
@@ -42,6 +45,7 @@ pub record IsEmpty (r : DN.Nest) : Type 0 where
   pub no-points : r .count ≡ 0
   pub no-deps : r .many ≡ 0
   pub no-bars : r .bars ≡ 0
+  pub no-flags : r .flags ≡ 0
   pub long : length (r .deps) ≡ DEPENDENCES
   pub counted : IsCounted r
 
@@ -51,6 +55,7 @@ pub record PointAdded (n : DN.Nest) (kind : ℕ) (r : DN.Nest) : Type 0 where
   pub one-more : r .count ≡ n .count + 1
   pub same-many : r .many ≡ n .many
   pub same-bars : r .bars ≡ n .bars
+  pub same-flags : r .flags ≡ n .flags
   pub counted : IsCounted r
 
 -- r is n with one dependence more
@@ -59,6 +64,7 @@ pub record DependenceAdded (n : DN.Nest) (e : DE.Dependence) (r : DN.Nest) : Typ
   pub same-count : r .count ≡ n .count
   pub one-more : r .many ≡ n .many + 1
   pub same-bars : r .bars ≡ n .bars
+  pub same-flags : r .flags ≡ n .flags
   pub counted : IsCounted r
 
 -- r is n with one barred gap more
@@ -67,4 +73,13 @@ pub record BarAdded (n : DN.Nest) (g : ℕ) (r : DN.Nest) : Type 0 where
   pub same-count : r .count ≡ n .count
   pub same-many : r .many ≡ n .many
   pub one-more : r .bars ≡ n .bars + 1
+  pub same-flags : r .flags ≡ n .flags
+  pub counted : IsCounted r
+
+-- r is n with the DO of a flagged loop more
+pub record FlaggedAdded (n r : DN.Nest) : Type 0 where
+  pub nest-is : nestIn r ≡ withFlagged (nestIn n)
+  pub one-more : r .count ≡ n .count + 1
+  pub same-many : r .many ≡ n .many
+  pub same-bars : r .bars ≡ n .bars
   pub counted : IsCounted r

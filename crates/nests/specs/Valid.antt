@@ -1,5 +1,5 @@
 -- When a nest is valid; numbers 6 and 7 of a dependence, 8 and 14 of a barred gap.
--- Main definitions: `isShape`, `depFault`, `isDep`, `barFault`, `isBar`, `isValid`.
+-- Main definitions: `isShape`, `depFault`, `isDep`, `barFault`, `isBar`, `areFlags`, `isValid`.
 use mathlib.Core.Path.{_≡_}
 use mathlib.Core.Bool.{Bool, true, false, _&&_, _||_, not}
 use mathlib.Core.List.{List, [], _∷_}
@@ -81,10 +81,19 @@ abbrev pub areBars : List ℕ → List ℕ → Bool
 areBars ps [] = true
 areBars ps (g ∷ gs) = isBar ps g && areBars ps gs
 
+-- 02, job 10: along the points, of which the first is point i, the flagged ones are DOs, in order
+abbrev pub areFlags : ℕ → List ℕ → List ℕ → Bool
+areFlags i ps [] = true
+areFlags i [] (f ∷ fs) = false
+areFlags i (p ∷ ps) (f ∷ fs) =
+    pick (eqb i f) (eqb p DO && areFlags (suc i) ps fs) (areFlags (suc i) ps (f ∷ fs))
+
 -- a nest that breaks no rule
 abbrev pub isValid : Nest → Bool
 isValid n =
     isShape (n .points) &&
     (leb (length (n .points)) POINTS &&
     (leb (length (n .deps)) DEPENDENCES &&
-    (areDeps (n .points) (n .deps) && (leb (length (n .barred)) BARS && areBars (n .points) (n .barred)))))
+    (areDeps (n .points) (n .deps) &&
+    (leb (length (n .barred)) BARS &&
+    (areBars (n .points) (n .barred) && areFlags 0 (n .points) (n .flagged))))))

@@ -1,4 +1,5 @@
-// Nests: their points, dependences and barred gaps by value, and the tests of a dependence and of a barred gap.
+// Nests: their points, dependences, barred gaps and flagged loops by value, and the tests of a dependence and of a barred
+// gap.
 ghost use mathlib.Core.Path.{_≡_};
 ghost use mathlib.Core.Bool.{true};
 ghost use Prim.Native.Nat.{_+_, _^_, _<_, _≤_};
@@ -15,6 +16,9 @@ pub const DO: u8 = 1;
 pub const ENDDO: u8 = 2;
 
 pub const STATEMENT: u8 = 3;
+
+// The kind of a DO whose loop may not run; as a point it is a DO.
+pub const FLAGGED: u8 = 4;
 
 // The kinds of dependences.
 pub const INDEPENDENT: u8 = 17;
@@ -33,7 +37,8 @@ pub struct Dependence {
     pub t: u8,
 }
 
-// A nest: the first `count` points, the first `many` dependences and the first `bars` barred gaps.
+// A nest: the first `count` points, the first `many` dependences, the first `bars` barred gaps, and the DOs of the first
+// `flags` loops that may not run.
 #[repr(C)]
 pub struct Nest {
     pub count: usize,
@@ -42,6 +47,8 @@ pub struct Nest {
     pub deps: [Dependence; Nest::DEPENDENCES],
     pub bars: usize,
     pub barred: [u8; Nest::BARS],
+    pub flags: usize,
+    pub flagged: [u8; Nest::POINTS],
 }
 
 impl Nest {
@@ -69,6 +76,8 @@ impl Nest {
             }; Nest::DEPENDENCES],
             bars: 0,
             barred: [0; Nest::BARS],
+            flags: 0,
+            flagged: [0; Nest::POINTS],
         }
     }
 

@@ -3,6 +3,7 @@ pub mod Words
 pub mod Rising
 pub mod GapLists
 pub mod Lowest
+pub mod Sets
 pub mod Cuts
 pub mod CutTest
 pub mod Trying

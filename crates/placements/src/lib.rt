@@ -5,9 +5,9 @@ ghost use mathlib.Core.Path.{_≡_};
 ghost use mathlib.Core.Bool.{true, false, _||_, _&&_};
 ghost use Prim.Native.Nat.{ℕ, _+_, _<_, _≤_};
 ghost use lib.Dec.{eqb, ltb};
-ghost use lib.ListN.{length};
+ghost use lib.ListN.{length, take};
 ghost use Rattle.laws.specs.Bits.{bit, tally};
-ghost use Rattle.laws.specs.Choice.{between};
+ghost use Rattle.laws.specs.Choice.{between, isIn};
 ghost use Rattle.nests.specs.Loops.{isDo, endOf};
 ghost use Rattle.nests.specs.Valid.{isShape, isValid};
 ghost use Rattle.nests.specs.Stored.{depIn, nestIn, IsCounted};
@@ -103,6 +103,21 @@ impl Placement {
         }
         Placement::GAPS
     }
+}
+
+// The first numbers of a list, as a set.
+pub fn set_of(all: &[u8], count: usize) -> Placement
+    requires { ⌜ count ≤ length (now all) ⌝ }
+    ensures { λ r. ⌜ ((i : ℕ) → holds (r .words) i ≡ isIn i (take count (now (all .entry)))) ⌝ }
+{
+    let mut set = Placement::empty();
+    let mut i = count;
+    while 0 < i {
+        i -= 1;
+        let g = all[i] as usize;
+        set = set.put(g);
+    }
+    set
 }
 
 // A gap that was looked for, as an answer.

@@ -14,3 +14,5 @@ pub mod Covering
 pub mod Stretches
 pub mod Listing
 pub mod Gathering
+-- the call
+pub mod Missing

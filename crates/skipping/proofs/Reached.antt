@@ -20,6 +20,7 @@ use Rattle.nests.specs.Gaps.{hasGap}
 use Rattle.nests.specs.Valid.{isShape, isValid}
 use Rattle.nests.proofs.Loops.{nested}
 use Rattle.nests.proofs.Deps.{valid-is}
+use Rattle.nests.proofs.Flags.{flag-is-do}
 use Rattle.placements.specs.Placements.{cuts, isCorrect}
 use Rattle.placements.proofs.Cuts.{CutBy, cut-has-gap, correct-cuts}
 use Rattle.barred.specs.Reduced.{isBlocked}
@@ -27,7 +28,7 @@ use Rattle.keys.specs.KeyOf.{keyOf}
 use Rattle.keys.proofs.KeyIsKey.{key-is-key}
 use Rattle.skipping.specs.Foreign.{someIn, AreFlags, isForeign}
 use Rattle.skipping.specs.Listed.{Outside}
-use Rattle.skipping.specs.Reached.{NotSkipped, Substituted, IsReached}
+use Rattle.skipping.specs.Reached.{NotSkipped, Substituted, IsReached, AllForeign}
 use Rattle.skipping.proofs.Some.{Least, some-in, in-some, some-not, least-in}
 use Rattle.skipping.proofs.Foreign.{foreign-flagged}
 use Rattle.skipping.proofs.Listed.{listed-iff}
@@ -130,16 +131,17 @@ module _ (ps : List ℕ) (shape : isShape ps ≡ true) (ds : List Dep) (fs : Lis
 -- are foreign has a barrier that cuts it in no skipped loop, or one inside a skipped, listed loop with no skipped loop
 -- around it
 pub skipped-reached :
-    (n : Nest) (fs : List ℕ) → isValid n ≡ true → AreFlags (n .points) fs → (gs : List ℕ) → isCorrect n gs ≡ true →
-    (skipped : List ℕ) (e : Dep) → Among e (n .deps) →
-    ((d : ℕ) → isIn d skipped ≡ true → isForeign (n .points) fs e d ≡ true) →
-    IsReached (n .points) (n .deps) fs e skipped gs
-skipped-reached n fs h flags gs c skipped e a foreign =
-    reached (n .points) (valid-is n h .shape) (n .deps) fs flags e a skipped foreign gs (correct-cuts n gs c e a)
+    (n : Nest) → isValid n ≡ true → (gs : List ℕ) → isCorrect n gs ≡ true →
+    (skipped : List ℕ) (e : Dep) → Among e (n .deps) → AllForeign n e skipped →
+    IsReached (n .points) (n .deps) (n .flagged) e skipped gs
+skipped-reached n h gs c skipped e a foreign =
+    let v = valid-is n h in
+    reached (n .points) (v .shape) (n .deps) (n .flagged) (flag-is-do (n .points) (n .flagged) (v .all-flags)) e a
+    skipped foreign gs (correct-cuts n gs c e a)
 
 -- and so of the key
 pub key-reached :
-    (n : Nest) (fs : List ℕ) → isValid n ≡ true → isBlocked n ≡ false → AreFlags (n .points) fs →
-    (skipped : List ℕ) (e : Dep) → Among e (n .deps) → ((d : ℕ) → isIn d skipped ≡ true → isForeign (n .points) fs e d ≡ true) →
-    IsReached (n .points) (n .deps) fs e skipped (keyOf n)
-key-reached n fs h o flags = skipped-reached n fs h flags (keyOf n) (key-is-key n h o .correct)
+    (n : Nest) → isValid n ≡ true → isBlocked n ≡ false →
+    (skipped : List ℕ) (e : Dep) → Among e (n .deps) → AllForeign n e skipped →
+    IsReached (n .points) (n .deps) (n .flagged) e skipped (keyOf n)
+key-reached n h o = skipped-reached n h (keyOf n) (key-is-key n h o .correct)

@@ -4,4 +4,5 @@ pub mod Listed
 pub mod Reached
 -- what the code says
 pub mod Says
+pub mod Missing
 pub mod Covering

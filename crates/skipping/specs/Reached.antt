@@ -1,14 +1,15 @@
 -- What is left of a placement where some flagged loops are skipped.
--- Main definitions: `NotSkipped`, `Substituted`, `IsReached`.
+-- Main definitions: `NotSkipped`, `Substituted`, `IsReached`, `AllForeign`.
 use mathlib.Core.Path.{_≡_}
 use mathlib.Core.Bool.{true, false}
 use mathlib.Core.List.{List}
 use mathlib.Core.Logic.{_⊎_}
 use Prim.Native.Nat.{ℕ}
 use Rattle.laws.specs.Choice.{isIn}
-use Rattle.nests.specs.Nests.{Dep}
+use Rattle.nests.specs.Nests.{Dep, Nest}
 use Rattle.nests.specs.Loops.{inLoop, isAround}
 use Rattle.nests.specs.Gaps.{hasGap}
+use Rattle.skipping.specs.Foreign.{isForeign}
 use Rattle.skipping.specs.Listed.{isListed}
 
 -- a barrier that cuts the dependence in no skipped loop
@@ -32,3 +33,7 @@ pub record Substituted (ps : List ℕ) (ds : List Dep) (fs : List ℕ) (e : Dep)
 
 abbrev pub IsReached : List ℕ → List Dep → List ℕ → Dep → List ℕ → List ℕ → Type 0
 IsReached ps ds fs e skipped gs = NotSkipped ps e skipped gs ⊎ Substituted ps ds fs e skipped gs
+
+-- all the skipped loops are foreign to the dependence
+abbrev pub AllForeign : Nest → Dep → List ℕ → Type 0
+AllForeign n e skipped = (d : ℕ) → isIn d skipped ≡ true → isForeign (n .points) (n .flagged) e d ≡ true

@@ -1,7 +1,12 @@
 // Loops that may not run, and which of them need a barrier for their missing run.
+use desk::Chosen;
+use desk::Desk;
+use desk::key_fault;
+use desk::not_chosen;
 use nests::Dependence;
 use nests::Nest;
 use placements::Placement;
+use placements::set_of;
 ghost use mathlib.Core.Path.{_≡_};
 ghost use mathlib.Core.Bool.{true};
 ghost use Prim.Native.Nat.{_+_, _≤_, _<_};
@@ -10,11 +15,30 @@ ghost use Rattle.laws.specs.Choice.{pick, between};
 ghost use Rattle.nests.specs.Valid.{isValid};
 ghost use Rattle.nests.specs.Stored.{nestIn, IsCounted};
 ghost use Rattle.placements.specs.Words.{GAPS};
-ghost use Rattle.skipping.specs.Says.{AreDos, ListedSays};
+ghost use Rattle.desk.specs.Desks.{IsMade};
+ghost use Rattle.skipping.specs.Says.{AreDos, ListedSays, MissingSays};
 ghost use Rattle.skipping.specs.Covering.{isApart, AreLoops, WithBarrier, CoverSays, RangeListed, ListedBySays};
 
+// The DOs of the loops that need a barrier for their missing run, as bits. Numbers 10, 11.
+pub fn missing_runs(desk: Desk) -> Chosen
+    requires { ⌜ IsMade desk ⌝ }
+    ensures { λ r. ⌜ MissingSays desk r ⌝ }
+{
+    let number = key_fault(desk.loaded, desk.planned);
+    if number != 0 {
+        return not_chosen(number);
+    }
+    let nest = desk.nest;
+    let flagged = set_of(&nest.flagged, nest.flags);
+    Chosen {
+        number: 0,
+        line: 0,
+        gaps: listed_loops(nest, flagged, desk.key),
+    }
+}
+
 // The loops that are listed for the key; `flagged` has the loops that may not run. Of both, bit d is the loop of DO d.
-pub fn listed_loops(nest: Nest, flagged: Placement, key: Placement) -> Placement
+fn listed_loops(nest: Nest, flagged: Placement, key: Placement) -> Placement
     requires { ⌜ IsCounted nest ⌝ }
     requires { ⌜ isValid (nestIn nest) ≡ true ⌝ }
     requires { ⌜ AreDos (nestIn nest .points) (flagged .words) ⌝ }

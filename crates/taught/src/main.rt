@@ -4,6 +4,7 @@ use desk::Desk;
 use trials::after_load;
 use trials::empty_desk;
 use trials::has_key;
+use trials::is_chosen;
 use trials::paper_p;
 use trials::paper_r;
 use trials::planned;
@@ -55,12 +56,5 @@ fn loaded(text: &[u8]) -> Desk
 fn chooses(desk: Desk, number: u8, gaps: u64) -> bool
     requires { ⌜ IsMade desk ⌝ }
 {
-    let reply = textbook::textbook(desk);
-    let words = reply.gaps.words;
-    reply.number == number
-        && reply.line == 0
-        && words[0] == gaps
-        && words[1] == 0
-        && words[2] == 0
-        && words[3] == 0
+    is_chosen(textbook::textbook(desk), number, gaps)
 }

@@ -8,25 +8,26 @@ use mathlib.Core.Path.{_≡_, refl, sym, ap, _∙_}
 use mathlib.Core.Bool.{Bool, true, false, _&&_, _||_, not}
 use mathlib.Core.Logic.{_↔_, _⊎_, inl, inr}
 use mathlib.Core.List.{List, [], _∷_, _++_, append-assoc, append-nil}
-use Prim.Native.Nat.{ℕ, suc, _≤_, _<_}
+use Prim.Native.Nat.{ℕ, suc, _+_, _≤_, _<_}
 use native.Mathlib.Omega.{arith}
 use lib.Dec.{eqb, leb}
 use lib.ListN.{length, length-append}
-use borrow.Author.Tests.{leb-false, le-leb, eqb-true, eqb-false, eq-eqb, not-false}
+use borrow.Author.Tests.{leb-false, le-leb, eqb-true, eqb-false, eq-eqb, ne-eqb, not-false}
 use Rattle.laws.specs.Choice.{pick, when, firstOf}
-use Rattle.laws.proofs.Tests.{never-both, lt-by, and-intro, and-true, or-false, or-left, or-right}
+use Rattle.laws.proofs.Tests.{never, never-both, lt-by, and-intro, and-true, or-false, or-left, or-right}
 use Rattle.laws.proofs.Choices.{first-zero, when-zero, unless-zero}
 use Rattle.nests.specs.Kinds.{DO, POINTS, DEPTH, DEPENDENCES, BARS}
-use Rattle.nests.specs.Nests.{Dep, Nest, empty, withPoint, withDep, withBar}
+use Rattle.nests.specs.Nests.{Dep, Nest, empty, withPoint, withDep, withBar, withFlagged}
 use Rattle.nests.specs.Loops.{depth, isClosed}
 use Rattle.nests.specs.Gaps.{isGap}
 use Rattle.nests.specs.Ring.{oneLoop}
-use Rattle.nests.specs.Valid.{isOfKind, namesPoints, runsRight, isDep, areDeps, isBar, areBars, isValid}
+use Rattle.nests.specs.Valid.{isOfKind, namesPoints, runsRight, isDep, areDeps, isBar, areBars, areFlags, isValid}
 use Rattle.nests.specs.Valid.{depFault, barFault}
 use Rattle.nests.proofs.Deps.{Valid, is-valid}
+use Rattle.nests.proofs.Flags.{flags-from, flags-more, flags-flagged}
 use Rattle.lines.specs.Lines.{Line, linesOf, isGood, frameOf}
 use Rattle.lines.proofs.Spelling.{linesText, lines-text, good-bytes}
-use Rattle.texts.specs.Pieces.{Piece, Point, Depend, Bar, Told, isPoint, pieceOf, pieceFrame, isPast}
+use Rattle.texts.specs.Pieces.{Piece, Point, Depend, Bar, Flagged, Told, isPoint, pieceOf, pieceFrame, isPast}
 use Rattle.texts.specs.Pieces.{pointFault, dependenceFault, barredFault, pieceFault, toldFault, withPiece, withTold}
 use Rattle.texts.specs.Pieces.{piecesText, madeFrom, madeOf}
 use Rattle.texts.specs.NestTexts.{frameFault, withFrame, lineFault, Got, got, readLines, blank, readNest}
@@ -35,7 +36,7 @@ use Rattle.texts.proofs.BlankPaper.{blank-read}
 use Rattle.texts.proofs.Shapes.{Begins, begins-none, begins-first, begins-more, begins-closed}
 use Rattle.texts.proofs.Pieces.{isPiece, arePieces, told-by, one-pieces}
 use Rattle.texts.proofs.Refusals.{accepted-got}
-use Rattle.texts.proofs.Spelled.{grown, InOrder, point-early, order-rest, start-order, pieces-good}
+use Rattle.texts.proofs.Spelled.{grown, InOrder, point-early, flagged-early, order-rest, start-order, pieces-good}
 use Rattle.texts.proofs.Spelled.{spells-read, valid-accepted}
 
 -- ---- what is accepted spells a valid nest
@@ -48,6 +49,7 @@ pub record Begun (n : Nest) : Type 0 where
   pub deps : areDeps (n .points) (n .deps) ≡ true
   pub few-bars : length (n .barred) ≤ BARS
   pub bars : areBars (n .points) (n .barred) ≡ true
+  pub flags : areFlags 0 (n .points) (n .flagged) ≡ true
 
 pub begun-empty : Begun empty
 begun-empty =
@@ -58,6 +60,7 @@ begun-empty =
       deps = refl;
       few-bars = omega arith;
       bars = refl;
+      flags = refl;
     }
 
 -- a point without a fault goes on with a shape
@@ -115,6 +118,20 @@ point-begun n p point b h =
       deps = no-deps (ps ++ (p ∷ [])) (n .deps) (none .0);
       few-bars = b .few-bars;
       bars = no-bars (ps ++ (p ∷ [])) (n .barred) (none .1);
+      flags = flags-more ps p (n .flagged) (b .flags);
+    }
+
+flagged-begun : (n : Nest) → Begun n → pointFault n DO ≡ 0 → Begun (withFlagged n)
+flagged-begun n b h =
+    let p = point-begun n DO refl b h in
+    record {
+      shape = p .shape;
+      few = p .few;
+      many = p .many;
+      deps = p .deps;
+      few-bars = p .few-bars;
+      bars = p .bars;
+      flags = flags-flagged (n .points) (n .flagged) (b .flags);
     }
 
 deps-more
@@ -146,6 +163,7 @@ dep-begun n e kind b h =
       deps = deps-more ps ds e (b .deps) (and-intro kind (and-intro names right));
       few-bars = b .few-bars;
       bars = b .bars;
+      flags = b .flags;
     }
 
 bars-more
@@ -177,12 +195,14 @@ bar-begun n g b h =
       deps = b .deps;
       few-bars = omega arith;
       bars = bars-more ps bs g (b .bars) (and-intro gap one);
+      flags = b .flags;
     }
 
 piece-begun : (n : Nest) (x : Piece) → isPiece x ≡ true → Begun n → pieceFault n x ≡ 0 → Begun (withPiece n x)
 piece-begun n (Point k) g b h = point-begun n k g b h
 piece-begun n (Depend e) g b h = dep-begun n e g b h
 piece-begun n (Bar i) g b h = bar-begun n i b h
+piece-begun n Flagged g b h = flagged-begun n b h
 
 -- a piece without a fault goes to the front of those that are in order behind it
 dep-past : (n : Nest) (e : Dep) → isPast (withDep n e) ≡ true
@@ -203,6 +223,7 @@ point-late n p h z =
 front-order
     : (n : Nest) (x : Piece) (xs : List Piece) → pieceFault n x ≡ 0 → InOrder (withPiece n x) xs → InOrder n (x ∷ xs)
 front-order n (Point k) xs h o = record { ordered = o .ordered; late = λ z. absurd (point-late n k h z) }
+front-order n Flagged xs h o = record { ordered = o .ordered; late = λ z. absurd (point-late n DO h z) }
 front-order n (Depend e) xs h o =
     let rest = o .late (dep-past n e) in
     record { ordered = and-intro rest (o .ordered); late = λ z. rest }
@@ -270,6 +291,7 @@ lines-accepted k n [] m b h = go (isClosed (n .points)) refl h
           all-deps = b .deps;
           few-bars = b .few-bars;
           all-bars = b .bars;
+          all-flags = b .flags;
         } in
         record {
           pieces = [];
@@ -339,12 +361,55 @@ accepted-valid s h = go (readNest s .nest-is) (accepted-means s h)
 
 -- ---- the spelling of a nest with nothing barred
 
--- pieces in order are those of the nest that they make, behind those of the nest before
-point-pieces-more
-    : (ps : List ℕ) (p : ℕ) → pointPieces (ps ++ (p ∷ [])) ≡ pointPieces ps ++ (Point p ∷ [])
+-- the pieces of two runs of points, one behind the other
+pub points-joined
+    : (i j : ℕ) (ps qs fs gs : List ℕ)
+    → j ≡ i + length ps
+    → areFlags i ps fs ≡ true
+    → areFlags j qs gs ≡ true
+    → pointPieces i (ps ++ qs) (fs ++ gs) ≡ pointPieces i ps fs ++ pointPieces j qs gs
 unfolding pointPieces
-point-pieces-more [] p = refl
-point-pieces-more (q ∷ ps) p = rw (point-pieces-more ps p)
+points-joined i j [] qs [] gs at h k = let same : j ≡ i = omega (arith, at) in rw same
+points-joined i j [] qs (f ∷ fs) gs at h k = never h
+points-joined i j (p ∷ ps) qs [] [] at h k =
+    ap (λ (xs : List Piece). Point p ∷ xs) (points-joined (suc i) j ps qs [] [] (omega (arith, at)) refl refl)
+points-joined i j (p ∷ ps) qs [] (g ∷ gs) at h k =
+    let later = ne-eqb i g (λ z. omega (arith, z, at, flags-from j qs g gs k)) in
+    rw later
+    (ap (λ (xs : List Piece). Point p ∷ xs) (points-joined (suc i) j ps qs [] (g ∷ gs) (omega (arith, at)) refl k))
+points-joined i j (p ∷ ps) qs (f ∷ fs) gs at h k =
+    let next : j ≡ suc i + length ps = omega (arith, at) in
+    both (eqb i f) h (λ z. points-joined (suc i) j ps qs fs gs next z k)
+    (λ z. points-joined (suc i) j ps qs (f ∷ fs) gs next z k)
+  where
+    both
+        : (t : Bool)
+        → pick t (eqb p DO && areFlags (suc i) ps fs) (areFlags (suc i) ps (f ∷ fs)) ≡ true
+        → (areFlags (suc i) ps fs ≡ true
+        → pointPieces (suc i) (ps ++ qs) (fs ++ gs) ≡ pointPieces (suc i) ps fs ++ pointPieces j qs gs)
+        → (areFlags (suc i) ps (f ∷ fs) ≡ true
+        → pointPieces (suc i) (ps ++ qs) (f ∷ (fs ++ gs)) ≡ pointPieces (suc i) ps (f ∷ fs) ++ pointPieces j qs gs)
+        → pick t (Flagged ∷ pointPieces (suc i) (ps ++ qs) (fs ++ gs))
+        (Point p ∷ pointPieces (suc i) (ps ++ qs) (f ∷ (fs ++ gs)))
+        ≡ pick t (Flagged ∷ pointPieces (suc i) ps fs) (Point p ∷ pointPieces (suc i) ps (f ∷ fs)) ++ pointPieces j qs gs
+    both true w a b =
+        ap (λ (xs : List Piece). Flagged ∷ xs) (a (and-true (eqb p DO) (areFlags (suc i) ps fs) w .1))
+    both false w a b = ap (λ (xs : List Piece). Point p ∷ xs) (b w)
+
+-- pieces in order are those of the nest that they make, behind those of the nest before
+module _ (ps fs : List ℕ) (flags : areFlags 0 ps fs ≡ true) where
+  point-pieces-more : (p : ℕ) → pointPieces 0 (ps ++ (p ∷ [])) fs ≡ pointPieces 0 ps fs ++ (Point p ∷ [])
+  unfolding pointPieces
+  point-pieces-more p =
+      ap (pointPieces 0 (ps ++ (p ∷ []))) (sym (append-nil fs))
+      ∙ points-joined 0 (length ps) ps (p ∷ []) fs [] (omega arith) flags refl
+
+  flagged-pieces-more
+      : pointPieces 0 (ps ++ (DO ∷ [])) (fs ++ (length ps ∷ [])) ≡ pointPieces 0 ps fs ++ (Flagged ∷ [])
+  unfolding pointPieces
+  flagged-pieces-more =
+      let here = eq-eqb (length ps) (length ps) refl in
+      rw here at (points-joined 0 (length ps) ps (DO ∷ []) fs (length ps ∷ []) (omega arith) flags (rw here))
 
 dep-pieces-more : (ds : List Dep) (e : Dep) → depPieces (ds ++ (e ∷ [])) ≡ depPieces ds ++ (Depend e ∷ [])
 unfolding depPieces
@@ -355,6 +420,10 @@ no-dep-pieces : (ds : List Dep) → leb 1 (length ds) ≡ false → depPieces ds
 unfolding depPieces
 no-dep-pieces [] h = refl
 no-dep-pieces (e ∷ ds) h = absurd (omega (arith, leb-false 1 (suc (length ds)) h))
+
+no-deps-early : (n : Nest) → isPast n ≡ false → depPieces (n .deps) ≡ []
+no-deps-early n early =
+    no-dep-pieces (n .deps) (or-false (leb 1 (length (n .deps))) (leb 1 (length (n .barred))) early .0)
 
 -- nothing was barred before where nothing is barred behind
 none-before : (n : Nest) (xs : List Piece) → madeFrom n xs .barred ≡ [] → n .barred ≡ []
@@ -375,7 +444,7 @@ module _ (n : Nest) (none : n .barred ≡ []) where
   no-bar-pieces = ap barPieces none
 
   -- so its pieces are points and dependences
-  two-kinds : piecesOf n ≡ pointPieces (n .points) ++ depPieces (n .deps)
+  two-kinds : piecesOf n ≡ pointPieces 0 (n .points) (n .flagged) ++ depPieces (n .deps)
   two-kinds = rw (no-bar-pieces, append-nil (depPieces (n .deps)))
 
 piece-more
@@ -383,41 +452,61 @@ piece-more
     → InOrder n (x ∷ xs)
     → withPiece n x .barred ≡ []
     → n .barred ≡ []
+    → areFlags 0 (n .points) (n .flagged) ≡ true
     → piecesOf (withPiece n x) ≡ piecesOf n ++ (x ∷ [])
-piece-more n (Point k) xs o after before =
-    let none = no-dep-pieces (n .deps) (or-false (leb 1 (length (n .deps))) (leb 1 (length (n .barred)))
-    (point-early n k xs o) .0) in
+piece-more n (Point k) xs o after before flags =
+    let points = pointPieces 0 (n .points) (n .flagged) in
     two-kinds (withPoint n k) before ∙
     rw (
       two-kinds n before,
-      none,
-      point-pieces-more (n .points) k,
-      append-nil (pointPieces (n .points)),
-      append-nil (pointPieces (n .points) ++ (Point k ∷ [])),
+      no-deps-early n (point-early n k xs o),
+      point-pieces-more (n .points) (n .flagged) flags k,
+      append-nil points,
+      append-nil (points ++ (Point k ∷ [])),
     )
-piece-more n (Depend e) xs o after before =
-    let same = append-assoc (pointPieces (n .points)) (depPieces (n .deps)) (Depend e ∷ []) in
+piece-more n Flagged xs o after before flags =
+    let points = pointPieces 0 (n .points) (n .flagged) in
+    two-kinds (withFlagged n) before ∙
+    rw (
+      two-kinds n before,
+      no-deps-early n (flagged-early n xs o),
+      flagged-pieces-more (n .points) (n .flagged) flags,
+      append-nil points,
+      append-nil (points ++ (Flagged ∷ [])),
+    )
+piece-more n (Depend e) xs o after before flags =
+    let same = append-assoc (pointPieces 0 (n .points) (n .flagged)) (depPieces (n .deps)) (Depend e ∷ []) in
     two-kinds (withDep n e) before ∙ rw (two-kinds n before, dep-pieces-more (n .deps) e) (sym same)
-piece-more n (Bar g) xs o after before = absurd (some-barred n g after)
+piece-more n (Bar g) xs o after before flags = absurd (some-barred n g after)
+
+piece-flags
+    : (n : Nest) (x : Piece)
+    → areFlags 0 (n .points) (n .flagged) ≡ true
+    → areFlags 0 (withPiece n x .points) (withPiece n x .flagged) ≡ true
+piece-flags n (Point k) h = flags-more (n .points) k (n .flagged) h
+piece-flags n Flagged h = flags-flagged (n .points) (n .flagged) h
+piece-flags n (Depend e) h = h
+piece-flags n (Bar g) h = h
 
 ordered-made
     : (n : Nest) (xs : List Piece)
     → InOrder n xs
     → madeFrom n xs .barred ≡ []
+    → areFlags 0 (n .points) (n .flagged) ≡ true
     → piecesOf (madeFrom n xs) ≡ piecesOf n ++ xs
-ordered-made n [] o none = sym (append-nil (piecesOf n))
-ordered-made n (x ∷ xs) o none =
+ordered-made n [] o none flags = sym (append-nil (piecesOf n))
+ordered-made n (x ∷ xs) o none flags =
     let after = none-before (withPiece n x) xs none in
     let before = none-before n (x ∷ xs) none in
-    ordered-made (withPiece n x) xs (order-rest n x xs o) none
-    ∙ rw (piece-more n x xs o after before) (append-assoc (piecesOf n) (x ∷ []) xs)
+    ordered-made (withPiece n x) xs (order-rest n x xs o) none (piece-flags n x flags)
+    ∙ rw (piece-more n x xs o after before flags) (append-assoc (piecesOf n) (x ∷ []) xs)
 
 spells-text : (s : List ℕ) (n : Nest) → n .barred ≡ [] → Spells s n → s ≡ nestText n
 unfolding nestText pointPieces depPieces barPieces
 spells-text s n none h =
     let plain : madeOf (h .pieces) .barred ≡ [] = ap (λ (m : Nest). m .barred) (sym (h .nest-is)) ∙ none in
     let same : piecesOf (madeOf (h .pieces)) ≡ h .pieces =
-    ordered-made empty (h .pieces) (start-order (h .pieces) (h .ordered)) plain in
+    ordered-made empty (h .pieces) (start-order (h .pieces) (h .ordered)) plain refl in
     h .text ∙ ap piecesText (sym same) ∙ ap (λ (m : Nest). piecesText (piecesOf m)) (sym (h .nest-is))
 
 -- so a text is accepted with a nest that has nothing barred exactly where it is empty and the nest is 01, 02, or the

@@ -1,6 +1,6 @@
 -- Frames as the line reader hands them on: what they tell, by kind and length.
--- Main statements: `is-point`, `told-is`; `tells-point`, `tells-independent`, `tells-carried`, `tells-bar`, `long-point`,
--- `long-independent`, `long-carried`, `long-bar`, `no-kind`.
+-- Main statements: `is-point`, `told-is`; `tells-point`, `tells-independent`, `tells-carried`, `tells-bar`,
+-- `tells-flagged`, `long-point`, `long-independent`, `long-carried`, `long-bar`, `long-flagged`, `no-kind`.
 use mathlib.Core.Path.{_≡_}
 use mathlib.Core.Bool.{true, false}
 use mathlib.Core.List.{List}
@@ -10,11 +10,11 @@ use native.Mathlib.Omega.{arith}
 use lib.Dec.{leb}
 use borrow.Author.Tests.{le-leb, lt-leb, eq-eqb, ne-eqb}
 use Rattle.laws.proofs.Connectives.{and-off}
-use Rattle.nests.specs.Kinds.{STATEMENT, INDEPENDENT, CARRIED, BARRED}
+use Rattle.nests.specs.Kinds.{STATEMENT, FLAGGED, INDEPENDENT, CARRIED, BARRED}
 use Rattle.nests.specs.Nests.{dep}
 use Rattle.lines.specs.declared.Frame.{Frame}
 use Rattle.lines.specs.Reading.{IsFrame}
-use Rattle.texts.specs.Pieces.{Point, Depend, Bar, told, unknown, isPoint, pieceBy, pieceOf}
+use Rattle.texts.specs.Pieces.{Point, Depend, Bar, Flagged, told, unknown, isPoint, pieceBy, pieceOf}
 
 -- the kinds of points
 is-point : (k : ℕ) → 1 ≤ k → k < 4 → isPoint k ≡ true
@@ -43,7 +43,8 @@ module _ (k n a b c : ℕ) where
       let z : k ≡ INDEPENDENT → ⊥ = omega arith in
       let y : k ≡ CARRIED → ⊥ = omega arith in
       let x : k ≡ BARRED → ⊥ = omega arith in
-      rw (is-point k h g, ne-eqb n 1 e, ne-eqb k 17 z, ne-eqb k 18 y, ne-eqb k 19 x)
+      let w : k ≡ FLAGGED → ⊥ = omega arith in
+      rw (is-point k h g, ne-eqb n 1 e, ne-eqb k 17 z, ne-eqb k 18 y, ne-eqb k 19 x, ne-eqb k 4 w)
 
   pub tells-independent : k ≡ INDEPENDENT → n ≡ 3 → told (Depend (dep INDEPENDENT 0 a b)) ≡ pieceBy k n a b c
   tells-independent h e = rw (h, e)
@@ -63,10 +64,17 @@ module _ (k n a b c : ℕ) where
   pub long-bar : k ≡ BARRED → (n ≡ 2 → ⊥) → unknown ≡ pieceBy k n a b c
   long-bar h e = rw (h, ne-eqb n 2 e)
 
+  pub tells-flagged : k ≡ FLAGGED → n ≡ 1 → told Flagged ≡ pieceBy k n a b c
+  tells-flagged h e = rw (h, e)
+
+  pub long-flagged : k ≡ FLAGGED → (n ≡ 1 → ⊥) → unknown ≡ pieceBy k n a b c
+  long-flagged h e = rw (h, ne-eqb n 1 e)
+
   pub no-kind
       : (k < 1) ⊎ (4 ≤ k)
       → (k ≡ INDEPENDENT → ⊥)
       → (k ≡ CARRIED → ⊥)
       → (k ≡ BARRED → ⊥)
+      → (k ≡ FLAGGED → ⊥)
       → unknown ≡ pieceBy k n a b c
-  no-kind h i j l = rw (no-point k h, ne-eqb k 17 i, ne-eqb k 18 j, ne-eqb k 19 l)
+  no-kind h i j l m = rw (no-point k h, ne-eqb k 17 i, ne-eqb k 18 j, ne-eqb k 19 l, ne-eqb k 4 m)

@@ -1,7 +1,7 @@
 -- Nest texts read line by line: what a turn of the reader keeps, and one law for each way through a turn.
 -- Main statements: `at-blank`, `begun`, `at-end`, `at-refusal`; of a turn that comes to a frame (`Turn`)
--- `at-unknown`, `at-point`, `at-dependence`, `at-barred`, `room-for-point`, `room-for-dependence`, `room-for-bar`,
--- `on-point`, `on-dependence`, `on-bar`.
+-- `at-unknown`, `at-point`, `at-dependence`, `at-barred`, `at-flagged`, `room-for-point`, `room-for-dependence`,
+-- `room-for-bar`, `room-for-flagged`, `on-point`, `on-dependence`, `on-bar`, `on-flagged`.
 use mathlib.Core.Path.{_≡_, refl, sym, _∙_, ap}
 use mathlib.Core.Bool.{Bool, true, false, _&&_, not}
 use mathlib.Core.List.{List, [], _∷_}
@@ -107,6 +107,7 @@ pub record Loading (s : List ℕ) (n : DN.Nest) (ends : List ℕ) (single : Bool
   pub wide : length (n .points) ≡ POINTS
   pub long : length (n .deps) ≡ DEPENDENCES
   pub broad : length (n .barred) ≡ BARS
+  pub tall : length (n .flagged) ≡ POINTS
   pub deep-is : deep ≡ depth (nestIn n .points)
   pub knows : KnowsEnds (nestIn n .points) deep ends
   pub knows-one : KnowsOne (nestIn n .points) deep single
@@ -132,14 +133,16 @@ pub begun
     → IsEmpty n
     → length (n .points) ≡ POINTS
     → length (n .barred) ≡ BARS
+    → length (n .flagged) ≡ POINTS
     → length ends ≡ POINTS
     → Loading s n ends true 0 0 1
-begun s n ends some e w v l =
+begun s n ends some e w v u l =
     record {
       counted = e .counted;
       wide = w;
       long = e .long;
       broad = v;
+      tall = u;
       knows =
           record {
             long = l;
@@ -261,16 +264,18 @@ module _
         → length (m .points) ≡ POINTS
         → length (m .deps) ≡ DEPENDENCES
         → length (m .barred) ≡ BARS
+        → length (m .flagged) ≡ POINTS
         → d ≡ depth (nestIn m .points)
         → KnowsEnds (nestIn m .points) d ends′
         → KnowsOne (nestIn m .points) d single′
         → Loading s m ends′ single′ d (f .next) (line + 1)
-    on m ends′ single′ d z added c v l b w t u =
+    on m ends′ single′ d z added c v l b q w t u =
         record {
           counted = c;
           wide = v;
           long = l;
           broad = b;
+          tall = q;
           deep-is = w;
           knows = t;
           knows-one = u;
@@ -322,12 +327,49 @@ module _
           (length-set (n .points) (n .count) k ∙ p .wide)
           (p .long)
           (p .broad)
+          (p .tall)
           (w
           ∙ ap (λ (y : ℕ). deeper y k) (p .deep-is)
           ∙ sym (depth-more (nestIn n .points) k)
           ∙ ap (λ (y : Nest). depth (y .points)) (sym (q .nest-is)))
           t
           u
+
+    -- the DO of a flagged loop, with its refusal e
+    module _ (e : ℕ) (is : x ≡ PV.Flagged) (fault : PointFault (n .count) (n .many) (n .bars) deep DO e) where
+      flagged-told : e ≡ toldFault (nestIn n) (toldIn x)
+      flagged-told = fault (nestIn n) (numbers s n ends single deep at line p) ∙ rw is
+
+      pub at-flagged : (r : Reading) → (e ≡ 0 → ⊥) → RefusedAs e line r → IsRead s r
+      at-flagged r = at-fault e r flagged-told
+
+      pub room-for-flagged : e ≡ 0 → (n .count < POINTS) × (n .flags < POINTS)
+      room-for-flagged z =
+          let none : toldFault (nestIn n) (toldIn x) ≡ 0 = sym flagged-told ∙ z in
+          let room = point-room (nestIn n) DO (rw is at none) in
+          omega (arith, p .counted .count-is, p .counted .flags-fit, room)
+
+      pub on-flagged : e ≡ 0 → Loading s (stored.with-flagged n (p .counted)) ends single (deep + 1) (f .next) (line + 1)
+      on-flagged z =
+          let q = stored.flagged-added n (p .counted) (room-for-flagged z .0) (p .wide) (p .tall) in
+          on
+          (stored.with-flagged n (p .counted))
+          ends
+          single
+          (deep + 1)
+          (sym flagged-told ∙ z)
+          (q .nest-is ∙ ap (λ (y : DP.Piece). withTold (nestIn n) (toldIn y)) (sym is))
+          (q .counted)
+          (length-set (n .points) (n .count) DO ∙ p .wide)
+          (p .long)
+          (p .broad)
+          (length-set (n .flagged) (n .flags) (n .count) ∙ p .tall)
+          (add-one deep
+          ∙ ap suc (p .deep-is)
+          ∙ sym (depth-more (nestIn n .points) DO)
+          ∙ ap (λ (y : Nest). depth (y .points)) (sym (q .nest-is)))
+          (record { long = p .knows .long; has-ends = λ w. absurd (omega (arith, w)) })
+          (λ w. absurd (omega (arith, w)))
 
     -- the count is that of the points themselves
     of-points
@@ -370,6 +412,7 @@ module _
             (p .wide)
             (length-set (n .deps) (n .many) g ∙ p .long)
             (p .broad)
+            (p .tall)
             (p .deep-is)
             (p .knows)
             (p .knows-one)
@@ -405,6 +448,7 @@ module _
             (p .wide)
             (p .long)
             (length-set (n .barred) (n .bars) g ∙ p .broad)
+            (p .tall)
             (p .deep-is)
             (p .knows)
             (p .knows-one)

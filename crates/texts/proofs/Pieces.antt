@@ -12,7 +12,7 @@ use lib.ListN.{length, getD, List·getD-eq-default}
 use borrow.Author.Tests.{ltb-true, leb-true, eqb-true, lt-ltb}
 use Rattle.laws.proofs.Tests.{lt-by, and-intro, and-true, or-true}
 use Rattle.laws.proofs.Choices.{pick-by}
-use Rattle.nests.specs.Kinds.{DO, ENDDO, STATEMENT, INDEPENDENT, CARRIED, BARRED, POINTS}
+use Rattle.nests.specs.Kinds.{DO, ENDDO, STATEMENT, FLAGGED, INDEPENDENT, CARRIED, BARRED, POINTS}
 use Rattle.nests.specs.Nests.{Dep, dep}
 use Rattle.nests.specs.Loops.{isDo}
 use Rattle.nests.specs.Gaps.{isGap}
@@ -20,14 +20,15 @@ use Rattle.nests.specs.Valid.{isSource, isTarget, namesPoints, isOfKind}
 use Rattle.nests.proofs.Bars.{gap-within}
 use Rattle.lines.specs.Lines.{linesOf}
 use Rattle.lines.proofs.Spelling.{areBytes, areFrames, framesText, framesOf, frames-back}
-use Rattle.texts.specs.Pieces.{Piece, Point, Depend, Bar, Told, told, unknown, isPoint, pieceOf, depFrame}
-use Rattle.texts.specs.Pieces.{pieceFrame, piecesText}
+use Rattle.texts.specs.Pieces.{Piece, Point, Depend, Bar, Flagged, Told, told, unknown, isPoint, pieceOf}
+use Rattle.texts.specs.Pieces.{depFrame, pieceFrame, piecesText}
 
 -- a piece of one of the kinds
 abbrev pub isPiece : Piece → Bool
 isPiece (Point k) = isPoint k
 isPiece (Depend e) = isOfKind e
 isPiece (Bar g) = true
+isPiece Flagged = true
 
 -- a list by its length
 of-one : (f : List ℕ) → length f ≡ 1 → f ≡ getD f 0 0 ∷ []
@@ -53,7 +54,8 @@ pub told-by
     → ((x : Piece) → isPiece x ≡ true → f ≡ pieceFrame x → P (told x))
     → P unknown
     → P (pieceOf f)
-told-by P f good none = pick-by P one (λ p. pick-by P three (λ q. pick-by P four (λ r. pick-by P two (λ t. none))))
+told-by P f good none =
+    pick-by P one (λ p. pick-by P three (λ q. pick-by P four (λ r. pick-by P two (λ t. pick-by P flag (λ v. none)))))
   where
     one : (isPoint (getD f 0 0) && eqb (length f) 1) ≡ true → P (told (Point (getD f 0 0)))
     one h =
@@ -84,6 +86,13 @@ told-by P f good none = pick-by P one (λ p. pick-by P three (λ q. pick-by P fo
         let is = eqb-true (getD f 0 0) BARRED (a .0) in
         let same = of-two f (eqb-true (length f) 2 (a .1)) in
         good (Bar (getD f 1 0)) refl (same ∙ ap {B = List ℕ} (λ k. k ∷ (getD f 1 0 ∷ [])) is)
+
+    flag : (eqb (getD f 0 0) FLAGGED && eqb (length f) 1) ≡ true → P (told Flagged)
+    flag h =
+        let a = and-true (eqb (getD f 0 0) FLAGGED) (eqb (length f) 1) h in
+        let is = eqb-true (getD f 0 0) FLAGGED (a .0) in
+        let same = of-one f (eqb-true (length f) 1 (a .1)) in
+        good Flagged refl (same ∙ ap {B = List ℕ} (λ k. k ∷ []) is)
 
 -- a dependence of one of the two kinds
 pub data DepSort : Dep → Type 0 where
@@ -116,6 +125,7 @@ pub piece-back : (x : Piece) → isPiece x ≡ true → pieceOf (pieceFrame x) �
 piece-back (Point k) h = rw h
 piece-back (Depend e) h = dep-back (dep-sort e h)
 piece-back (Bar g) h = refl
+piece-back Flagged h = refl
 
 dep-long : {e : Dep} → DepSort e → leb 1 (length (depFrame e)) ≡ true
 dep-long (run s t) = refl
@@ -125,6 +135,7 @@ pub piece-long : (x : Piece) → isPiece x ≡ true → leb 1 (length (pieceFram
 piece-long (Point k) h = refl
 piece-long (Depend e) h = dep-long (dep-sort e h)
 piece-long (Bar g) h = refl
+piece-long Flagged h = refl
 
 -- the points that a valid dependence names are points of the nest
 source-below : (ps : List ℕ) (s : ℕ) → isSource ps s ≡ true → s < length ps

@@ -5,13 +5,14 @@
 use mathlib.Core.Path.{_≡_, refl}
 use mathlib.Core.Bool.{Bool, true, false}
 use mathlib.Core.List.{List, [], _∷_, _++_}
-use Prim.Native.Nat.{ℕ, _+_, _*_, _/_, _%_, _≤_, _<_}
+use Prim.Native.Nat.{ℕ, suc, _+_, _*_, _/_, _%_, _≤_, _<_}
 use native.Mathlib.Omega.{arith}
 use lib.Dec.{eqb}
 use lib.ListN.{length, length-append}
 use borrow.Author.Tests.{lt-ltb, le-ltb, ne-eqb}
 use Rattle.laws.specs.Choice.{pick}
 use Rattle.laws.proofs.Tests.{and-intro}
+use Rattle.laws.proofs.Choices.{pick-by}
 use Rattle.nests.specs.Kinds.{INDEPENDENT, CARRIED}
 use Rattle.nests.specs.Nests.{Dep, Nest}
 use Rattle.nests.specs.Valid.{isValid}
@@ -19,7 +20,7 @@ use Rattle.nests.proofs.Deps.{valid-is}
 use Rattle.lines.specs.Lines.{lineText}
 use Rattle.lines.proofs.Spelling.{areBytes}
 use Rattle.barred.specs.Reduced.{isBlocked}
-use Rattle.texts.specs.Pieces.{Piece, depFrame, piecesText}
+use Rattle.texts.specs.Pieces.{Piece, Point, Flagged, depFrame, piecesText}
 use Rattle.texts.specs.NestTexts.{blank, readNest, pointPieces, depPieces, barPieces, nestText}
 use Rattle.texts.specs.PlacementTexts.{keyText}
 use Rattle.texts.specs.Counts.{countsText}
@@ -57,18 +58,26 @@ deps-length (e ∷ ds) xs =
     )
 
 points-length
-    : (ps : List ℕ) (xs : List Piece)
-    → length (piecesText (pointPieces ps ++ xs)) ≡ 3 * length ps + length (piecesText xs)
+    : (i : ℕ) (ps fs : List ℕ) (xs : List Piece)
+    → length (piecesText (pointPieces i ps fs ++ xs)) ≡ 3 * length ps + length (piecesText xs)
 unfolding pointPieces piecesText
-points-length [] xs = omega arith
-points-length (p ∷ ps) xs = omega (arith, points-length ps xs)
+points-length i [] fs xs = omega arith
+points-length i (p ∷ ps) [] xs = omega (arith, points-length (suc i) ps [] xs)
+points-length i (p ∷ ps) (f ∷ fs) xs =
+    pick-by
+    (λ (ys : List Piece). length (piecesText (ys ++ xs)) ≡ 3 * length (p ∷ ps) + length (piecesText xs))
+    {t = eqb i f}
+    {a = Flagged ∷ pointPieces (suc i) ps fs}
+    {b = Point p ∷ pointPieces (suc i) ps (f ∷ fs)}
+    (λ z. omega (arith, points-length (suc i) ps fs xs))
+    (λ z. omega (arith, points-length (suc i) ps (f ∷ fs) xs))
 
 -- a valid nest's spelling is within the longest input
 pub spelling-short : (n : Nest) → isValid n ≡ true → length (nestText n) ≤ LONGEST
 unfolding nestText
 spelling-short n h =
     let v = valid-is n h in
-    let points = points-length (n .points) (depPieces (n .deps) ++ barPieces (n .barred)) in
+    let points = points-length 0 (n .points) (n .flagged) (depPieces (n .deps) ++ barPieces (n .barred)) in
     let deps = deps-length (n .deps) (barPieces (n .barred)) in
     let bars = bars-length (n .barred) in
     omega (arith, v .few-points, v .few-deps, v .few-bars)

@@ -19,7 +19,7 @@ use Rattle.nests.specs.Ring.{oneLoop}
 use Rattle.nests.specs.Valid.{namesPoints, runsRight, depFault, barFault}
 use Rattle.lines.specs.Lines.{Line, linesOf, isGood, frameOf}
 use Rattle.lines.proofs.Spelling.{lines-few}
-use Rattle.texts.specs.Pieces.{Point, Depend, Bar, Told, told, unknown, pieceOf, isPast}
+use Rattle.texts.specs.Pieces.{Point, Depend, Bar, Flagged, Told, told, unknown, pieceOf, isPast}
 use Rattle.texts.specs.Pieces.{pointFault, dependenceFault, barredFault, toldFault}
 use Rattle.texts.specs.NestTexts.{withFrame, lineFault, Got, got, readLines, readNest}
 
@@ -60,6 +60,7 @@ told-fault-to-14 : (n : Nest) (x : Told) → toldFault n x ≤ 14
 told-fault-to-14 n (told (Point k)) = point-fault-to-14 n k
 told-fault-to-14 n (told (Depend e)) = dependence-fault-to-14 n e
 told-fault-to-14 n (told (Bar g)) = barred-fault-to-14 n g
+told-fault-to-14 n (told Flagged) = point-fault-to-14 n DO
 told-fault-to-14 n unknown = omega arith
 
 pub line-fault-to-14 : (n : Nest) (l : Line) → lineFault n l ≤ 14

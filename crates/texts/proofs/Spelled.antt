@@ -12,17 +12,19 @@ use lib.ListN.{length, length-append}
 use borrow.Author.Tests.{eqb-true, lt-leb, le-leb, ne-eqb, eq-eqb}
 use Rattle.laws.specs.Choice.{when, firstOf}
 use Rattle.laws.proofs.Tests.{never, false-by, and-intro, and-true}
+use Rattle.laws.proofs.Choices.{pick-by}
 use Rattle.nests.specs.Kinds.{DO, POINTS, DEPTH, DEPENDENCES, BARS}
-use Rattle.nests.specs.Nests.{Dep, Nest, empty, withPoint, withDep, withBar}
+use Rattle.nests.specs.Nests.{Dep, Nest, empty, withPoint, withDep, withBar, withFlagged}
 use Rattle.nests.specs.Loops.{depth, isClosed}
 use Rattle.nests.specs.Gaps.{isGap}
 use Rattle.nests.specs.Ring.{oneLoop}
-use Rattle.nests.specs.Valid.{isShape, isOfKind, namesPoints, runsRight, isDep, areDeps, isBar, areBars, isValid}
+use Rattle.nests.specs.Valid.{isShape, isOfKind, namesPoints, runsRight, isDep, areDeps, isBar, areBars}
+use Rattle.nests.specs.Valid.{areFlags, isValid}
 use Rattle.nests.proofs.Deps.{Valid, valid-is}
 use Rattle.lines.specs.Lines.{linesOf, lineText}
 use Rattle.lines.proofs.Spelling.{areBytes, line-first, digits-good, frame-digits}
-use Rattle.texts.specs.Pieces.{Piece, Point, Depend, Bar, pieceFrame, isPast, pieceFault}
-use Rattle.texts.specs.Pieces.{withPiece, piecesText, noFirst, isOrdered, madeFrom, madeOf}
+use Rattle.texts.specs.Pieces.{Piece, Point, Depend, Bar, Flagged, isPoint, pieceFrame, isPast}
+use Rattle.texts.specs.Pieces.{pointFault, pieceFault, withPiece, piecesText, noFirst, isOrdered, madeFrom, madeOf}
 use Rattle.texts.specs.NestTexts.{frameFault, withFrame, got, readLines, readNest, Spells}
 use Rattle.texts.specs.NestTexts.{pointPieces, depPieces, barPieces, piecesOf, nestText}
 use Rattle.texts.proofs.BlankPaper.{lines-read}
@@ -60,6 +62,16 @@ grown n (Point k ∷ xs) =
       more-bars = g .more-bars;
       bars-are = g .bars-are;
     }
+grown n (Flagged ∷ xs) =
+    let g = grown (withFlagged n) xs in
+    record {
+      more-points = DO ∷ g .more-points;
+      points-are = g .points-are ∙ append-assoc (n .points) (DO ∷ []) (g .more-points);
+      more-deps = g .more-deps;
+      deps-are = g .deps-are;
+      more-bars = g .more-bars;
+      bars-are = g .bars-are;
+    }
 grown n (Depend e ∷ xs) =
     let g = grown (withDep n e) xs in
     record {
@@ -85,6 +97,7 @@ grown n (Bar b ∷ xs) =
 points-stay : (n : Nest) (xs : List Piece) → noFirst xs ≡ true → madeFrom n xs .points ≡ n .points
 points-stay n [] h = refl
 points-stay n (Point k ∷ xs) h = never h
+points-stay n (Flagged ∷ xs) h = never h
 points-stay n (Depend e ∷ xs) h = points-stay (withDep n e) xs h
 points-stay n (Bar g ∷ xs) h = points-stay (withBar n g) xs h
 
@@ -143,28 +156,46 @@ pub record InOrder (n : Nest) (xs : List Piece) : Type 0 where
   pub ordered : isOrdered xs ≡ true
   pub late : isPast n ≡ true → noFirst xs ≡ true
 
+-- a point that stands next in a valid nest
+next-point
+    : (n m : Nest) (k : ℕ) (more : List ℕ)
+    → isPast n ≡ false
+    → m .points ≡ (n .points ++ (k ∷ [])) ++ more
+    → Valid m
+    → (isPoint k ≡ true) × (pointFault n k ≡ 0)
+next-point n m k more early is v =
+    let all : m .points ≡ n .points ++ (k ∷ more) = is ∙ append-assoc (n .points) (k ∷ []) more in
+    let shape : isShape (n .points ++ (k ∷ more)) ≡ true = rw all at (v .shape) in
+    let f = shape-follows (n .points) k more shape in
+    let long = ap length all ∙ length-append (n .points) (k ∷ more) in
+    let few : length (n .points) < POINTS = omega (arith, long, v .few-points) in
+    (f .point, rw early (point-none (n .points) k few f))
+
 module _ (n : Nest) (k : ℕ) (xs : List Piece) (o : InOrder n (Point k ∷ xs)) where
   pub point-early : isPast n ≡ false
   point-early = false-by (λ z. never (o .late z))
 
   point-fitting : Valid (madeFrom (withPoint n k) xs) → Fitting n (Point k)
   point-fitting v =
-      let m = madeFrom (withPoint n k) xs in
       let g = grown (withPoint n k) xs in
-      let all : m .points ≡ n .points ++ (k ∷ g .more-points) =
-      g .points-are ∙ append-assoc (n .points) (k ∷ []) (g .more-points) in
-      let shape : isShape (n .points ++ (k ∷ g .more-points)) ≡ true = rw all at (v .shape) in
-      let f = shape-follows (n .points) k (g .more-points) shape in
-      let long = ap length all ∙ length-append (n .points) (k ∷ g .more-points) in
-      let few : length (n .points) < POINTS = omega (arith, long, v .few-points) in
-      record {
-        kind = f .point;
-        bytes = point-bytes k (f .point);
-        none = rw point-early (point-none (n .points) k few f);
-      }
+      let f = next-point n (madeFrom (withPoint n k) xs) k (g .more-points) point-early (g .points-are) v in
+      record { kind = f .0; bytes = point-bytes k (f .0); none = f .1 }
 
   point-rest : InOrder (withPoint n k) xs
   point-rest = record { ordered = o .ordered; late = λ z. never (o .late z) }
+
+module _ (n : Nest) (xs : List Piece) (o : InOrder n (Flagged ∷ xs)) where
+  pub flagged-early : isPast n ≡ false
+  flagged-early = false-by (λ z. never (o .late z))
+
+  flagged-fitting : Valid (madeFrom (withFlagged n) xs) → Fitting n Flagged
+  flagged-fitting v =
+      let g = grown (withFlagged n) xs in
+      let f = next-point n (madeFrom (withFlagged n) xs) DO (g .more-points) flagged-early (g .points-are) v in
+      record { kind = refl; bytes = refl; none = f .1 }
+
+  flagged-rest : InOrder (withFlagged n) xs
+  flagged-rest = record { ordered = o .ordered; late = λ z. never (o .late z) }
 
 module _ (n : Nest) (e : Dep) (xs : List Piece) (o : InOrder n (Depend e ∷ xs)) where
   dep-last : noFirst xs ≡ true
@@ -232,11 +263,13 @@ pub fitting
     → isValid (madeFrom n (x ∷ xs)) ≡ true
     → Fitting n x
 fitting n (Point k) xs o v = point-fitting n k xs o (valid-is (madeFrom (withPoint n k) xs) v)
+fitting n Flagged xs o v = flagged-fitting n xs o (valid-is (madeFrom (withFlagged n) xs) v)
 fitting n (Depend e) xs o v = dep-fitting n e xs o (valid-is (madeFrom (withDep n e) xs) v)
 fitting n (Bar g) xs o v = bar-fitting n g xs o (valid-is (madeFrom (withBar n g) xs) v)
 
 pub order-rest : (n : Nest) (x : Piece) (xs : List Piece) → InOrder n (x ∷ xs) → InOrder (withPiece n x) xs
 order-rest n (Point k) xs o = point-rest n k xs o
+order-rest n Flagged xs o = flagged-rest n xs o
 order-rest n (Depend e) xs o = dep-rest n e xs o
 order-rest n (Bar g) xs o = bar-rest n g xs o
 
@@ -321,15 +354,24 @@ deps-first [] bs = bars-first bs
 deps-first (e ∷ ds) bs = let r = deps-first ds bs in (r .0, and-intro (r .0) (r .1))
 
 points-first
-    : (ps : List ℕ) (ds : List Dep) (bs : List ℕ)
-    → isOrdered (pointPieces ps ++ (depPieces ds ++ barPieces bs)) ≡ true
+    : (i : ℕ) (ps fs : List ℕ) (ds : List Dep) (bs : List ℕ)
+    → isOrdered (pointPieces i ps fs ++ (depPieces ds ++ barPieces bs)) ≡ true
 unfolding pointPieces
-points-first [] ds bs = deps-first ds bs .1
-points-first (p ∷ ps) ds bs = points-first ps ds bs
+points-first i [] fs ds bs = deps-first ds bs .1
+points-first i (p ∷ ps) [] ds bs = points-first (suc i) ps [] ds bs
+points-first i (p ∷ ps) (f ∷ fs) ds bs =
+    pick-by
+    (λ (xs : List Piece). isOrdered (xs ++ (depPieces ds ++ barPieces bs)) ≡ true)
+    {t = eqb i f}
+    {a = Flagged ∷ pointPieces (suc i) ps fs}
+    {b = Point p ∷ pointPieces (suc i) ps (f ∷ fs)}
+    (λ z. points-first (suc i) ps fs ds bs)
+    (λ z. points-first (suc i) ps (f ∷ fs) ds bs)
 
 -- what is made of the pieces of each kind
 abbrev barsOn : Nest → List ℕ → Nest
-barsOn n bs = record { points = n .points; deps = n .deps; barred = n .barred ++ bs }
+barsOn n bs =
+    record { points = n .points; deps = n .deps; barred = n .barred ++ bs; flagged = n .flagged }
 
 bars-made : (n : Nest) (bs : List ℕ) → madeFrom n (barPieces bs) ≡ barsOn n bs
 unfolding barPieces
@@ -337,7 +379,8 @@ bars-made n [] = rw (append-nil (n .barred))
 bars-made n (b ∷ bs) = bars-made (withBar n b) bs ∙ rw (append-assoc (n .barred) (b ∷ []) bs)
 
 abbrev depsOn : Nest → List Dep → Nest
-depsOn n ds = record { points = n .points; deps = n .deps ++ ds; barred = n .barred }
+depsOn n ds =
+    record { points = n .points; deps = n .deps ++ ds; barred = n .barred; flagged = n .flagged }
 
 deps-made
     : (n : Nest) (ds : List Dep) (bs : List ℕ) → madeFrom n (depPieces ds ++ barPieces bs) ≡ barsOn (depsOn n ds) bs
@@ -345,18 +388,58 @@ unfolding depPieces
 deps-made n [] bs = bars-made n bs ∙ rw (append-nil (n .deps))
 deps-made n (e ∷ ds) bs = deps-made (withDep n e) ds bs ∙ rw (append-assoc (n .deps) (e ∷ []) ds)
 
-abbrev pointsOn : Nest → List ℕ → Nest
-pointsOn n ps = record { points = n .points ++ ps; deps = n .deps; barred = n .barred }
+abbrev pointsOn : Nest → List ℕ → List ℕ → Nest
+pointsOn n ps fs =
+    record { points = n .points ++ ps; deps = n .deps; barred = n .barred; flagged = n .flagged ++ fs }
 
-points-made
-    : (n : Nest) (ps : List ℕ) (ds : List Dep) (bs : List ℕ)
-    → madeFrom n (pointPieces ps ++ (depPieces ds ++ barPieces bs)) ≡ barsOn (depsOn (pointsOn n ps) ds) bs
-unfolding pointPieces
-points-made n [] ds bs = deps-made n ds bs ∙ rw (append-nil (n .points))
-points-made n (p ∷ ps) ds bs = points-made (withPoint n p) ps ds bs ∙ rw (append-assoc (n .points) (p ∷ []) ps)
+next-at : (ps : List ℕ) (p i : ℕ) → i ≡ length ps → suc i ≡ length (ps ++ (p ∷ []))
+next-at ps p i at = omega (arith, at, length-append ps (p ∷ []))
 
-pub nest-made : (n : Nest) → madeOf (piecesOf n) ≡ n
-nest-made n = points-made empty (n .points) (n .deps) (n .barred)
+point-on : (n : Nest) (p : ℕ) (ps fs : List ℕ) → pointsOn (withPoint n p) ps fs ≡ pointsOn n (p ∷ ps) fs
+point-on n p ps fs = rw (append-assoc (n .points) (p ∷ []) ps)
+
+flagged-on
+    : (n : Nest) (i p : ℕ) (ps fs : List ℕ)
+    → i ≡ length (n .points)
+    → p ≡ DO
+    → pointsOn (withFlagged n) ps fs ≡ pointsOn n (p ∷ ps) (i ∷ fs)
+flagged-on n i p ps fs at is =
+    rw
+    (at, is, append-assoc (n .points) (DO ∷ []) ps, append-assoc (n .flagged) (length (n .points) ∷ []) fs)
+
+module _ (ds : List Dep) (bs : List ℕ) where
+  abbrev others : List Piece
+  others = depPieces ds ++ barPieces bs
+
+  abbrev Points-made : Nest → ℕ → List ℕ → List ℕ → Type 0
+  Points-made n i ps fs = madeFrom n (pointPieces i ps fs ++ others) ≡ barsOn (depsOn (pointsOn n ps fs) ds) bs
+
+  points-made
+      : (n : Nest) (i : ℕ) (ps fs : List ℕ)
+      → i ≡ length (n .points)
+      → areFlags i ps fs ≡ true
+      → Points-made n i ps fs
+  unfolding pointPieces
+  points-made n i [] [] at h = deps-made n ds bs ∙ rw (append-nil (n .points), append-nil (n .flagged))
+  points-made n i [] (f ∷ fs) at h = never h
+  points-made n i (p ∷ ps) [] at h =
+      points-made (withPoint n p) (suc i) ps [] (next-at (n .points) p i at) refl
+      ∙ ap (λ (m : Nest). barsOn (depsOn m ds) bs) (point-on n p ps [])
+  points-made n i (p ∷ ps) (f ∷ fs) at h =
+      pick-by
+      (λ (xs : List Piece). madeFrom n (xs ++ others) ≡ barsOn (depsOn (pointsOn n (p ∷ ps) (f ∷ fs)) ds) bs)
+      (λ z.
+      let a = and-true (eqb p DO) (areFlags (suc i) ps fs) (rw z at h) in
+      let is : f ≡ length (n .points) = sym (eqb-true i f z) ∙ at in
+      points-made (withFlagged n) (suc i) ps fs (next-at (n .points) DO i at) (a .1)
+      ∙ ap (λ (m : Nest). barsOn (depsOn m ds) bs) (flagged-on n f p ps fs is (eqb-true p DO (a .0))))
+      (λ z.
+      points-made (withPoint n p) (suc i) ps (f ∷ fs) (next-at (n .points) p i at) (rw z at h)
+      ∙ ap (λ (m : Nest). barsOn (depsOn m ds) bs) (point-on n p ps (f ∷ fs)))
+
+pub nest-made : (n : Nest) → isValid n ≡ true → madeOf (piecesOf n) ≡ n
+nest-made n v =
+    points-made (n .deps) (n .barred) empty 0 (n .points) (n .flagged) refl (valid-is n v .all-flags)
 
 -- the spelling of a valid nest spells it, so it is accepted with that nest
 pub nest-spells : (n : Nest) → isValid n ≡ true → Spells (nestText n) n
@@ -364,9 +447,9 @@ unfolding nestText
 nest-spells n v =
     record {
       pieces = piecesOf n;
-      ordered = points-first (n .points) (n .deps) (n .barred);
+      ordered = points-first 0 (n .points) (n .flagged) (n .deps) (n .barred);
       text = refl;
-      nest-is = sym (nest-made n);
+      nest-is = sym (nest-made n v);
       valid = v;
     }
 

@@ -7,7 +7,7 @@ use mathlib.Core.List.{List, [], _∷_, _++_}
 use Prim.Native.Nat.{ℕ}
 use lib.ListN.{length, replicate}
 use Rattle.nests.specs.Kinds.{INDEPENDENT, CARRIED}
-use Rattle.nests.specs.Nests.{dep, Nest, nest, empty, withDep}
+use Rattle.nests.specs.Nests.{dep, Nest, barring, nest, empty, withDep}
 use Rattle.lines.specs.Lines.{linesOf, frameOf}
 use Rattle.placements.specs.Words.{gapsOf}
 use Rattle.lines.proofs.Spelling.{framesText}
@@ -137,7 +137,7 @@ unfolding readNest readLines linesOf frameOf
 dependence-first = refl
 
 -- a frame of no known kind, or of a length that is not its kind's, has number 2
-pub unknown-kind : readNest (framesText ((0x04 ∷ []) ∷ [])) ≡ got 2 1 empty
+pub unknown-kind : readNest (framesText ((0x05 ∷ []) ∷ [])) ≡ got 2 1 empty
 unfolding readNest readLines linesOf frameOf
 unknown-kind = refl
 
@@ -165,11 +165,7 @@ bars-lines f =
 pub bars-read
     : readNest (bars-lines (0x12 ∷ 0x00 ∷ 0x02 ∷ 0x01 ∷ []))
     ≡ got 0 0
-    (record {
-      points = 1 ∷ 3 ∷ 3 ∷ 2 ∷ [];
-      deps = dep INDEPENDENT 0 1 2 ∷ dep CARRIED 0 2 1 ∷ [];
-      barred = 2 ∷ 2 ∷ [];
-    })
+    (barring (1 ∷ 3 ∷ 3 ∷ 2 ∷ []) (dep INDEPENDENT 0 1 2 ∷ dep CARRIED 0 2 1 ∷ []) (2 ∷ 2 ∷ []))
 unfolding readNest readLines linesOf frameOf
 bars-read = refl
 
@@ -203,15 +199,54 @@ pub bar-beyond-P : readNest (P-lines ++ framesText ((0x13 ∷ 0x0e ∷ []) ∷ [
 unfolding readNest readLines linesOf frameOf
 bar-beyond-P = refl
 
-abbrev barring : ℕ → Nest
-barring k = record { points = 1 ∷ 3 ∷ 2 ∷ []; deps = []; barred = replicate k 1 }
+abbrev barred-so : ℕ → Nest
+barred-so k = barring (1 ∷ 3 ∷ 2 ∷ []) [] (replicate k 1)
 
-pub bars-255 : readNest (nestText (barring 255)) ≡ got 0 0 (barring 255)
-bars-255 = valid-accepted (barring 255) refl
+pub bars-255 : readNest (nestText (barred-so 255)) ≡ got 0 0 (barred-so 255)
+bars-255 = valid-accepted (barred-so 255) refl
 
-pub bar-256 : readNest (nestText (barring 256)) ≡ got 5 259 empty
+pub bar-256 : readNest (nestText (barred-so 256)) ≡ got 5 259 empty
 unfolding readNest readLines linesOf frameOf nestText pointPieces depPieces barPieces piecesText
 bar-256 = refl
+
+-- 02, job 10: a flagged DO is read as a DO, and its point is kept, under a barred gap too; the spelling writes it so
+abbrev flagged-lines : List ℕ → List ℕ
+flagged-lines f = framesText ((0x04 ∷ []) ∷ (0x03 ∷ []) ∷ f ∷ (0x02 ∷ []) ∷ (0x02 ∷ []) ∷ (0x11 ∷ 0x02 ∷ 0x03 ∷ []) ∷ [])
+
+abbrev flagged-nest : Nest
+flagged-nest =
+    record { points = 1 ∷ 3 ∷ 1 ∷ 2 ∷ 2 ∷ []; deps = dep INDEPENDENT 0 2 3 ∷ []; barred = []; flagged = 0 ∷ 2 ∷ [] }
+
+pub flagged-read : readNest (flagged-lines (0x04 ∷ [])) ≡ got 0 0 flagged-nest
+unfolding readNest readLines linesOf frameOf
+flagged-read = refl
+
+pub flagged-spelled : nestText flagged-nest ≡ flagged-lines (0x04 ∷ [])
+unfolding nestText pointPieces depPieces barPieces piecesText
+flagged-spelled = refl
+
+pub flagged-barred
+    : readNest (framesText ((0x04 ∷ []) ∷ (0x02 ∷ []) ∷ (0x13 ∷ 0x01 ∷ []) ∷ []))
+    ≡ got 0 0 (record { points = 1 ∷ 2 ∷ []; deps = []; barred = 1 ∷ []; flagged = 0 ∷ [] })
+unfolding readNest readLines linesOf frameOf
+flagged-barred = refl
+
+-- of two bytes it has number 2, after a dependence 3, after the last ENDDO 4; nine deep it has number 5
+pub flagged-of-two : readNest (flagged-lines (0x04 ∷ 0x00 ∷ [])) ≡ got 2 3 empty
+unfolding readNest readLines linesOf frameOf
+flagged-of-two = refl
+
+pub flagged-late : readNest (P-lines ++ framesText ((0x04 ∷ []) ∷ [])) ≡ got 3 21 empty
+unfolding readNest readLines linesOf frameOf
+flagged-late = refl
+
+pub flagged-after : readNest (framesText ((0x01 ∷ []) ∷ (0x02 ∷ []) ∷ (0x04 ∷ []) ∷ [])) ≡ got 4 3 empty
+unfolding readNest readLines linesOf frameOf
+flagged-after = refl
+
+pub flagged-deep : readNest (framesText (replicate 9 (0x04 ∷ []))) ≡ got 5 9 empty
+unfolding readNest readLines linesOf frameOf
+flagged-deep = refl
 
 -- P's text is that of its pieces
 pub P-spelled : P-lines ≡ nestText P

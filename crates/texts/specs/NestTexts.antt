@@ -12,8 +12,8 @@ use Rattle.nests.specs.Nests.{Dep, Nest, nest, empty}
 use Rattle.nests.specs.Loops.{isClosed}
 use Rattle.nests.specs.Valid.{isValid}
 use Rattle.lines.specs.Lines.{Line, linesOf, isGood, frameOf}
-use Rattle.texts.specs.Pieces.{Piece, Point, Depend, Bar, pieceOf, toldFault, withTold, piecesText, isOrdered}
-use Rattle.texts.specs.Pieces.{madeOf}
+use Rattle.texts.specs.Pieces.{Piece, Point, Depend, Bar, Flagged, pieceOf, toldFault, withTold, piecesText}
+use Rattle.texts.specs.Pieces.{isOrdered, madeOf}
 
 -- 2 to 8 and 14 for a frame; 0 for none
 abbrev pub frameFault : Nest → List ℕ → ℕ
@@ -67,10 +67,13 @@ pub record Spells (s : List ℕ) (n : Nest) : Type 0 where
 abbrev pub Means : List ℕ → Nest → Type 0
 Means s n = ((s ≡ []) × (n ≡ blank)) ⊎ Spells s n
 
--- 01, "Text": a spelling of a nest, all points, then all dependences, then all barred gaps
-unfoldable pub pointPieces : List ℕ → List Piece
-pointPieces [] = []
-pointPieces (p ∷ ps) = Point p ∷ pointPieces ps
+-- 01, "Text": a spelling of a nest, all points, then all dependences, then all barred gaps; 02, job 10: of the points,
+-- the first of which is point i, the flagged ones as such
+unfoldable pub pointPieces : ℕ → List ℕ → List ℕ → List Piece
+pointPieces i [] fs = []
+pointPieces i (p ∷ ps) [] = Point p ∷ pointPieces (suc i) ps []
+pointPieces i (p ∷ ps) (f ∷ fs) =
+    pick (eqb i f) (Flagged ∷ pointPieces (suc i) ps fs) (Point p ∷ pointPieces (suc i) ps (f ∷ fs))
 
 unfoldable pub depPieces : List Dep → List Piece
 depPieces [] = []
@@ -81,7 +84,7 @@ barPieces [] = []
 barPieces (g ∷ gs) = Bar g ∷ barPieces gs
 
 abbrev pub piecesOf : Nest → List Piece
-piecesOf n = pointPieces (n .points) ++ (depPieces (n .deps) ++ barPieces (n .barred))
+piecesOf n = pointPieces 0 (n .points) (n .flagged) ++ (depPieces (n .deps) ++ barPieces (n .barred))
 
 unfoldable pub nestText : Nest → List ℕ
 nestText n = piecesText (piecesOf n)

@@ -8,8 +8,8 @@ use Prim.Native.Nat.{ℕ}
 use lib.Dec.{eqb, leb}
 use lib.ListN.{length, getD}
 use Rattle.laws.specs.Choice.{pick, when, firstOf, between}
-use Rattle.nests.specs.Kinds.{DO, STATEMENT, INDEPENDENT, CARRIED, BARRED, POINTS, DEPTH, DEPENDENCES, BARS}
-use Rattle.nests.specs.Nests.{Dep, dep, Nest, empty, withPoint, withDep, withBar}
+use Rattle.nests.specs.Kinds.{DO, STATEMENT, FLAGGED, INDEPENDENT, CARRIED, BARRED, POINTS, DEPTH, DEPENDENCES, BARS}
+use Rattle.nests.specs.Nests.{Dep, dep, Nest, empty, withPoint, withDep, withBar, withFlagged}
 use Rattle.nests.specs.Loops.{depth, isClosed}
 use Rattle.nests.specs.Valid.{depFault, barFault}
 use Rattle.lines.specs.Lines.{lineText}
@@ -18,6 +18,7 @@ pub data Piece : Type 0 where
   Point : ℕ → Piece
   Depend : Dep → Piece
   Bar : ℕ → Piece
+  Flagged : Piece
 
 -- what a frame tells: a piece, or nothing that is known
 pub data Told : Type 0 where
@@ -28,7 +29,7 @@ abbrev pub isPoint : ℕ → Bool
 isPoint k = between DO k STATEMENT
 
 -- 01, "Text": a point is one byte alone, an independent dependence 11 s t, a carried one 12 d s t; 02, job 7: a barred
--- gap is 13 g; by the kind byte k, the length and the bytes after the kind
+-- gap is 13 g; 02, job 10: a flagged DO is 04; by the kind byte k, the length and the bytes after the kind
 abbrev pub pieceBy : ℕ → ℕ → ℕ → ℕ → ℕ → Told
 pieceBy k long a b c =
     pick
@@ -40,7 +41,10 @@ pieceBy k long a b c =
     (pick
     (eqb k CARRIED && eqb long 4)
     (told (Depend (dep CARRIED a b c)))
-    (pick (eqb k BARRED && eqb long 2) (told (Bar a)) unknown)))
+    (pick
+    (eqb k BARRED && eqb long 2)
+    (told (Bar a))
+    (pick (eqb k FLAGGED && eqb long 1) (told Flagged) unknown))))
 
 abbrev pub pieceOf : List ℕ → Told
 pieceOf f = pieceBy (getD f 0 0) (length f) (getD f 1 0) (getD f 2 0) (getD f 3 0)
@@ -57,12 +61,14 @@ abbrev pub pieceFrame : Piece → List ℕ
 pieceFrame (Point k) = k ∷ []
 pieceFrame (Depend e) = depFrame e
 pieceFrame (Bar g) = BARRED ∷ (g ∷ [])
+pieceFrame Flagged = FLAGGED ∷ []
 
 -- points stand first
 abbrev pub isFirst : Piece → Bool
 isFirst (Point k) = true
 isFirst (Depend e) = false
 isFirst (Bar g) = false
+isFirst Flagged = true
 
 -- the nest has more than points
 abbrev pub isPast : Nest → Bool
@@ -96,6 +102,7 @@ abbrev pub pieceFault : Nest → Piece → ℕ
 pieceFault n (Point k) = pointFault n k
 pieceFault n (Depend e) = dependenceFault n e
 pieceFault n (Bar g) = barredFault n g
+pieceFault n Flagged = pointFault n DO
 
 abbrev pub toldFault : Nest → Told → ℕ
 toldFault n (told x) = pieceFault n x
@@ -106,6 +113,7 @@ abbrev pub withPiece : Nest → Piece → Nest
 withPiece n (Point k) = withPoint n k
 withPiece n (Depend e) = withDep n e
 withPiece n (Bar g) = withBar n g
+withPiece n Flagged = withFlagged n
 
 abbrev pub withTold : Nest → Told → Nest
 withTold n (told x) = withPiece n x

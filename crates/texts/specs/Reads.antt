@@ -22,7 +22,7 @@ use Rattle.texts.specs.declared.Reading.{Reading}
 use Rattle.texts.specs.declared.PlacementReading.{PlacementReading}
 use Rattle.texts.specs.declared.Piece as DP
 use Rattle.texts.specs.declared.Piece.the-variants as PV
-use Rattle.texts.specs.Pieces.{Point, Depend, Bar, Told, told, unknown, pieceOf}
+use Rattle.texts.specs.Pieces.{Point, Depend, Bar, Flagged, Told, told, unknown, pieceOf}
 use Rattle.texts.specs.Pieces.{pointFault, dependenceFault, barredFault}
 use Rattle.texts.specs.NestTexts.{got, readNest}
 use Rattle.texts.specs.PlacementTexts.{barrierFault, placed, readPlacement}
@@ -74,6 +74,7 @@ abbrev pub toldIn : DP.Piece → Told
 toldIn (PV.Point k) = told (Point k)
 toldIn (PV.Dependence e) = told (Depend (depIn e))
 toldIn (PV.Barred g) = told (Bar g)
+toldIn PV.Flagged = told Flagged
 toldIn PV.Refused = unknown
 
 -- x is what the frame tells

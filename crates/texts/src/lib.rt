@@ -26,6 +26,7 @@ use nests::CARRIED;
 use nests::DO;
 use nests::Dependence;
 use nests::ENDDO;
+use nests::FLAGGED;
 use nests::INDEPENDENT;
 use nests::Nest;
 use nests::STATEMENT;
@@ -51,11 +52,12 @@ pub struct PlacementReading {
     pub placement: Placement,
 }
 
-// What a frame of a nest text tells: a point, a dependence, a barred gap, or nothing that is known.
+// What a frame of a nest text tells: a point, a dependence, a barred gap, a flagged DO, or nothing that is known.
 pub enum Piece {
     Point(u8),
     Dependence(Dependence),
     Barred(u8),
+    Flagged,
     Refused,
 }
 
@@ -127,6 +129,19 @@ pub fn read_nest(text: &[u8]) -> Reading
                         }
                         nest.barred[bars] = g;
                         nest.bars = bars + 1;
+                    }
+                    Piece::Flagged => {
+                        let count = nest.count;
+                        let number = point_fault(count, nest.many, nest.bars, depth, DO);
+                        if number != 0 {
+                            return refused(number, here);
+                        }
+                        let flags = nest.flags;
+                        nest.points[count] = DO;
+                        nest.count = count + 1;
+                        nest.flagged[flags] = (count % 256) as u8;
+                        nest.flags = flags + 1;
+                        depth += 1;
                     }
                     Piece::Refused => return refused(2, here),
                 }
@@ -281,6 +296,12 @@ fn piece_of(f: Frame) -> Piece
         BARRED => {
             if f.len == 2 {
                 return Piece::Barred(f.a);
+            }
+            Piece::Refused
+        }
+        FLAGGED => {
+            if f.len == 1 {
+                return Piece::Flagged;
             }
             Piece::Refused
         }

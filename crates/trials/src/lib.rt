@@ -2,6 +2,7 @@
 // programs `cases` and `requests` are made of them.
 ghost use mathlib.Core.Path.{_≡_};
 ghost use Rattle.desk.specs.Desks.{IsMade};
+use desk::Chosen;
 use desk::Desk;
 use desk::Marked;
 use desk::PlainDesk;
@@ -229,6 +230,17 @@ pub fn takes_back(desk: Desk, number: u8, uncut: usize) -> bool
 {
     let moved = screen::take_back(desk);
     moved.number == number && moved.line == 0 && moved.uncut == uncut
+}
+
+// The reply has this number, and the set of this word.
+pub fn is_chosen(reply: Chosen, number: u8, set: u64) -> bool {
+    let words = reply.gaps.words;
+    reply.number == number
+        && reply.line == 0
+        && words[0] == set
+        && words[1] == 0
+        && words[2] == 0
+        && words[3] == 0
 }
 
 // Writes a case's line.

@@ -22,8 +22,8 @@ put-frame-requires c κs =
     let s = c .before .before .before in
     let n = nestIn (s .args .n) in
     let m = nestIn (s .args .m) in
-    first-fits (pointsText (joined n m .points)) (lineText (DO ∷ [])) (insideText n m) (s .args .out .now)
-    (joint-points n m) (s .pre .1 .1)
+    first-fits (pointsText (joined n m)) (lineText (DO ∷ [])) (insideText n m) (s .args .out .now)
+    (joint-points n m (s .pre .1 .1 .0)) (s .pre .1 .1 .1)
 
 -- the DO is written
 abbrev called : tie.After-put-frame → tie.Start
@@ -33,11 +33,12 @@ begun
     : (c : tie.After-put-frame)
     → let a = called c .args in
     let f = c .put-frame in
-    Begun (pointsText (jointIn (a .n) (a .m) .points)) (insideText (nestIn (a .n)) (nestIn (a .m))) (a .out .now)
+    Begun (pointsText (jointIn (a .n) (a .m))) (insideText (nestIn (a .n)) (nestIn (a .m))) (a .out .now)
     (f .last .0) (f .result)
 begun c =
     let a = called c .args in
-    begun-by (lineText (DO ∷ [])) (joint-points (nestIn (a .n)) (nestIn (a .m))) (called c .pre .1 .1)
+    let p = called c .pre .1 .1 in
+    begun-by (lineText (DO ∷ [])) (joint-points (nestIn (a .n)) (nestIn (a .m)) (p .0)) (p .1)
     (c .put-frame .ensures .0) (c .put-frame .ensures .1)
 
 sub-put-inside : tie.Need-sub-put-inside

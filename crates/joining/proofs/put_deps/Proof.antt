@@ -1,5 +1,5 @@
--- `put_deps` meets its contract: the lines of the dependences before i are written, moved along, and the rest is left
--- (`Piecing`). The measure is how many are left.
+-- `put_deps` meets its contract: the lines of the dependences before i are written, moved along, and those from i on
+-- are left (`Piecing`). The measure is how many are left.
 use mathlib.Core.Path.{_≡_, ap, _∙_}
 use mathlib.Core.List.{List, _∷_}
 use Prim.Native.Nat.{ℕ, suc, _+_, _-_, _≤_}
@@ -12,21 +12,23 @@ use Rattle.nests.specs.Stored.{depIn, nestIn}
 use Rattle.nests.proofs.Stored.{depsIn-at, counted-many}
 use Rattle.lines.specs.Lines.{lineText}
 use Rattle.lines.specs.Writing.{over}
-use Rattle.texts.specs.Pieces.{Piece, Depend, depFrame}
+use Rattle.texts.specs.Pieces.{Depend, depFrame}
 use Rattle.texts.specs.NestTexts.{depPieces}
 use Rattle.joining.specs.JointNests.{movedDep, movedDeps}
 use Rattle.joining.proofs.PiecesWritten.{Piecing, piece-begin, piece-length, piece-within, piece-room, piece-on}
-use Rattle.joining.proofs.PiecesWritten.{piece-done, deps-count, dep-next, among-next}
+use Rattle.joining.proofs.PiecesWritten.{piece-done, dep-next, deps-out, among-next}
 use Rattle.joining.proofs.put_deps.Statement.{statement}
 use Rattle.joining.proofs.put_deps.Tie as tie
 
 abbrev Inv-loop : tie.InvT-loop
-Inv-loop by out₀ nest many at₀ i₀ out at i = Piecing (depPieces (movedDeps by (nestIn nest .deps))) out₀ out at i
+Inv-loop by out₀ nest many at₀ i₀ out at i =
+    let es = nestIn nest .deps in
+    Piecing (depPieces (movedDeps by es)) (depPieces (movedDeps by (drop i es))) out₀ out at
 
 abbrev μ-loop : tie.MeasureT-loop
 μ-loop by out₀ nest many at₀ i₀ out at i = many - i
 
--- the turn, the call, its dependences, and the pieces that it writes
+-- the turn, the call, and its dependences
 abbrev turn : tie.After-slice-known2 Inv-loop μ-loop → tie.In-loop Inv-loop μ-loop
 turn c = c .before .before .before .before .before .before
 
@@ -35,12 +37,6 @@ called l = l .before .before
 
 abbrev deps : tie.At-loop Inv-loop μ-loop → List Dep
 deps l = nestIn (called l .args .t1) .deps
-
-abbrev written : tie.At-loop Inv-loop μ-loop → List Piece
-written l = depPieces (movedDeps (called l .args .by) (deps l))
-
-many-are : (l : tie.At-loop Inv-loop μ-loop) → length (written l) ≡ called l .args .t1 .many
-many-are l = omega (arith, deps-count (called l .args .by) (deps l), called l .pre .0 .many-is)
 
 loop-holds : tie.Need-loop-holds Inv-loop μ-loop
 loop-holds c =
@@ -77,7 +73,9 @@ moved-here t = movedDep (called (t .before) .args .by) (here t)
 
 next-piece
     : (t : tie.In-loop Inv-loop μ-loop)
-    → let l = t .before in drop (l .loop .i) (written l) ≡ Depend (moved-here t) ∷ drop (suc (l .loop .i)) (written l)
+    → let l = t .before in
+    depPieces (movedDeps (called l .args .by) (drop (l .loop .i) (deps l)))
+    ≡ Depend (moved-here t) ∷ depPieces (movedDeps (called l .args .by) (drop (l .loop .i + 1) (deps l)))
 next-piece t =
     let l = t .before in
     dep-next (called l .args .by) (deps l) (l .loop .i) (next t)
@@ -144,7 +142,7 @@ loop-again c =
     let x = l .loop in
     let f = c .before .before .put-dep in
     let line = moved-line (c .before .before .before .before) in
-    piece-on (x .inv) (called l .pre .1 .1) (next-piece t) (omega (arith, many-are l, t .loop-test .taken))
+    piece-on (x .inv) (called l .pre .1 .1) (next-piece t)
     (f .ensures .0 ∙ ap length line)
     (f .ensures .1 ∙ ap (λ (s : List ℕ). over s (midOf (x .at) (length (x .out) - x .at) (x .out))) line)
 
@@ -154,7 +152,8 @@ same-length c = inside (c .before) .0
 returns : tie.Need-returns Inv-loop μ-loop
 returns c =
     let l = c .before in
-    piece-done (l .loop .inv) (called l .pre .1 .1) (omega (arith, many-are l, c .loop-test .left))
+    piece-done (l .loop .inv) (called l .pre .1 .1)
+    (deps-out (called l .args .by) (deps l) (l .loop .i) (omega (arith, called l .pre .0 .many-is, c .loop-test .left)))
 
 pub put-deps-spec : {M : Type 1} → statement M
 put-deps-spec =

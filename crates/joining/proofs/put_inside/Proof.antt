@@ -3,7 +3,6 @@ use mathlib.Core.Path.{refl}
 use native.Mathlib.Omega.{arith}
 use borrow.Author.Needs.{needs}
 use Rattle.nests.specs.Stored.{nestIn}
-use Rattle.nests.proofs.Stored.{counted-points}
 use Rattle.joining.specs.Written.{pointsText, secondText, insideText}
 use Rattle.joining.proofs.LastPart.{first-fits, Begun, begun-by}
 use Rattle.joining.proofs.LastPart.{rest-within, rest-fits, last-within, last-length, last-written}
@@ -12,27 +11,27 @@ use Rattle.joining.proofs.put_inside.Tie as tie
 
 put-points-requires : tie.Need-put-points-requires
 put-points-requires c κs =
-    let s = c .before .before .before .before .before in
-    let n = nestIn (s .args .t1) in
+    let s = c .before .before in
+    let n = nestIn (s .args .n) in
     let m = nestIn (s .args .m) in (
-      counted-points (s .args .t1) (s .pre .0),
-      first-fits (insideText n m) (pointsText (n .points)) (secondText m) (s .args .out .now) refl (s .pre .1 .1),
+      s .pre .0,
+      first-fits (insideText n m) (pointsText n) (secondText m) (s .args .out .now) refl (s .pre .1 .1),
     )
 
 -- the first nest's points are written
 abbrev called : tie.After-put-points → tie.Start
-called c = c .before .before .before .before .before .before
+called c = c .before .before .before
 
 begun
     : (c : tie.After-put-points)
     → let a = called c .args in
     let f = c .put-points in
-    Begun (insideText (nestIn (a .t1)) (nestIn (a .m))) (secondText (nestIn (a .m))) (a .out .now) (f .last .1 .1 .0)
+    Begun (insideText (nestIn (a .n)) (nestIn (a .m))) (secondText (nestIn (a .m))) (a .out .now) (f .last .1 .0)
     (f .result)
 begun c =
     let f = c .put-points in
-    let ps = nestIn (called c .args .t1) .points in
-    begun-by (pointsText ps) refl (called c .pre .1 .1) (f .ensures .0) (f .ensures .1)
+    let n = nestIn (called c .args .n) in
+    begun-by (pointsText n) refl (called c .pre .1 .1) (f .ensures .0) (f .ensures .1)
 
 sub-put-second : tie.Need-sub-put-second
 sub-put-second c = rest-within (begun (c .before .before))

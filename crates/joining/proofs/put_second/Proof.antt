@@ -5,7 +5,6 @@ use native.Mathlib.Omega.{arith}
 use borrow.Author.Needs.{needs}
 use Rattle.nests.specs.Kinds.{ENDDO}
 use Rattle.nests.specs.Stored.{nestIn}
-use Rattle.nests.proofs.Stored.{counted-points}
 use Rattle.lines.specs.Lines.{lineText}
 use Rattle.joining.specs.Written.{pointsText, secondText}
 use Rattle.joining.proofs.LastPart.{first-fits, Begun, begun-by}
@@ -15,24 +14,24 @@ use Rattle.joining.proofs.put_second.Tie as tie
 
 put-points-requires : tie.Need-put-points-requires
 put-points-requires c κs =
-    let s = c .before .before .before .before .before in
-    let m = nestIn (s .args .t1) in (
-      counted-points (s .args .t1) (s .pre .0),
-      first-fits (secondText m) (pointsText (m .points)) (lineText (ENDDO ∷ [])) (s .args .out .now) refl (s .pre .1),
+    let s = c .before .before in
+    let m = nestIn (s .args .m) in (
+      s .pre .0,
+      first-fits (secondText m) (pointsText m) (lineText (ENDDO ∷ [])) (s .args .out .now) refl (s .pre .1),
     )
 
 -- the points are written
 abbrev called : tie.After-put-points → tie.Start
-called c = c .before .before .before .before .before .before
+called c = c .before .before .before
 
 begun
     : (c : tie.After-put-points)
     → let a = called c .args in
     let f = c .put-points in
-    Begun (secondText (nestIn (a .t1))) (lineText (ENDDO ∷ [])) (a .out .now) (f .last .1 .1 .0) (f .result)
+    Begun (secondText (nestIn (a .m))) (lineText (ENDDO ∷ [])) (a .out .now) (f .last .1 .0) (f .result)
 begun c =
     let f = c .put-points in
-    begun-by (pointsText (nestIn (called c .args .t1) .points)) refl (called c .pre .1) (f .ensures .0) (f .ensures .1)
+    begun-by (pointsText (nestIn (called c .args .m))) refl (called c .pre .1) (f .ensures .0) (f .ensures .1)
 
 sub-put-frame : tie.Need-sub-put-frame
 sub-put-frame c = rest-within (begun (c .before .before))

@@ -18,14 +18,10 @@ put-all-points-requires : tie.Need-put-all-points-requires
 put-all-points-requires c κs =
     let s = c .before .before in
     let j = joint s in
-    let p = s .pre in (
-      p .0,
-      (
-        p .1 .0,
-        first-fits (nestText j) (pointsText (j .points)) (depsText (j .deps)) (s .args .out .now) (nest-text j refl)
-            (p .1 .1 .1 .1),
-      ),
-    )
+    let p = s .pre in
+    let room = p .1 .1 .1 .1 in
+    let fits = first-fits (nestText j) (pointsText j) (depsText (j .deps)) (s .args .out .now) (nest-text j refl) room in
+    (p .0, (p .1 .0, (p .1 .1 .0, fits)))
 
 -- the points are written
 abbrev called : tie.After-put-all-points → tie.Start
@@ -39,7 +35,7 @@ begun
 begun c =
     let f = c .put-all-points in
     let j = joint (called c) in
-    begun-by (pointsText (j .points)) (nest-text j refl) (called c .pre .1 .1 .1 .1) (f .ensures .0) (f .ensures .1)
+    begun-by (pointsText j) (nest-text j refl) (called c .pre .1 .1 .1 .1) (f .ensures .0) (f .ensures .1)
 
 sub-put-all-deps : tie.Need-sub-put-all-deps
 sub-put-all-deps c = rest-within (begun (c .before .before))

@@ -1,14 +1,15 @@
 -- An empty text is the blank paper; else each turn reads one line: it keeps the nest so far, or is the text's refusal,
 -- or its end.
-use mathlib.Core.Path.{refl, sym, _∙_}
-use Prim.Native.Nat.{_-_, _<_}
+use mathlib.Core.Path.{_≡_, refl, sym, _∙_}
+use Prim.Native.Nat.{_-_, _%_, _<_}
 use native.Mathlib.Omega.{arith}
 use lib.ListN.{length, length-set}
 use borrow.Author.Needs.{needs}
 use Rattle.nests.specs.Kinds.{POINTS, DEPENDENCES, BARS}
 use Rattle.texts.proofs.Loading.{Loading, Turn, at-blank, begun, count-inside, deep-fits, at-end, at-refusal}
-use Rattle.texts.proofs.Loading.{at-unknown, at-point, at-dependence, at-barred, room-for-point}
-use Rattle.texts.proofs.Loading.{room-for-dependence, room-for-bar, next-inside, on-point, on-dependence, on-bar}
+use Rattle.texts.proofs.Loading.{at-unknown, at-point, at-dependence, at-barred, at-flagged, room-for-point}
+use Rattle.texts.proofs.Loading.{room-for-dependence, room-for-bar, room-for-flagged, next-inside, on-point}
+use Rattle.texts.proofs.Loading.{on-dependence, on-bar, on-flagged}
 use Rattle.texts.proofs.read_nest.Statement.{statement}
 use Rattle.texts.proofs.read_nest.Tie as tie
 
@@ -31,7 +32,7 @@ empty-requires c κs = tt
 loop-holds : tie.Need-loop-holds Inv-loop μ-loop
 loop-holds c =
     let s = c .before .before .before in
-    begun (s .args .text .now) (c .empty .result) _ (omega arith) (c .empty .ensures) (search needs) (search needs) refl
+    begun (s .args .text .now) (c .empty .result) _ (omega arith) (c .empty .ensures) (search needs) (search needs) (search needs) refl
 
 read-line-requires : tie.Need-read-line-requires Inv-loop μ-loop
 read-line-requires c κs = tt
@@ -117,7 +118,7 @@ turn k =
       piece-is = k .piece-of .ensures;
     }
 
--- what is told before the refusal of a point, of a dependence, of a barred gap
+-- what is told before the refusal of a point, of a dependence, of a barred gap, of a flagged DO
 abbrev point : tie.After-point-fault Inv-loop μ-loop → tie.After-piece-of Inv-loop μ-loop
 point q = q .before .before .before .before
 
@@ -126,6 +127,9 @@ dependence q = q .before .before .before .before .before .before .before .before
 
 abbrev barred : tie.After-barred-fault Inv-loop μ-loop → tie.After-piece-of Inv-loop μ-loop
 barred q = q .before .before .before .before .before .before .before
+
+abbrev flagged : tie.After-point-fault2 Inv-loop μ-loop → tie.After-piece-of Inv-loop μ-loop
+flagged q = q .before .before .before
 
 enum-known-piece : tie.Need-enum-known-piece Inv-loop μ-loop
 enum-known-piece c = c .match2 .keys1
@@ -321,13 +325,74 @@ loop-again-4 c =
 enum-told-2 : tie.Need-enum-told-2 Inv-loop μ-loop
 enum-told-2 c = c .match2 .keys4
 
+point-fault-requires-2 : tie.Need-point-fault-requires-2 Inv-loop μ-loop
+point-fault-requires-2 c κs = tt
+
 refused-requires-5 : tie.Need-refused-requires-5 Inv-loop μ-loop
 refused-requires-5 c κs = tt
 
 returns-7 : tie.Need-returns-7 Inv-loop μ-loop
 returns-7 c =
+    let q = c .before .before in
+    at-flagged (turn (flagged q)) (q .point-fault2 .result) (q .before .enum-told2 .given .1) (q .point-fault2 .ensures)
+    (c .refused5 .result) (c .before .if6 .taken) (c .refused5 .ensures)
+
+-- the DO of a flagged loop has room
+flagged-fits
+    : (c : tie.Else6 Inv-loop μ-loop)
+    → let n = head (flagged (c .before)) .loop .nest in (n .count < POINTS) × (n .flags < POINTS)
+flagged-fits c =
+    let q = c .before in
+    room-for-flagged (turn (flagged q)) (q .point-fault2 .result) (q .before .enum-told2 .given .1)
+    (q .point-fault2 .ensures) (c .if6 .left)
+
+element-write-nest-3 : tie.Need-element-write-nest-3 Inv-loop μ-loop
+element-write-nest-3 c = flagged-fits c .0
+
+add-nest-4 : tie.Need-add-nest-4 Inv-loop μ-loop
+add-nest-4 c = omega (arith, flagged-fits c .0)
+
+cast-nest : tie.Need-cast-nest Inv-loop μ-loop
+cast-nest c = omega arith
+
+element-write-nest-4 : tie.Need-element-write-nest-4 Inv-loop μ-loop
+element-write-nest-4 c = flagged-fits c .1
+
+add-nest-5 : tie.Need-add-nest-5 Inv-loop μ-loop
+add-nest-5 c = omega (arith, flagged-fits c .1)
+
+add-depth : tie.Need-add-depth Inv-loop μ-loop
+add-depth c =
+    let a = head (flagged (c .before)) in
+    let l = a .loop in
+    let s = a .before .before .before .before in
+    let fits = deep-fits (s .args .text .now) (l .nest) (l .ends) (l .single) (l .depth) (l .at) (l .line) (l .inv) in
+    omega (arith, fits)
+
+loop-less-5 : tie.Need-loop-less-5 Inv-loop μ-loop
+loop-less-5 c =
+    let n = next-inside (turn (flagged (c .before))) in
+    omega (arith, n .0, n .1)
+
+loop-again-5 : tie.Need-loop-again-5 Inv-loop μ-loop
+loop-again-5 c =
+    let q = c .before in
+    let count = head (flagged q) .loop .nest .count in
+    let byte : count % 256 ≡ count = omega (arith, flagged-fits c .0) in
+    rw byte
+    (on-flagged (turn (flagged q)) (q .point-fault2 .result) (q .before .enum-told2 .given .1)
+    (q .point-fault2 .ensures) (c .if6 .left))
+
+enum-told-3 : tie.Need-enum-told-3 Inv-loop μ-loop
+enum-told-3 c = c .match2 .keys5
+
+refused-requires-6 : tie.Need-refused-requires-6 Inv-loop μ-loop
+refused-requires-6 c κs = tt
+
+returns-8 : tie.Need-returns-8 Inv-loop μ-loop
+returns-8 c =
     let k = c .before .before .before in
-    at-unknown (turn k) (c .refused5 .result) (c .before .enum-told2 .given .1) (c .refused5 .ensures)
+    at-unknown (turn k) (c .refused6 .result) (c .before .enum-told3 .given .1) (c .refused6 .ensures)
 
 pub read-nest-spec : {M : Type 1} → statement M
 read-nest-spec =
@@ -381,5 +446,17 @@ read-nest-spec =
     loop-less-4
     loop-again-4
     enum-told-2
+    point-fault-requires-2
     refused-requires-5
-    returns-7)
+    returns-7
+    element-write-nest-3
+    add-nest-4
+    cast-nest
+    element-write-nest-4
+    add-nest-5
+    add-depth
+    loop-less-5
+    loop-again-5
+    enum-told-3
+    refused-requires-6
+    returns-8)
