@@ -99,6 +99,15 @@ def write_over(file: str, data: bytes, lasting: bool = False) -> None:
         raise Fault(f'cannot write {printable(file)}: {fault.strerror}') from fault
 
 
+def take_away(file: str) -> None:
+    """Removes a file, if it is there."""
+    try:
+        with contextlib.suppress(FileNotFoundError):
+            os.unlink(file)
+    except OSError as fault:
+        raise Fault(f'cannot remove {printable(file)}: {fault.strerror}') from fault
+
+
 def run(name: str, command: Callable[[list[str]], None]) -> None:
     """Runs a command on the arguments."""
     try:

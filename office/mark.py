@@ -1,6 +1,5 @@
 """./desk mark: answers marked beside the key of a paper, with slips for two readers and a row each in the register."""
 import argparse
-import contextlib
 import hashlib
 import os
 import pathlib
@@ -8,7 +7,7 @@ from collections import Counter
 from dataclasses import dataclass
 
 from office.asked import PAPER_HELP, planned
-from office.command import FAILED, REFUSED, Fault, printable, read_in, tell, write_out, write_over
+from office.command import FAILED, REFUSED, Fault, printable, read_in, take_away, tell, write_out, write_over
 from office.library import BEST, Desk
 from office.progress import Progress
 from office.refusal import Refused
@@ -19,7 +18,7 @@ from office.words import UNREAD, VERDICTS, counted
 HELP = 'marks answers beside the key of a paper, a row of CSV for each'
 MORE = """A candidate is called as the file of the answer, without .hex. A file that is refused or cannot be read has a
 row too, a line on standard error says why, and the others are marked. The status is then 1, or 2 where one was not
-read.
+read or a slip not written.
 
   ./desk mark paper.hex answers/*.hex
   ./desk mark paper.hex answers/*.hex --slips slips --register register.csv
@@ -29,40 +28,51 @@ SLIPS = {'candidate': Desk.candidate_slip, 'examiner': Desk.examiner_slip}
 
 @dataclass
 class Hall:
-    """A paper with its key on a desk, the paper's hash, and where slips go."""
+    """A paper with its key on a desk, the paper's hash, where slips go, and what there is to say while marking."""
     desk: Desk
     paper: str
     slips: str | None
+    bar: Progress
+    status: int = 0
 
-    def row(self, candidate: str, file: str) -> tuple[Row, str]:
-        """The row of an answer, and why it has no verdict."""
+    def row(self, candidate: str, file: str) -> Row:
+        """The row of an answer. Its slips are written, or taken away where it has no verdict."""
         try:
             text = read_in(file)
         except Fault as fault:
+            self.say(str(fault), FAILED)
             self.hand_out(candidate, None)
-            return Row(candidate, UNREAD, paper_sha256=self.paper), str(fault)
+            return Row(candidate, UNREAD, paper_sha256=self.paper)
         hashes = {'paper_sha256': self.paper, 'answer_sha256': hashlib.sha256(text).hexdigest()}
         try:
             mark = self.desk.mark(text)
         except Refused as refused:
-            self.hand_out(candidate, None)
             fault, (where, *rules) = refused.refusal, refused.refusal.words(text)
-            row = Row(candidate, REFUSED_WORD, number=str(fault.number), line=str(fault.line), **hashes)
-            return row, f'{printable(file)}: {where}: {"; ".join(rules)}'
+            self.say(f'{printable(file)}: {where}: {"; ".join(rules)}', REFUSED)
+            self.hand_out(candidate, None)
+            return Row(candidate, REFUSED_WORD, number=str(fault.number), line=str(fault.line), **hashes)
         self.hand_out(candidate, text)
         told = {name: '' if value is None else str(value) for name, value in vars(mark).items()}
         certificate = YES if mark.verdict == BEST else NO
-        return Row(candidate, **told | {'verdict': VERDICTS[mark.verdict]}, certificate=certificate, **hashes), ''
+        return Row(candidate, **told | {'verdict': VERDICTS[mark.verdict]}, certificate=certificate, **hashes)
 
     def hand_out(self, candidate: str, text: bytes | None) -> None:
         """Writes both slips of an answer. One that has no verdict has none, and loses those of a time before."""
         for reader, slip in SLIPS.items() if self.slips is not None else ():
             file = os.path.join(self.slips, f'{candidate}.{reader}.hex')
-            if text is not None:
-                write_over(file, slip(self.desk, text))
-                continue
-            with contextlib.suppress(FileNotFoundError):
-                os.unlink(file)
+            try:
+                if text is None:
+                    take_away(file)
+                else:
+                    write_over(file, slip(self.desk, text))
+            except Fault as fault:
+                self.say(str(fault), FAILED)
+
+    def say(self, why: str, status: int) -> None:
+        """Says why something was not done; the marking goes on."""
+        self.bar.hide()
+        tell('desk', why)
+        self.status = max(self.status, status)
 
 
 def candidates(files: list[str]) -> dict[str, str]:
@@ -102,18 +112,10 @@ def main(asked: argparse.Namespace) -> None:
             raise Fault(f'cannot write in {printable(asked.slips)}: {fault.strerror}') from fault
     if asked.register is not None:
         rows_in(asked.register)  # what is no register is told before anything is marked
-    hall = Hall(desk, hashlib.sha256(text).hexdigest(), asked.slips)
-    rows: list[Row] = []
-    bar = Progress('marking', len(files))
-    for candidate, file in bar.over([*files.items()]):
-        row, why = hall.row(candidate, file)
-        rows.append(row)
-        if why:
-            bar.hide()
-            tell('desk', why)
+    hall = Hall(desk, hashlib.sha256(text).hexdigest(), asked.slips, Progress('marking', len(files)))
+    rows = [hall.row(candidate, file) for candidate, file in hall.bar.over([*files.items()])]
     if asked.register is not None:
         add(asked.register, rows)
     write_out(as_csv(rows) if asked.register is None else f'{summary(rows)}\n'.encode())
-    verdicts = {row.verdict for row in rows}
-    if verdicts & {UNREAD, REFUSED_WORD}:
-        raise Fault('', FAILED if UNREAD in verdicts else REFUSED)
+    if hall.status:
+        raise Fault('', hall.status)

@@ -10,7 +10,7 @@ from office.picture import Picture
 
 NARROW = 700
 SIGN = ('Each loop stands under the one around it, by the point of its DO, with the count of its own barriers. A loop '
-        'marked &lt; decides.')
+        'marked &lt; decides. Gaps, points and counts are decimal on this page, hexadecimal in texts.')
 STYLE = """
 @page { size: A4; margin: 15mm }
 body { font: 11pt/1.4 Helvetica, Arial, sans-serif; color: #17202a; max-width: 180mm; margin: 0 auto }

@@ -103,7 +103,7 @@ class Listing:
 
 def spelled(text: bytes, file: str) -> bytes:
     """The text of a listing, which the desk accepts."""
-    lines, listing, frames = text.decode('utf-8-sig', 'replace').splitlines(), Listing(), []
+    lines, listing, frames = text.decode('utf-8-sig', 'replace').split('\n'), Listing(), []
 
     def fault(number: int, why: str) -> Fault:
         quoted = Line(lines[number - 1].strip().encode(), True, False).quoted()

@@ -52,11 +52,22 @@ def faults(tally: Tally, folder: pathlib.Path) -> None:
             ('a device for a register', 'no plain file', run(*mark, '--register', '/dev/full')),
             ('a full disk', 'cannot write', run(DESK, 'mark', paper, *crowd, '--register', register,
                                                 shell='ulimit -f 1; "$@"')),
-            ('slips on a full disk', 'cannot write', run(*mark, '--slips', wide, shell='ulimit -f 0; "$@"')),
             ('output full', 'not written', run(*mark, shell='"$@" > /dev/full')),
             ('output closed', 'not written', run(*mark, shell='"$@" >&-'))]:
         tally.check(name, seen.failed(word), seen)
         tally.check(f'{name}: the register', register.read_bytes() == old, register.read_bytes())
+    seen = run(*mark, '--slips', wide, shell='ulimit -f 0; "$@"')
+    tally.check('slips on a full disk', seen.err.count('cannot write') == 2 and seen.status == 2, seen)
+    tally.check('the row all the same', len(rows_of(seen.out)) == 1, seen)
+    long = folder / f'{"n" * 250}.hex'
+    long.write_bytes(text_of([5, 11]))
+    (wide / 'bad.examiner.hex').mkdir()
+    seen = run(*mark, long, bad, '--slips', wide)
+    tally.check('slips that cannot be written', len(rows_of(seen.out)) == 3 and seen.status == 2, seen)
+    words = ['File name too long', f'{bad}: line 1', 'cannot remove']
+    tally.check('each is told', all(word in seen.err for word in words) and seen.err.count('\n') == 4, seen)
+    seen = run(DESK, 'check', '-', given=None)
+    tally.check('input closed', seen.failed('cannot read -: Bad file descriptor'), seen)
     seen = run(DESK, 'mark', bad, answer, '--register', register)
     tally.check('a refused paper', 'number 4' in seen.err and (seen.out, seen.status) == (b'', 1), seen)
     tally.check('nothing changed', (register.read_bytes(), junk.read_bytes()) == (old, b'name,mark\n'))
