@@ -28,8 +28,9 @@ SLIPS = {'candidate': Desk.candidate_slip, 'examiner': Desk.examiner_slip}
 
 @dataclass
 class Hall:
-    """A paper with its key on a desk, the paper's hash, where slips go, and what there is to say while marking."""
+    """A paper with its key on a desk, its name and its hash, where slips go, and what there is to say while marking."""
     desk: Desk
+    name: str
     paper: str
     slips: str | None
     bar: Progress
@@ -59,7 +60,7 @@ class Hall:
     def hand_out(self, candidate: str, text: bytes | None) -> None:
         """Writes both slips of an answer. One that has no verdict has none, and loses those of a time before."""
         for reader, slip in SLIPS.items() if self.slips is not None else ():
-            file = os.path.join(self.slips, f'{candidate}.{reader}.hex')
+            file = os.path.join(self.slips, f'{candidate}.{self.name}.{reader}.hex')
             try:
                 if text is None:
                     take_away(file)
@@ -75,11 +76,16 @@ class Hall:
         self.status = max(self.status, status)
 
 
+def name_of(file: str) -> str:
+    """What a paper or a candidate is called."""
+    return pathlib.PurePath(file).name.removesuffix('.hex') or file
+
+
 def candidates(files: list[str]) -> dict[str, str]:
     """The file of each candidate."""
     named: dict[str, str] = {}
     for file in files:
-        name = pathlib.PurePath(file).name.removesuffix('.hex') or file
+        name = name_of(file)
         if name in named:
             raise Fault(f'two answers of candidate {printable(name)}: {printable(named[name])}, {printable(file)}')
         named[name] = file
@@ -97,7 +103,7 @@ def arguments(parser: argparse.ArgumentParser) -> None:
     parser.add_argument('paper', metavar='PAPER', help=PAPER_HELP)
     parser.add_argument('answers', metavar='ANSWER', nargs='+', help='a file with a placement text')
     parser.add_argument('--slips', metavar='DIR',
-                        help='writes both slips of each answer: DIR/NAME.candidate.hex, DIR/NAME.examiner.hex')
+                        help='writes both slips of each answer: NAME.PAPER.candidate.hex and NAME.PAPER.examiner.hex')
     parser.add_argument('--register', metavar='FILE',
                         help='adds the rows to a register, and writes how many there are to standard output instead')
 
@@ -112,8 +118,9 @@ def main(asked: argparse.Namespace) -> None:
             raise Fault(f'cannot write in {printable(asked.slips)}: {fault.strerror}') from fault
     if asked.register is not None:
         rows_in(asked.register)  # what is no register is told before anything is marked
-    hall = Hall(desk, hashlib.sha256(text).hexdigest(), asked.slips, Progress('marking', len(files)))
-    rows = [hall.row(candidate, file) for candidate, file in hall.bar.over([*files.items()])]
+    paper, bar = hashlib.sha256(text).hexdigest(), Progress('marking', len(files))
+    hall = Hall(desk, name_of(asked.paper), paper, asked.slips, bar)
+    rows = [hall.row(candidate, file) for candidate, file in bar.over([*files.items()])]
     if asked.register is not None:
         add(asked.register, rows)
     write_out(as_csv(rows) if asked.register is None else f'{summary(rows)}\n'.encode())

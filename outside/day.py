@@ -132,14 +132,14 @@ def a_day(tally: Tally, folder: pathlib.Path, backwards: bool) -> dict[str, byte
         for name, (text, cells) in some.items():
             own = '' if text is None else hashlib.sha256(text).hexdigest()
             tally.check(f'the row of {name}', rows.get((name, sha)) == [name, *cells, sha, own], rows.get((name, sha)))
-            there = [(slips / f'{name}.{reader}.hex').exists() for reader in ('candidate', 'examiner')]
+            there = [(slips / f'{name}.{paper}.{reader}.hex').exists() for reader in ('candidate', 'examiner')]
             tally.check(f'the slips of {name}', there == [cells[0] in ('Uncut', 'Dearer', 'Best')] * 2, there)
     slip = b'230004\n220000\n220101\n220701\n'
     (folder / 'late.hex').write_bytes(text_of([3, 9]))
     run(DESK, 'mark', folder / 'p.hex', folder / 'late.hex', '--slips', slips)
-    tally.check("the candidate's slip", (slips / 'late.candidate.hex').read_bytes() == slip)
+    tally.check("the candidate's slip", (slips / 'late.p.candidate.hex').read_bytes() == slip)
     examiner = slip + b'2400000000\n2503\n2503\n2509\n2509\n2500\n2509\n'
-    tally.check("the examiner's slip", (slips / 'late.examiner.hex').read_bytes() == examiner)
+    tally.check("the examiner's slip", (slips / 'late.p.examiner.hex').read_bytes() == examiner)
     (folder / 'late.hex').write_bytes(b'21\n')
     run(DESK, 'mark', folder / 'p.hex', folder / 'late.hex', '--slips', slips)
     tally.check('no slip of an answer that is refused now', not [*slips.glob('late.*')])

@@ -61,7 +61,7 @@ def faults(tally: Tally, folder: pathlib.Path) -> None:
     tally.check('the row all the same', len(rows_of(seen.out)) == 1, seen)
     long = folder / f'{"n" * 250}.hex'
     long.write_bytes(text_of([5, 11]))
-    (wide / 'bad.examiner.hex').mkdir()
+    (wide / 'bad.p.examiner.hex').mkdir()
     seen = run(*mark, long, bad, '--slips', wide)
     tally.check('slips that cannot be written', len(rows_of(seen.out)) == 3 and seen.status == 2, seen)
     words = ['File name too long', f'{bad}: line 1', 'cannot remove']
