@@ -1,11 +1,12 @@
 """What the arguments of a command name: a paper, a placement, turns. What is wrong with one is a fault in words."""
 import re
+from collections.abc import Callable
 
 from office.command import REFUSED, Fault, printable, read_in
-from office.frames import placement_text
+from office.frames import DO, placement_text
 from office.library import Desk
 from office.refusal import Refused
-from office.words import ranges
+from office.words import RULES, ranges
 
 TURNS, TURNS_HELP = 16, 'the turns of the loops in the order of their DOs, with commas between, or one number for all'
 GAPS_HELP = "gaps in decimal with commas between, '' for none, or a file with a placement text"
@@ -67,3 +68,12 @@ def turns_asked(argument: str, loops: int) -> bytes:
     if not all(re.fullmatch('[0-9]{1,3}', word) and int(word) < 256 for word in words):
         raise Fault(f'turns are numbers up to {TURNS} with commas between: {argument}')
     return bytes(map(int, words * loops if len(words) == 1 else words))
+
+
+def turned(desk: Desk, argument: str, call: Callable[[Desk, bytes], object]) -> object:
+    """What a call gives under the turns that an argument names."""
+    try:
+        return call(desk, turns_asked(argument, desk.nest.points.count(DO)))
+    except Refused as refusal:
+        rule = f'number {refusal.refusal.number}: {RULES[refusal.refusal.number]}'
+        raise Fault(f'turns {argument} are refused for this paper\n{rule}', REFUSED) from refusal

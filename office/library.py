@@ -89,6 +89,10 @@ class Desk:
         """The DOs of the loops that need a barrier for their missing run."""
         return gaps_in(given(library().desk_missing_runs(self.held)).gaps)
 
+    def count_calls(self, turns: bytes) -> int:
+        """The key's barrier calls, with a number of turns for each loop in order of its DO."""
+        return given(library().desk_count_calls(self.held, turns, len(turns))).calls
+
     def candidate_slip(self, text: bytes) -> bytes:
         return self.written(library().desk_candidate_slip, SLIP, text, len(text))
 

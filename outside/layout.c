@@ -73,6 +73,11 @@ AT(DeskChosen, number, 0, 1);
 AT(DeskChosen, line, 8, 8);
 AT(DeskChosen, gaps, 16, 32);
 
+SIZE(DeskCalls, 24);
+AT(DeskCalls, number, 0, 1);
+AT(DeskCalls, line, 8, 8);
+AT(DeskCalls, calls, 16, 8);
+
 static int passed, failed;
 
 static void that(const char *what, bool holds) {
@@ -128,6 +133,7 @@ static void sizes(Desk desk, DeskPlain plain) {
     GIVES(OnPlain, desk_go_over, sizeof(Desk), room, plain);
     GIVES(OnDesk, desk_textbook, sizeof(DeskChosen), room, desk);
     GIVES(OnDesk, desk_missing_runs, sizeof(DeskChosen), room, desk);
+    GIVES(OnText, desk_count_calls, sizeof(DeskCalls), room, desk, P, 0);
     GIVES(OnBoth, desk_candidate_slip, sizeof(DeskAnswer), room, desk, P, 0, lent, sizeof lent);
     GIVES(OnBoth, desk_examiner_slip, sizeof(DeskAnswer), room, desk, P, 0, lent, sizeof lent);
 }
@@ -153,6 +159,9 @@ static void fields(Desk desk) {
     that("slip", slip.value == 28 && memcmp(lent, "230004\n220000\n220101\n220701\n", 28) == 0);
     slip = desk_examiner_slip(desk, (const uint8_t *)"2105\n210b\n", 10, lent, sizeof lent);
     that("examiner's slip", slip.value == 69 && memcmp(lent + 28, "2402000000\n2505\n", 16) == 0);
+    DeskCalls calls = desk_count_calls(desk, (const uint8_t[]){2, 3, 5}, 3);
+    that("calls", calls.number == 0 && calls.line == 0 && calls.calls == 16);
+    that("calls refused", desk_count_calls(desk, (const uint8_t[]){2, 3, 1}, 3).number == 17);
     DeskReply refused = desk_load(desk, (const uint8_t *)"01\n", 3);
     that("refused", refused.number == 4 && refused.line == 2);
     that("nest kept", memcmp(&refused.desk.nest, &desk.nest, sizeof desk.nest) == 0);

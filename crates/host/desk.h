@@ -23,6 +23,7 @@
     14   a barred gap in a nest of more than one loop; the textbook method of such a nest
     15   Plan, or the textbook method, of a nest in which some dependence has all its gaps barred: it has no key
     16   a barred gap in a placement text, or Put of one
+    17   not as many turns as loops, turns out of range, or a nest with barred gaps or loops that may not run
 
    A text or a buffer is lent as a pointer and a length in bytes. A thread with a stack of 160 KiB has room for every
    call. The library is for x86-64, and links against memcpy and memset alone:
@@ -144,6 +145,12 @@ typedef struct DeskChosen {
     DeskPlacement gaps;
 } DeskChosen;
 
+typedef struct DeskCalls {
+    uint8_t number;
+    size_t line;
+    uint64_t calls;
+} DeskCalls;
+
 /* DESK_UNCUT: dependence a, from 0, is the first that is uncut. DESK_DEARER: loop a has b barriers, and c in the key.
    All that is not named is 0. */
 typedef struct DeskMark {
@@ -199,6 +206,10 @@ DeskAnswer desk_examiner_slip(Desk desk, const uint8_t *text, size_t length, uin
 /* The loops that need a barrier for their missing run: those that may not run and hold a barrier of the key on which a
    dependence past them relies. Numbers 10, 11. */
 DeskChosen desk_missing_runs(Desk desk);
+
+/* The barrier calls of the key in a run, given a byte of turns for each loop in order of its DO: 1 to 16 for the outermost,
+   2 to 16 for the others. A barrier counts the product of the turns of the loops around it. Numbers 10, 11, 17. */
+DeskCalls desk_count_calls(Desk desk, const uint8_t *turns, size_t length);
 
 /* A desk in use goes over from the kind before sittings: the nest is kept, the sitting is empty, and where there was a
    key it is worked out anew, unless Plan would refuse. `old` has a nest that desk_load accepted, or none (count, many,

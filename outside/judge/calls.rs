@@ -1,6 +1,7 @@
 //! The calls of the library: what each is given, and what the library does with it.
 
 use crate::host::{self, Desk, Placement, PlainDesk, WORDS};
+use crate::runs;
 use crate::skipping;
 use crate::slips;
 use crate::textbook;
@@ -27,6 +28,8 @@ pub enum Call {
     /// The examiner's slip or the candidate's, of a text, into a buffer.
     Slip(bool, Vec<u8>, Vec<u8>),
     MissingRuns,
+    /// With the turns of the loops.
+    CountCalls(Vec<u8>),
 }
 
 impl Call {
@@ -49,13 +52,14 @@ impl Call {
             Call::Slip(false, ..) => "candidate's slip",
             Call::Slip(true, ..) => "examiner's slip",
             Call::MissingRuns => "missing runs",
+            Call::CountCalls(_) => "count calls",
         }
     }
 
     pub fn shown(&self) -> String {
         let given = match self {
             Call::Load(text) | Call::Mark(text) => shown(text),
-            Call::List(list) => format!("{list:?}"),
+            Call::List(list) | Call::CountCalls(list) => format!("{list:?}"),
             Call::Write(out) | Call::Sitting(out) => format!("a buffer of {} bytes", out.len()),
             Call::Count(n) | Call::Put(n) | Call::Lift(n) => n.to_string(),
             Call::Over(planned, key) => format!("with a key: {planned}, words {key:?}"),
@@ -136,6 +140,7 @@ pub fn play(desk: &mut Desk, call: &Call) -> Reply {
             Call::Textbook => textbook::play(*desk),
             Call::Slip(examiner, text, out) => slips::play(*desk, *examiner, text, out),
             Call::MissingRuns => skipping::play(*desk),
+            Call::CountCalls(turns) => runs::play(*desk, turns),
         }
     }
 }

@@ -5,6 +5,7 @@ use crate::calls::{guarded, Call, Reply};
 use crate::host::{self, gaps_of, KEPT};
 use crate::nests::*;
 use crate::order::{first_key, mark, Mark};
+use crate::runs;
 use crate::skipping;
 use crate::slips;
 use crate::textbook;
@@ -93,6 +94,7 @@ impl Desk {
             Call::Textbook => (number, values) = textbook::answer(self.nest.as_ref()),
             Call::Slip(examiner, text, out) => return slips::answer(self, *examiner, text, out),
             Call::MissingRuns => (number, values) = skipping::answer(self),
+            Call::CountCalls(turns) => return runs::answer(self, turns),
         }
         Reply { number, line, values, lent }
     }

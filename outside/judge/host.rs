@@ -67,6 +67,9 @@ pub struct Mark { pub number: u8, pub line: usize, pub verdict: u8, pub a: usize
 #[repr(C)]
 pub struct Chosen { pub number: u8, pub line: usize, pub gaps: Placement }
 
+#[repr(C)]
+pub struct Calls { pub number: u8, pub line: usize, pub calls: u64 }
+
 extern "C" {
     pub fn desk_new() -> Desk;
     pub fn desk_reset(desk: Desk) -> Desk;
@@ -85,6 +88,7 @@ extern "C" {
     pub fn desk_candidate_slip(desk: Desk, text: *const u8, length: usize, out: *mut u8, room: usize) -> Answer;
     pub fn desk_examiner_slip(desk: Desk, text: *const u8, length: usize, out: *mut u8, room: usize) -> Answer;
     pub fn desk_missing_runs(desk: Desk) -> Chosen;
+    pub fn desk_count_calls(desk: Desk, turns: *const u8, length: usize) -> Calls;
 }
 
 /// A set of gaps as four words.

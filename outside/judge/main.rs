@@ -30,6 +30,7 @@ mod nests;
 mod order;
 mod papers;
 mod program;
+mod runs;
 mod scripts;
 mod self_check;
 mod skipping;

@@ -8,6 +8,7 @@ use crate::nests::*;
 use crate::order::key_fault;
 use crate::papers::*;
 use crate::program::{finish, THREADS};
+use crate::runs::{every_turns, random_turns};
 use crate::skipping;
 use crate::slips::slip_length;
 use crate::texts::line;
@@ -104,7 +105,7 @@ fn random_call(random: &mut Random, desk: &Desk, mix: Mix, edges: &[Vec<u8>]) ->
 }
 
 fn random_ask(random: &mut Random, desk: &Desk) -> Call {
-    match random.below(16) {
+    match random.below(18) {
         0 => Call::Count(random_point(random, desk)),
         1 | 2 => Call::Write(buffer(random, 5 * desk.key().len())),
         3 => Call::Sitting(buffer(random, 5 * desk.sitting.len())),
@@ -116,6 +117,7 @@ fn random_ask(random: &mut Random, desk: &Desk) -> Call {
             Call::Slip(examiner, text, buffer(random, length))
         }
         11 | 12 => Call::MissingRuns,
+        13 | 14 => Call::CountCalls(random_turns(random, desk.nest.as_ref())),
         _ => Call::Mark(placement_text(random, desk)),
     }
 }
@@ -263,9 +265,18 @@ fn play_calls(calls: Vec<Call>, tally: &mut Numbers) -> Option<Vec<Call>> {
 fn fixed_scripts() -> Vec<Vec<Call>> {
     let lines = pairs().into_iter().map(|text| vec![Call::Load(text), Call::Plan]);
     let flagged = (0..FIXED).map(|case| small_flagged(&mut Random::new(14, case)).text());
-    let every = (2..=SMALLEST).flat_map(every_paper).map(|nest| nest.text());
-    let papers = skipping::PAPERS.iter().map(|paper| words(paper.0)).chain(flagged).chain(every);
-    lines.chain(papers.map(|text| vec![Call::Load(text), Call::Plan, Call::MissingRuns])).collect()
+    let made = skipping::PAPERS.iter().map(|paper| words(paper.0)).chain(flagged);
+    let asked = made.map(|text| vec![Call::Load(text), Call::Plan, Call::MissingRuns]);
+    lines.chain(asked).chain((2..=SMALLEST).flat_map(every_paper).map(|nest| asks_of(&nest))).collect()
+}
+
+/// What is asked of a small paper: its missing runs, and its calls under all turns from 2 to 4, under some if it is not
+/// one of the smallest.
+fn asks_of(nest: &Nest) -> Vec<Call> {
+    let mut turns = every_turns(nest.loops().len(), 2, 4);
+    if nest.points.len() == SMALLEST || !nest.flagged.is_empty() { turns.drain(1..turns.len() - 1); }
+    let counts = turns.into_iter().map(Call::CountCalls);
+    [Call::Load(nest.text()), Call::Plan, Call::MissingRuns].into_iter().chain(counts).collect()
 }
 
 /// Plays the script of a number; where there is a difference, gives the calls up to it.

@@ -8,6 +8,7 @@ use crate::nests::*;
 use crate::order::*;
 use crate::papers::*;
 use crate::program::*;
+use crate::runs::check_runs;
 use crate::skipping::check_skipping;
 use crate::slips::check_slips;
 use crate::textbook::check_textbook;
@@ -36,6 +37,7 @@ pub fn self_check() -> bool {
     check_textbook(&mut checks);
     check_slips(&mut checks);
     check_skipping(&mut checks);
+    check_runs(&mut checks);
     (0..400).for_each(|case| check_random(&mut checks, &mut Random::new(7, case)));
     finish(checks.passed, checks.failed)
 }

@@ -1,7 +1,7 @@
 -- A paper and turns that can be counted, taken apart.
--- Main statements: `countable`; `counted-by-turns`, `not-counted`.
+-- Main statements: `countable`; `counted-by-turns`, `barred-uncounted`, `flagged-uncounted`.
 use mathlib.Core.Path.{_≡_}
-use mathlib.Core.Bool.{true, false}
+use mathlib.Core.Bool.{true, false, _&&_}
 use mathlib.Core.List.{List, []}
 use Prim.Native.Nat.{ℕ}
 use native.Mathlib.Omega.{arith}
@@ -20,13 +20,19 @@ pub record Countable (n : Nest) (ts : List ℕ) : Type 0 where
 
 pub countable : (n : Nest) (ts : List ℕ) → canCount n ts ≡ true → Countable n ts
 countable n ts h =
-    let z = and-true (eqb (length (n .barred)) 0) (turnsFit n ts) h in
+    let flags = eqb (length (n .flagged)) 0 in
+    let z = and-true (eqb (length (n .barred)) 0) (flags && turnsFit n ts) h in
     let none = eqb-true (length (n .barred)) 0 (z .0) in
-    record { none-barred = no-members (n .barred) (omega arith); fits = z .1 }
+    record { none-barred = no-members (n .barred) (omega arith); fits = and-true flags (turnsFit n ts) (z .1) .1 }
 
--- where nothing is barred the turns decide; elsewhere nothing is counted
-pub counted-by-turns : (n : Nest) (ts : List ℕ) → length (n .barred) ≡ 0 → canCount n ts ≡ turnsFit n ts
-counted-by-turns n ts h = rw (eq-eqb (length (n .barred)) 0 h)
+-- where nothing is barred or flagged the turns decide; elsewhere nothing is counted
+pub counted-by-turns
+    : (n : Nest) (ts : List ℕ) → length (n .barred) ≡ 0 → length (n .flagged) ≡ 0 → canCount n ts ≡ turnsFit n ts
+counted-by-turns n ts h k = rw (eq-eqb (length (n .barred)) 0 h, eq-eqb (length (n .flagged)) 0 k)
 
-pub not-counted : (n : Nest) (ts : List ℕ) → (length (n .barred) ≡ 0 → ⊥) → canCount n ts ≡ false
-not-counted n ts h = rw (ne-eqb (length (n .barred)) 0 h)
+pub flagged-uncounted
+    : (n : Nest) (ts : List ℕ) → length (n .barred) ≡ 0 → (length (n .flagged) ≡ 0 → ⊥) → canCount n ts ≡ false
+flagged-uncounted n ts h k = rw (eq-eqb (length (n .barred)) 0 h, ne-eqb (length (n .flagged)) 0 k)
+
+pub barred-uncounted : (n : Nest) (ts : List ℕ) → (length (n .barred) ≡ 0 → ⊥) → canCount n ts ≡ false
+barred-uncounted n ts h = rw (ne-eqb (length (n .barred)) 0 h)

@@ -13,9 +13,9 @@ use Rattle.desk.specs.declared.Desk as DD
 use Rattle.desk.specs.Desks.{Desk, deskIn, stateFault}
 use Rattle.counting.specs.declared.Calls as CC
 
--- nothing is barred, and the turns are as many as the loops and within their bounds
+-- nothing is barred or flagged, and the turns are as many as the loops and within their bounds
 abbrev pub canCount : Nest → List ℕ → Bool
-canCount n ts = eqb (length (n .barred)) 0 && turnsFit n ts
+canCount n ts = eqb (length (n .barred)) 0 && (eqb (length (n .flagged)) 0 && turnsFit n ts)
 
 -- 10, 11, then 17
 abbrev pub callsFault : Desk → List ℕ → ℕ

@@ -42,15 +42,17 @@ pub fn count_calls(desk: Desk, turns: &[u8]) -> Calls
     refused(17)
 }
 
-// Nothing is barred, and the turns fit the nest's loops.
+// Nothing is barred or flagged, and the turns fit the nest's loops.
 fn can_count(nest: Nest, turns: &[u8]) -> bool
     requires { ⌜ IsCounted nest ⌝ }
     ensures { λ r. ⌜ r ≡ canCount (nestIn nest) (now (turns .entry)) ⌝ }
 {
     if nest.bars == 0 {
-        let count = nest.count;
-        let points = nest.points;
-        return turns_fit(&points[..count], turns, OUTER, INNER);
+        if nest.flags == 0 {
+            let count = nest.count;
+            let points = nest.points;
+            return turns_fit(&points[..count], turns, OUTER, INNER);
+        }
     }
     false
 }

@@ -1,5 +1,6 @@
 // The desk for programs in other languages: each call under its C name, over structs laid out as C lays them out. Most
 // only forward. desk.h beside this folder declares them all.
+ghost use Rattle.counting.specs.Says.{CallsSays};
 ghost use Rattle.desk.specs.Desks.{IsMade, IsMadePlain};
 ghost use Rattle.desk.specs.Says.{EmptySays, LoadSays, PlanSays, CountSays, WriteSays, ListSays, OverSays};
 ghost use Rattle.desk.specs.Says.{markIn, verdictIn};
@@ -11,6 +12,7 @@ ghost use Rattle.host.specs.Says.{MarkSays, SittingSays};
 ghost use Rattle.host.specs.Marks.{coded, markOut, verdictOut};
 ghost use Rattle.host.specs.Records.{recordsOf};
 ghost use mathlib.Core.Path.{_≡_};
+use counting::Calls;
 use desk::Answer;
 use desk::Chosen;
 use desk::Desk;
@@ -193,6 +195,14 @@ pub extern "C" fn desk_missing_runs(desk: Desk) -> Chosen
     ensures { λ r. ⌜ MissingSays desk r ⌝ }
 {
     skipping::missing_runs(desk)
+}
+
+#[no_mangle]
+pub extern "C" fn desk_count_calls(desk: Desk, turns: &[u8]) -> Calls
+    requires { ⌜ IsMade desk ⌝ }
+    ensures { λ r. ⌜ CallsSays desk (now (turns .entry)) r ⌝ }
+{
+    counting::count_calls(desk, turns)
 }
 
 #[no_mangle]

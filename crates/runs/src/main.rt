@@ -15,6 +15,7 @@ fn main() {
     report(3, case_3());
     report(4, case_4());
     report(5, case_5());
+    report(6, case_6());
 }
 
 // The nest of WHY, whose key is 2, 7: both barriers lie in the outermost loop alone.
@@ -70,6 +71,14 @@ fn case_5() -> bool {
     counts_not(empty_desk(), &[0], 10)
         && counts_not(unplanned, &[0], 11)
         && counts_not(unplanned, &[2], 11)
+}
+
+// Papers with a barred gap or a flagged loop get no count, whatever the turns.
+fn case_6() -> bool {
+    counts(planned(b"01\n03\n02\n"), &[2], 0)
+        && counts_not(planned(b"01\n03\n02\n1301\n"), &[2], 17)
+        && counts_not(planned(b"04\n03\n02\n"), &[2], 17)
+        && counts_not(planned(b"01\n04\n02\n02\n"), &[2, 2], 17)
 }
 
 // The key has so many calls under these turns.

@@ -1,0 +1,19 @@
+"""./desk calls: the barrier calls of the key in a run."""
+import argparse
+
+from office.asked import PAPER_HELP, TURNS_HELP, planned, turned
+from office.command import write_out
+from office.library import Desk
+
+HELP = 'counts the barrier calls of the key in a run, given the turns of each loop'
+MORE = 'Turns are 2 to 16, of the outermost loop from 1. No correct placement has fewer calls.'
+
+
+def arguments(parser: argparse.ArgumentParser) -> None:
+    parser.add_argument('paper', metavar='PAPER', help=PAPER_HELP)
+    parser.add_argument('turns', metavar='TURNS', help=TURNS_HELP)
+
+
+def main(asked: argparse.Namespace) -> None:
+    desk, _ = planned(asked.paper)
+    write_out(f'{turned(desk, asked.turns, Desk.count_calls)}\n'.encode())
