@@ -121,10 +121,18 @@ class Desk:
         return out.raw[:length]
 
 
+def join(first: bytes, second: bytes) -> bytes:
+    """The text of two papers joined."""
+    room = DECLARED.numbers['DESK_JOINT']
+    out = ctypes.create_string_buffer(room)
+    length = given(library().desk_join(first, len(first), second, len(second), out, room)).value
+    return out.raw[:length]
+
+
 def given(reply: ctypes.Structure) -> ctypes.Structure:
     """The reply of a call that is not refused."""
     if reply.number != 0:
-        raise Refused(Refusal(reply.number, reply.line))
+        raise Refused(Refusal(reply.number, reply.line, getattr(reply, 'text', 0)))
     return reply
 
 

@@ -13,9 +13,10 @@ DIGITS_RULE = 1
 
 @dataclass(frozen=True)
 class Refusal:
-    """The number of a rule and a line from 1; line 0 stands for the whole text."""
+    """The number of a rule and a line from 1; line 0 stands for the whole text. Of two texts, 1 or 2 is at fault."""
     number: int
     line: int
+    text: int = 0
 
     def words(self, text: bytes) -> list[str]:
         """What the refusal of a text means, a sentence a line."""

@@ -63,12 +63,37 @@ def calls(tally: Tally, folder: pathlib.Path) -> None:
         tally.check(f'turns {turns}', seen.failed('turns are numbers'), seen)
 
 
+def joined(tally: Tally, folder: pathlib.Path) -> None:
+    """Two papers into one: the keys moved along under a root with count 0; which text is at fault."""
+    p, q, r = (ROOT / 'examples' / f'{name}.hex' for name in 'pqr')
+    joint, bad, large = folder / 'joint.hex', folder / 'bad.hex', folder / 'large.hex'
+    joint.write_bytes(run(DESK, 'join', p, q).out)
+    wanted = b'2106\n210c\n2111\n2115\n220000\n220100\n220201\n220801\n220f01\n221100\n221201\n'
+    tally.check('the key of P and Q', run(DESK, 'key', joint) == Seen(wanted, '', 0), run(DESK, 'key', joint))
+    skipped = run(DESK, 'join', folder / 'skipped.hex', '/dev/null').out
+    kept = skipped.startswith(b'01\n01\n03\n04\n') and b'\n02\n01\n02\n02\n' in skipped
+    tally.check('flags are kept', kept, skipped)
+    bad.write_bytes(b'01\n02\n11\n')
+    large.write_bytes(b'01\n' + b'03\n' * 250 + b'02\n')
+    foundation = ROOT / 'examples' / 'foundation.hex'
+    for first, second, number, word in [
+            (bad, p, 2, f'{bad}: line 3 is refused: "11"'), (p, bad, 2, f'{bad}: line 3 is refused: "11"'),
+            (foundation, p, 14, f'{foundation}: the text is refused as a whole'), (r, foundation, 14, str(foundation)),
+            (large, r, 18, 'the two papers cannot be joined')]:
+        seen = run(DESK, 'join', first, second)
+        told = word in seen.err and f'number {number}: ' in seen.err
+        tally.check(f'{first.name} and {second.name}', told and (seen.out, seen.status) == (b'', 1), seen)
+    seen = run(DESK, 'join', p, folder / 'none.hex')
+    tally.check('no second paper', seen.failed('cannot read'), seen)
+
+
 def main() -> None:
     tally = Tally()
     with tempfile.TemporaryDirectory() as name:
         folder = pathlib.Path(name)
         missing(tally, folder)
         calls(tally, folder)
+        joined(tally, folder)
     tally.close()
 
 

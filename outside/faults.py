@@ -66,6 +66,19 @@ def without_contracts(source: str) -> str:
     return re.sub(r'(?m)^(pub )?(struct|enum) ', r'#[derive(Clone, Copy)]\n\1\2 ', source)
 
 
+def with_lengths(source: str) -> str:
+    """The exported functions as C calls them: what is lent is a pointer and a length."""
+    lent = re.compile(r'(\w+): &(mut )?\[(\w+)\]')
+
+    def exported(found: re.Match) -> str:
+        name, given, rest = found.groups()
+        whole = [f'    let {it} = unsafe {{ std::slice::from_raw_parts{"_mut" if mut else ""}({it}, {it}_length) }};\n'
+                 for it, mut, _ in lent.findall(given)]
+        parts = lent.sub(lambda it: f'{it[1]}: *{"mut" if it[2] else "const"} {it[3]}, {it[1]}_length: usize', given)
+        return f'{name}({parts}){rest}{"".join(whole)}'
+    return re.sub(r'(pub extern "C" fn \w+)\(([^)]*)\)([^{]*\{\n)', exported, source)
+
+
 def library(fault: Fault | None) -> str:
     """The library as one Rust file, a module for each crate."""
     text = ['#![allow(improper_ctypes_definitions)]']
@@ -80,7 +93,7 @@ def library(fault: Fault | None) -> str:
                 raise Unusable(f'{fault.old!r} stands {source.count(fault.old)} times in {path}')
             source, found = source.replace(fault.old, fault.new), True
         used = ''.join(f'    use crate::{u};\n' for u in uses if (ROOT / f'crates/{u}/src/lib.rt').exists())
-        text.append(f'pub mod {name} {{\n{used}{without_contracts(source)}}}\n')
+        text.append(f'pub mod {name} {{\n{used}{with_lengths(without_contracts(source))}}}\n')
     if not found:
         raise Unusable(f'no crate of the library has {fault.file}')
     return '\n'.join(text)

@@ -78,6 +78,12 @@ AT(DeskCalls, number, 0, 1);
 AT(DeskCalls, line, 8, 8);
 AT(DeskCalls, calls, 16, 8);
 
+SIZE(DeskJoined, 24);
+AT(DeskJoined, number, 0, 1);
+AT(DeskJoined, text, 1, 1);
+AT(DeskJoined, line, 8, 8);
+AT(DeskJoined, value, 16, 8);
+
 static int passed, failed;
 
 static void that(const char *what, bool holds) {
@@ -117,6 +123,7 @@ typedef void *OnDesk(void *, Desk);
 typedef void *OnText(void *, Desk, const uint8_t *, size_t);
 typedef void *OnNumber(void *, Desk, size_t);
 typedef void *OnPlain(void *, DeskPlain);
+typedef void *OnTexts(void *, const uint8_t *, size_t, const uint8_t *, size_t, uint8_t *, size_t);
 typedef void *OnBoth(void *, Desk, const uint8_t *, size_t, uint8_t *, size_t);
 
 static void sizes(Desk desk, DeskPlain plain) {
@@ -134,6 +141,7 @@ static void sizes(Desk desk, DeskPlain plain) {
     GIVES(OnDesk, desk_textbook, sizeof(DeskChosen), room, desk);
     GIVES(OnDesk, desk_missing_runs, sizeof(DeskChosen), room, desk);
     GIVES(OnText, desk_count_calls, sizeof(DeskCalls), room, desk, P, 0);
+    GIVES(OnTexts, desk_join, sizeof(DeskJoined), room, P, 0, P, 0, lent, sizeof lent);
     GIVES(OnBoth, desk_candidate_slip, sizeof(DeskAnswer), room, desk, P, 0, lent, sizeof lent);
     GIVES(OnBoth, desk_examiner_slip, sizeof(DeskAnswer), room, desk, P, 0, lent, sizeof lent);
 }
@@ -196,6 +204,16 @@ static void skipping(Desk desk) {
     that("gone over with flags", desk.planned && desk.nest.flags == 1 && desk.key.words[0] == 1u << 3);
 }
 
+static void joining(void) {
+    const uint8_t *one = (const uint8_t *)"01\n03\n02\n12000101\n", *two = (const uint8_t *)"04\n02\n";
+    memset(lent, 7, sizeof lent);
+    DeskJoined joined = desk_join(one, 18, two, 6, lent, sizeof lent);
+    that("joined", joined.number == 0 && joined.text == 0 && joined.line == 0 && joined.value == 30);
+    that("the joint text", memcmp(lent, "01\n01\n03\n02\n04\n02\n02\n12010202\n\a", 31) == 0);
+    joined = desk_join(one, 18, two, 3, lent, sizeof lent);
+    that("the second text", joined.number == 4 && joined.text == 2 && joined.line == 2 && joined.value == 0);
+}
+
 int main(void) {
     Desk desk = desk_load(desk_new(), P, sizeof P - 1).desk;
     DeskPlain plain = {.loaded = true, .nest = desk.nest, .planned = true};
@@ -203,6 +221,7 @@ int main(void) {
     fields(desk);
     barred(desk_load(desk, FOUNDATION, sizeof FOUNDATION - 1).desk);
     skipping(desk_load(desk, SKIPPING, sizeof SKIPPING - 1).desk);
+    joining();
     printf("%d passed, %d failed\n", passed, failed);
     return failed != 0;
 }

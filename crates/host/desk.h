@@ -20,10 +20,12 @@
     11   no key
     12   Put of a gap that is there, Lift of one that is not
     13   no move to take back
-    14   a barred gap in a nest of more than one loop; the textbook method of such a nest
+    14   a barred gap in a nest of more than one loop; the textbook method of such a nest; a paper with barred gaps, to be
+         joined
     15   Plan, or the textbook method, of a nest in which some dependence has all its gaps barred: it has no key
     16   a barred gap in a placement text, or Put of one
     17   not as many turns as loops, turns out of range, or a nest with barred gaps or loops that may not run
+    18   the joint nest would have more than 256 points, more than 512 dependences, or a loop 9 deep
 
    A text or a buffer is lent as a pointer and a length in bytes. A thread with a stack of 160 KiB has room for every
    call. The library is for x86-64, and links against memcpy and memset alone:
@@ -55,6 +57,9 @@ enum { DESK_TEXT = 1275 };
 
 /* No slip is longer. */
 enum { DESK_SLIP = 3474 };
+
+/* No joint text is longer: 256 points and 512 carried dependences. */
+enum { DESK_JOINT = 5376 };
 
 /* A Desk has so many words of 8 bytes, and a DeskPlain: for hosts that only hand them on. */
 enum { DESK_WORDS = 449, DESK_PLAIN_WORDS = 362 };
@@ -151,6 +156,14 @@ typedef struct DeskCalls {
     uint64_t calls;
 } DeskCalls;
 
+/* `text` is 1 or 2, the text at fault, or 0 for neither; `value` is the length of the joint text. */
+typedef struct DeskJoined {
+    uint8_t number;
+    uint8_t text;
+    size_t line;
+    size_t value;
+} DeskJoined;
+
 /* DESK_UNCUT: dependence a, from 0, is the first that is uncut. DESK_DEARER: loop a has b barriers, and c in the key.
    All that is not named is 0. */
 typedef struct DeskMark {
@@ -210,6 +223,10 @@ DeskChosen desk_missing_runs(Desk desk);
 /* The barrier calls of the key in a run, given a byte of turns for each loop in order of its DO: 1 to 16 for the outermost,
    2 to 16 for the others. A barrier counts the product of the turns of the loops around it. Numbers 10, 11, 17. */
 DeskCalls desk_count_calls(Desk desk, const uint8_t *turns, size_t length);
+
+/* Joins two nest texts and writes a third, as desk_write writes the key: a new outermost loop, in it the first nest and
+   then the second. Numbers 1 to 8 and 14 of the first text, then of the second, with their line; then 14, 18, 9. */
+DeskJoined desk_join(const uint8_t *a, size_t first, const uint8_t *b, size_t second, uint8_t *out, size_t room);
 
 /* A desk in use goes over from the kind before sittings: the nest is kept, the sitting is empty, and where there was a
    key it is worked out anew, unless Plan would refuse. `old` has a nest that desk_load accepted, or none (count, many,

@@ -1,6 +1,7 @@
 //! The calls of the library: what each is given, and what the library does with it.
 
 use crate::host::{self, Desk, Placement, PlainDesk, WORDS};
+use crate::joining;
 use crate::runs;
 use crate::skipping;
 use crate::slips;
@@ -30,6 +31,8 @@ pub enum Call {
     MissingRuns,
     /// With the turns of the loops.
     CountCalls(Vec<u8>),
+    /// Of two texts, into a buffer; the desk has no part in it.
+    Join(Vec<u8>, Vec<u8>, Vec<u8>),
 }
 
 impl Call {
@@ -53,6 +56,7 @@ impl Call {
             Call::Slip(true, ..) => "examiner's slip",
             Call::MissingRuns => "missing runs",
             Call::CountCalls(_) => "count calls",
+            Call::Join(..) => "join",
         }
     }
 
@@ -64,6 +68,7 @@ impl Call {
             Call::Count(n) | Call::Put(n) | Call::Lift(n) => n.to_string(),
             Call::Over(planned, key) => format!("with a key: {planned}, words {key:?}"),
             Call::Slip(_, text, out) => format!("{}, a buffer of {} bytes", shown(text), out.len()),
+            Call::Join(a, b, out) => format!("{}, {}, a buffer of {} bytes", shown(a), shown(b), out.len()),
             _ => String::new(),
         };
         format!("{} {given}", self.name())
@@ -141,6 +146,7 @@ pub fn play(desk: &mut Desk, call: &Call) -> Reply {
             Call::Slip(examiner, text, out) => slips::play(*desk, *examiner, text, out),
             Call::MissingRuns => skipping::play(*desk),
             Call::CountCalls(turns) => runs::play(*desk, turns),
+            Call::Join(a, b, out) => joining::play(a, b, out),
         }
     }
 }

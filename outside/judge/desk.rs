@@ -3,6 +3,7 @@
 
 use crate::calls::{guarded, Call, Reply};
 use crate::host::{self, gaps_of, KEPT};
+use crate::joining;
 use crate::nests::*;
 use crate::order::{first_key, mark, Mark};
 use crate::runs;
@@ -95,6 +96,7 @@ impl Desk {
             Call::Slip(examiner, text, out) => return slips::answer(self, *examiner, text, out),
             Call::MissingRuns => (number, values) = skipping::answer(self),
             Call::CountCalls(turns) => return runs::answer(self, turns),
+            Call::Join(a, b, out) => return joining::answer(a, b, out),
         }
         Reply { number, line, values, lent }
     }

@@ -4,6 +4,7 @@ use crate::calls::{play, Call, Reply};
 use crate::desk::{Desk, Key};
 use crate::edges::{edges, pairs};
 use crate::host::{self, gaps_of, KEPT};
+use crate::joining::{at_limit, joins, joint_length};
 use crate::nests::*;
 use crate::order::key_fault;
 use crate::papers::*;
@@ -86,7 +87,7 @@ fn random_call(random: &mut Random, desk: &Desk, mix: Mix, edges: &[Vec<u8>]) ->
     let Mix { loads, asks, moves, backs, rest } = mix;
     match random.below(loads + asks + moves + backs + rest) {
         i if i < loads => Call::Load(nest_text(random, edges)),
-        i if i < loads + asks => random_ask(random, desk),
+        i if i < loads + asks => random_ask(random, desk, edges),
         i if i < loads + asks + moves => {
             let gap = random_gap(random, desk);
             if random.below(3) < 2 { Call::Put(gap) } else { Call::Lift(gap) }
@@ -104,8 +105,8 @@ fn random_call(random: &mut Random, desk: &Desk, mix: Mix, edges: &[Vec<u8>]) ->
     }
 }
 
-fn random_ask(random: &mut Random, desk: &Desk) -> Call {
-    match random.below(18) {
+fn random_ask(random: &mut Random, desk: &Desk, edges: &[Vec<u8>]) -> Call {
+    match random.below(20) {
         0 => Call::Count(random_point(random, desk)),
         1 | 2 => Call::Write(buffer(random, 5 * desk.key().len())),
         3 => Call::Sitting(buffer(random, 5 * desk.sitting.len())),
@@ -118,6 +119,7 @@ fn random_ask(random: &mut Random, desk: &Desk) -> Call {
         }
         11 | 12 => Call::MissingRuns,
         13 | 14 => Call::CountCalls(random_turns(random, desk.nest.as_ref())),
+        15 | 16 => join(random, edges),
         _ => Call::Mark(placement_text(random, desk)),
     }
 }
@@ -135,6 +137,18 @@ fn nest_text(random: &mut Random, edges: &[Vec<u8>]) -> Vec<u8> {
         11..=26 => { let (text, n) = small_text(random); damage(random, &text, n) }
         _ => small_text(random).0,
     }
+}
+
+/// Two papers or damaged texts, in part such that their joint nest is near a limit.
+fn join(random: &mut Random, edges: &[Vec<u8>]) -> Call {
+    let (a, b) = match random.below(16) {
+        0 | 1 => at_limit(random),
+        2 | 3 => (small_text(random).0, nest_text(random, edges)),
+        4 | 5 => (nest_text(random, edges), small_text(random).0),
+        _ => (small_nest(random).text(), small_nest(random).text()),
+    };
+    let length = joint_length(&a, &b);
+    Call::Join(a, b, buffer(random, length))
 }
 
 /// Mostly gaps of the nest, in part so few that barriers come and go, and barred ones; then the first that are none,
@@ -267,7 +281,7 @@ fn fixed_scripts() -> Vec<Vec<Call>> {
     let flagged = (0..FIXED).map(|case| small_flagged(&mut Random::new(14, case)).text());
     let made = skipping::PAPERS.iter().map(|paper| words(paper.0)).chain(flagged);
     let asked = made.map(|text| vec![Call::Load(text), Call::Plan, Call::MissingRuns]);
-    lines.chain(asked).chain((2..=SMALLEST).flat_map(every_paper).map(|nest| asks_of(&nest))).collect()
+    lines.chain(asked).chain(joins()).chain((2..=SMALLEST).flat_map(every_paper).map(|nest| asks_of(&nest))).collect()
 }
 
 /// What is asked of a small paper: its missing runs, and its calls under all turns from 2 to 4, under some if it is not

@@ -1,9 +1,5 @@
 // The cases of document 01, "Papers with known results", run over the desk's calls and compared; a line for each.
-ghost use mathlib.Core.Path.{_≡_};
-ghost use Prim.Native.Nat.{_≤_};
-ghost use lib.ListN.{length};
 ghost use Rattle.desk.specs.Desks.{IsMade};
-ghost use Rattle.io.specs.Counts.{Counts};
 use desk::Desk;
 use trials::has_count;
 use trials::has_key;
@@ -15,6 +11,7 @@ use trials::is_unread;
 use trials::paper_p;
 use trials::paper_r;
 use trials::planned;
+use trials::repeat;
 use trials::report;
 
 fn main() {
@@ -140,37 +137,4 @@ fn is_deep(loops: usize, number: u8, line: usize) -> bool {
     let a = repeat(&mut text, 0, b"01\n", loops);
     let n = repeat(&mut text, a, b"02\n", loops);
     is_refused(&text[..n], number, line)
-}
-
-// Puts a line so many times into the text from a place on, as far as there is room; gives the place behind them.
-fn repeat(text: &mut [u8], at: usize, line: &[u8], times: usize) -> usize
-    requires { ⌜ at ≤ length (now text) ⌝ }
-    ensures { λ r. ⌜ Counts r (now (text .exit)) ⌝ }
-{
-    let mut n = at;
-    let mut i = 0;
-    while i < times {
-        n = put(text, n, line);
-        i += 1;
-    }
-    n
-}
-
-// Puts a line into the text from a place on, as far as there is room; gives the place behind it.
-fn put(text: &mut [u8], at: usize, line: &[u8]) -> usize
-    requires { ⌜ at ≤ length (now text) ⌝ }
-    ensures { λ r. ⌜ r ≤ length (now (text .exit)) ⌝ }
-{
-    let mut n = at;
-    let mut i = 0;
-    while i < line.len() {
-        if n < text.len() {
-            text[n] = line[i];
-            n += 1;
-            i += 1;
-        } else {
-            return n;
-        }
-    }
-    n
 }

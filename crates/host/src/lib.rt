@@ -4,6 +4,7 @@ ghost use Rattle.counting.specs.Says.{CallsSays};
 ghost use Rattle.desk.specs.Desks.{IsMade, IsMadePlain};
 ghost use Rattle.desk.specs.Says.{EmptySays, LoadSays, PlanSays, CountSays, WriteSays, ListSays, OverSays};
 ghost use Rattle.desk.specs.Says.{markIn, verdictIn};
+ghost use Rattle.joining.specs.Says.{JoinSays};
 ghost use Rattle.screen.specs.Says.{PutSays, LiftSays, BackSays};
 ghost use Rattle.skipping.specs.Says.{MissingSays};
 ghost use Rattle.slips.specs.Says.{CandidateSays, ExaminerSays};
@@ -20,6 +21,7 @@ use desk::Marked;
 use desk::PlainDesk;
 use desk::Reply;
 use desk::Verdict;
+use joining::Joined;
 use nests::Dependence;
 use screen::Moved;
 
@@ -203,6 +205,13 @@ pub extern "C" fn desk_count_calls(desk: Desk, turns: &[u8]) -> Calls
     ensures { λ r. ⌜ CallsSays desk (now (turns .entry)) r ⌝ }
 {
     counting::count_calls(desk, turns)
+}
+
+#[no_mangle]
+pub extern "C" fn desk_join(a: &[u8], b: &[u8], out: &mut [u8]) -> Joined
+    ensures { λ r. ⌜ JoinSays (now (a .entry)) (now (b .entry)) (now (out .entry)) (now (out .exit)) r ⌝ }
+{
+    joining::join(a, b, out)
 }
 
 #[no_mangle]

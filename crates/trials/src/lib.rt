@@ -1,6 +1,9 @@
-// The calls, each held to a reply: the desk after a call, whether a call replies this, and the line of a case. The
-// programs `cases` and `requests` are made of them.
+// The calls, each held to a reply: the desk after a call, whether a call replies this, texts of many lines, and the line
+// of a case. The programs of cases are made of them.
 ghost use mathlib.Core.Path.{_≡_};
+ghost use Prim.Native.Nat.{_≤_};
+ghost use lib.ListN.{length};
+ghost use Rattle.io.specs.Counts.{Counts};
 ghost use Rattle.desk.specs.Desks.{IsMade};
 use desk::Chosen;
 use desk::Desk;
@@ -241,6 +244,39 @@ pub fn is_chosen(reply: Chosen, number: u8, set: u64) -> bool {
         && words[1] == 0
         && words[2] == 0
         && words[3] == 0
+}
+
+// Puts a line so many times into the text from a place on, as far as there is room; gives the place behind them.
+pub fn repeat(text: &mut [u8], at: usize, line: &[u8], times: usize) -> usize
+    requires { ⌜ at ≤ length (now text) ⌝ }
+    ensures { λ r. ⌜ Counts r (now (text .exit)) ⌝ }
+{
+    let mut n = at;
+    let mut i = 0;
+    while i < times {
+        n = put(text, n, line);
+        i += 1;
+    }
+    n
+}
+
+// Puts a line into the text from a place on, as far as there is room; gives the place behind it.
+fn put(text: &mut [u8], at: usize, line: &[u8]) -> usize
+    requires { ⌜ at ≤ length (now text) ⌝ }
+    ensures { λ r. ⌜ r ≤ length (now (text .exit)) ⌝ }
+{
+    let mut n = at;
+    let mut i = 0;
+    while i < line.len() {
+        if n < text.len() {
+            text[n] = line[i];
+            n += 1;
+            i += 1;
+        } else {
+            return n;
+        }
+    }
+    n
 }
 
 // Writes a case's line.

@@ -4,8 +4,8 @@ use mathlib.Core.Path.{_≡_, refl}
 use Prim.Native.Nat.{_-_, _≤_}
 use native.Mathlib.Omega.{arith}
 use lib.ListN.{length, length-set}
-use Rattle.cases.proofs.put.Statement.{statement}
-use Rattle.cases.proofs.put.Tie as tie
+use Rattle.trials.proofs.put.Statement.{statement}
+use Rattle.trials.proofs.put.Tie as tie
 
 abbrev Inv-loop : tie.InvT-loop
 Inv-loop text₀ at line n₀ i₀ text n i = (n ≤ length text) × (i ≤ length line) × (length text ≡ length text₀)

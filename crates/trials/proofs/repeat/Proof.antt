@@ -5,8 +5,8 @@ use Prim.Native.Nat.{_-_, _≤_}
 use native.Mathlib.Omega.{arith}
 use lib.ListN.{length}
 use Rattle.io.proofs.Counting.{counts}
-use Rattle.cases.proofs.repeat.Statement.{statement}
-use Rattle.cases.proofs.repeat.Tie as tie
+use Rattle.trials.proofs.repeat.Statement.{statement}
+use Rattle.trials.proofs.repeat.Tie as tie
 
 abbrev Inv-loop : tie.InvT-loop
 Inv-loop text₀ at line times n₀ i₀ text n i = (n ≤ length text) × (i ≤ times) × (length text ≡ length text₀)
