@@ -32,6 +32,16 @@ class Nest:
 
 
 @dataclass(frozen=True)
+class Improved:
+    """Where tries lead: gaps, calls, how many tries were made, what ended them, and the floor of all calls."""
+    gaps: list[int]
+    calls: int
+    tries: int
+    ended: int
+    floor: int
+
+
+@dataclass(frozen=True)
 class Mark:
     """A verdict: of Uncut the first dependence that is, of Dearer a loop with their count and ours."""
     verdict: int
@@ -92,6 +102,11 @@ class Desk:
     def count_calls(self, turns: bytes) -> int:
         """The key's barrier calls, with a number of turns for each loop in order of its DO."""
         return given(library().desk_count_calls(self.held, turns, len(turns))).calls
+
+    def improve(self, turns: bytes, budget: int) -> Improved:
+        """Tries from the key, within a budget."""
+        found = given(library().desk_improve(self.held, turns, len(turns), budget))
+        return Improved(gaps_in(found.placement), found.calls, found.tries, found.ended, found.floor)
 
     def candidate_slip(self, text: bytes) -> bytes:
         return self.written(library().desk_candidate_slip, SLIP, text, len(text))

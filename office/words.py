@@ -29,6 +29,7 @@ RULES = {
 }
 
 VERDICTS = {DECLARED.numbers[f'DESK_{word.upper()}']: word for word in ('Uncut', 'Dearer', 'Best')}
+ENDED = {0: 'a whole round', 1: 'the budget'}
 REFUSED, UNREAD = 'Refused', 'Not read'
 
 

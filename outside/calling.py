@@ -87,6 +87,25 @@ def joined(tally: Tally, folder: pathlib.Path) -> None:
     tally.check('no second paper', seen.failed('cannot read'), seen)
 
 
+def improved(tally: Tally, folder: pathlib.Path) -> None:
+    """Fewer calls where loops run once: what is found, how it ended, the floor."""
+    four = folder / 'four.hex'
+    four.write_bytes(b'01\n03\n01\n03\n03\n03\n02\n03\n02\n110104\n110307\n')
+    for asked, told in [
+            (['1', '--budget', '10'], 'gap 4\n1 call\n10 tries, ended by a whole round\nfloor 1: at most 0 calls too'),
+            (['1', '--budget', '9'], 'gap 4\n1 call\n9 tries, ended by the budget\nfloor 1: at most 0 calls too'),
+            (['1', '--budget', '0'], 'gaps 2, 7\n2 calls\n0 tries, ended by the budget\n'),
+            (['1,10'], 'gaps 2, 7\n2 calls\n6 tries, ended by a whole round\n')]:
+        seen = run(DESK, 'improve', four, *asked)
+        tally.check(f'improve {asked}', seen.out.decode().startswith(told) and seen.status == 0, seen)
+    tally.check('as text', run(DESK, 'improve', four, '1', '--text') == Seen(b'2104\n', '', 0))
+    seen = run(DESK, 'improve', four, '17')
+    tally.check('turns out of range', 'number 17' in seen.err and (seen.out, seen.status) == (b'', 1), seen)
+    for budget in ['-1', 'x', str(2 ** 64)]:
+        seen = run(DESK, 'improve', four, '1', f'--budget={budget}')
+        tally.check(f'a budget of {budget}', seen.failed('budget'), seen)
+
+
 def main() -> None:
     tally = Tally()
     with tempfile.TemporaryDirectory() as name:
@@ -94,6 +113,7 @@ def main() -> None:
         missing(tally, folder)
         calls(tally, folder)
         joined(tally, folder)
+        improved(tally, folder)
     tally.close()
 
 

@@ -78,6 +78,14 @@ AT(DeskCalls, number, 0, 1);
 AT(DeskCalls, line, 8, 8);
 AT(DeskCalls, calls, 16, 8);
 
+SIZE(DeskImproved, 80);
+AT(DeskImproved, number, 0, 1);
+AT(DeskImproved, line, 8, 8);
+AT(DeskImproved, placement, 16, 32);
+AT(DeskImproved, calls, 48, 8);
+AT(DeskImproved, tries, 56, 8);
+AT(DeskImproved, ended, 64, 1);
+AT(DeskImproved, floor, 72, 8);
 SIZE(DeskJoined, 24);
 AT(DeskJoined, number, 0, 1);
 AT(DeskJoined, text, 1, 1);
@@ -116,6 +124,8 @@ static const uint8_t P[] = "01\n01\n03\n03\n03\n03\n02\n01\n03\n03\n03\n03\n02\n
 
 static const uint8_t FOUNDATION[] = "01\n03\n03\n03\n03\n03\n02\n12000503\n12000401\n110005\n1301\n1302\n1304\n";
 
+static const uint8_t ONCE[] = "01\n03\n01\n03\n03\n03\n02\n03\n02\n110104\n110307\n";
+
 static const uint8_t SKIPPING[] = "01\n03\n04\n03\n02\n03\n02\n12020303\n110105\n";
 
 typedef void *Fresh(void *);
@@ -123,6 +133,7 @@ typedef void *OnDesk(void *, Desk);
 typedef void *OnText(void *, Desk, const uint8_t *, size_t);
 typedef void *OnNumber(void *, Desk, size_t);
 typedef void *OnPlain(void *, DeskPlain);
+typedef void *OnTurns(void *, Desk, const uint8_t *, size_t, size_t);
 typedef void *OnTexts(void *, const uint8_t *, size_t, const uint8_t *, size_t, uint8_t *, size_t);
 typedef void *OnBoth(void *, Desk, const uint8_t *, size_t, uint8_t *, size_t);
 
@@ -141,6 +152,7 @@ static void sizes(Desk desk, DeskPlain plain) {
     GIVES(OnDesk, desk_textbook, sizeof(DeskChosen), room, desk);
     GIVES(OnDesk, desk_missing_runs, sizeof(DeskChosen), room, desk);
     GIVES(OnText, desk_count_calls, sizeof(DeskCalls), room, desk, P, 0);
+    GIVES(OnTurns, desk_improve, sizeof(DeskImproved), room, desk, P, 0, 10);
     GIVES(OnTexts, desk_join, sizeof(DeskJoined), room, P, 0, P, 0, lent, sizeof lent);
     GIVES(OnBoth, desk_candidate_slip, sizeof(DeskAnswer), room, desk, P, 0, lent, sizeof lent);
     GIVES(OnBoth, desk_examiner_slip, sizeof(DeskAnswer), room, desk, P, 0, lent, sizeof lent);
@@ -204,6 +216,15 @@ static void skipping(Desk desk) {
     that("gone over with flags", desk.planned && desk.nest.flags == 1 && desk.key.words[0] == 1u << 3);
 }
 
+static void improving(Desk desk) {
+    DeskImproved found = desk_improve(desk, (const uint8_t[]){1, 1}, 2, 10);
+    that("improved", found.number == 0 && found.line == 0 && found.placement.words[0] == 1u << 4 && found.calls == 1);
+    that("tries", found.tries == 10 && found.ended == DESK_ROUND && found.floor == 1);
+    found = desk_improve(desk, (const uint8_t[]){1, 1}, 2, 9);
+    that("the budget ended it", found.tries == 9 && found.ended == DESK_BUDGET && found.calls == 1);
+    that("17 turns", desk_improve(desk, (const uint8_t[]){1, 17}, 2, 9).number == 17);
+}
+
 static void joining(void) {
     const uint8_t *one = (const uint8_t *)"01\n03\n02\n12000101\n", *two = (const uint8_t *)"04\n02\n";
     memset(lent, 7, sizeof lent);
@@ -221,6 +242,7 @@ int main(void) {
     fields(desk);
     barred(desk_load(desk, FOUNDATION, sizeof FOUNDATION - 1).desk);
     skipping(desk_load(desk, SKIPPING, sizeof SKIPPING - 1).desk);
+    improving(desk_plan(desk_load(desk, ONCE, sizeof ONCE - 1).desk).desk);
     joining();
     printf("%d passed, %d failed\n", passed, failed);
     return failed != 0;

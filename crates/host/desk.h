@@ -49,6 +49,9 @@ enum { DESK_POINTS = 256, DESK_DEPENDENCES = 512, DESK_BARS = 255, DESK_GAPS = 2
 enum { DESK_DO = 0x01, DESK_ENDDO = 0x02, DESK_STATEMENT = 0x03, DESK_FLAGGED = 0x04 };
 enum { DESK_INDEPENDENT = 0x11, DESK_CARRIED = 0x12, DESK_BARRED = 0x13 };
 
+/* What ended the tries for fewer calls: a whole round, or the budget. */
+enum { DESK_ROUND = 0, DESK_BUDGET = 1 };
+
 /* The verdicts of a mark. */
 enum { DESK_UNCUT = 0, DESK_DEARER = 1, DESK_BEST = 2 };
 
@@ -156,6 +159,17 @@ typedef struct DeskCalls {
     uint64_t calls;
 } DeskCalls;
 
+/* Where the tries lead, with its calls; how many tries were made, and what ended them; the floor. */
+typedef struct DeskImproved {
+    uint8_t number;
+    size_t line;
+    DeskPlacement placement;
+    uint64_t calls;
+    size_t tries;
+    uint8_t ended;
+    uint64_t floor;
+} DeskImproved;
+
 /* `text` is 1 or 2, the text at fault, or 0 for neither; `value` is the length of the joint text. */
 typedef struct DeskJoined {
     uint8_t number;
@@ -227,6 +241,11 @@ DeskCalls desk_count_calls(Desk desk, const uint8_t *turns, size_t length);
 /* Joins two nest texts and writes a third, as desk_write writes the key: a new outermost loop, in it the first nest and
    then the second. Numbers 1 to 8 and 14 of the first text, then of the second, with their line; then 14, 18, 9. */
 DeskJoined desk_join(const uint8_t *a, size_t first, const uint8_t *b, size_t second, uint8_t *out, size_t room);
+
+/* Tries for fewer calls than the key's where loops run once: turns as for desk_count_calls, but from 1 for every loop, and
+   a budget of tries, none of which is made beyond it. No correct placement has fewer calls than the floor. Numbers 10, 11,
+   17. */
+DeskImproved desk_improve(Desk desk, const uint8_t *turns, size_t length, size_t budget);
 
 /* A desk in use goes over from the kind before sittings: the nest is kept, the sitting is empty, and where there was a
    key it is worked out anew, unless Plan would refuse. `old` has a nest that desk_load accepted, or none (count, many,

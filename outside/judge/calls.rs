@@ -1,6 +1,7 @@
 //! The calls of the library: what each is given, and what the library does with it.
 
 use crate::host::{self, Desk, Placement, PlainDesk, WORDS};
+use crate::improving;
 use crate::joining;
 use crate::runs;
 use crate::skipping;
@@ -33,6 +34,8 @@ pub enum Call {
     CountCalls(Vec<u8>),
     /// Of two texts, into a buffer; the desk has no part in it.
     Join(Vec<u8>, Vec<u8>, Vec<u8>),
+    /// With the turns of the loops, and a budget of tries.
+    Improve(Vec<u8>, usize),
 }
 
 impl Call {
@@ -57,6 +60,7 @@ impl Call {
             Call::MissingRuns => "missing runs",
             Call::CountCalls(_) => "count calls",
             Call::Join(..) => "join",
+            Call::Improve(..) => "improve",
         }
     }
 
@@ -68,6 +72,7 @@ impl Call {
             Call::Count(n) | Call::Put(n) | Call::Lift(n) => n.to_string(),
             Call::Over(planned, key) => format!("with a key: {planned}, words {key:?}"),
             Call::Slip(_, text, out) => format!("{}, a buffer of {} bytes", shown(text), out.len()),
+            Call::Improve(turns, budget) => format!("{turns:?}, {budget} tries"),
             Call::Join(a, b, out) => format!("{}, {}, a buffer of {} bytes", shown(a), shown(b), out.len()),
             _ => String::new(),
         };
@@ -147,6 +152,7 @@ pub fn play(desk: &mut Desk, call: &Call) -> Reply {
             Call::MissingRuns => skipping::play(*desk),
             Call::CountCalls(turns) => runs::play(*desk, turns),
             Call::Join(a, b, out) => joining::play(a, b, out),
+            Call::Improve(turns, budget) => improving::play(*desk, turns, *budget),
         }
     }
 }

@@ -3,6 +3,7 @@
 
 use crate::calls::{guarded, Call, Reply};
 use crate::host::{self, gaps_of, KEPT};
+use crate::improving;
 use crate::joining;
 use crate::nests::*;
 use crate::order::{first_key, mark, Mark};
@@ -97,6 +98,7 @@ impl Desk {
             Call::MissingRuns => (number, values) = skipping::answer(self),
             Call::CountCalls(turns) => return runs::answer(self, turns),
             Call::Join(a, b, out) => return joining::answer(a, b, out),
+            Call::Improve(turns, budget) => return improving::answer(self, turns, *budget),
         }
         Reply { number, line, values, lent }
     }

@@ -71,6 +71,17 @@ pub struct Chosen { pub number: u8, pub line: usize, pub gaps: Placement }
 pub struct Calls { pub number: u8, pub line: usize, pub calls: u64 }
 
 #[repr(C)]
+pub struct Improved {
+    pub number: u8,
+    pub line: usize,
+    pub placement: Placement,
+    pub calls: u64,
+    pub tries: usize,
+    pub ended: u8,
+    pub floor: u64,
+}
+
+#[repr(C)]
 pub struct Joined { pub number: u8, pub text: u8, pub line: usize, pub value: usize }
 
 extern "C" {
@@ -92,6 +103,7 @@ extern "C" {
     pub fn desk_examiner_slip(desk: Desk, text: *const u8, length: usize, out: *mut u8, room: usize) -> Answer;
     pub fn desk_missing_runs(desk: Desk) -> Chosen;
     pub fn desk_count_calls(desk: Desk, turns: *const u8, length: usize) -> Calls;
+    pub fn desk_improve(desk: Desk, turns: *const u8, length: usize, budget: usize) -> Improved;
     pub fn desk_join(
         a: *const u8, first: usize, b: *const u8, second: usize, out: *mut u8, room: usize,
     ) -> Joined;

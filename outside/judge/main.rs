@@ -26,6 +26,7 @@ mod desk;
 mod desk_check;
 mod edges;
 mod host;
+mod improving;
 mod joining;
 mod nests;
 mod order;

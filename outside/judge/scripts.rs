@@ -4,6 +4,7 @@ use crate::calls::{play, Call, Reply};
 use crate::desk::{Desk, Key};
 use crate::edges::{edges, pairs};
 use crate::host::{self, gaps_of, KEPT};
+use crate::improving::{improvements, random_budget};
 use crate::joining::{at_limit, joins, joint_length};
 use crate::nests::*;
 use crate::order::key_fault;
@@ -106,7 +107,7 @@ fn random_call(random: &mut Random, desk: &Desk, mix: Mix, edges: &[Vec<u8>]) ->
 }
 
 fn random_ask(random: &mut Random, desk: &Desk, edges: &[Vec<u8>]) -> Call {
-    match random.below(20) {
+    match random.below(22) {
         0 => Call::Count(random_point(random, desk)),
         1 | 2 => Call::Write(buffer(random, 5 * desk.key().len())),
         3 => Call::Sitting(buffer(random, 5 * desk.sitting.len())),
@@ -120,6 +121,10 @@ fn random_ask(random: &mut Random, desk: &Desk, edges: &[Vec<u8>]) -> Call {
         11 | 12 => Call::MissingRuns,
         13 | 14 => Call::CountCalls(random_turns(random, desk.nest.as_ref())),
         15 | 16 => join(random, edges),
+        17 | 18 => {
+            let turns = random_turns(random, desk.nest.as_ref());
+            Call::Improve(turns, random_budget(random, desk.points()))
+        }
         _ => Call::Mark(placement_text(random, desk)),
     }
 }
@@ -284,13 +289,14 @@ fn fixed_scripts() -> Vec<Vec<Call>> {
     lines.chain(asked).chain(joins()).chain((2..=SMALLEST).flat_map(every_paper).map(|nest| asks_of(&nest))).collect()
 }
 
-/// What is asked of a small paper: its missing runs, and its calls under all turns from 2 to 4, under some if it is not
-/// one of the smallest.
+/// What is asked of a small paper: its missing runs; its calls under all turns from 2 to 4, under some if it is not one
+/// of the smallest; of these with no flags, tries for fewer calls.
 fn asks_of(nest: &Nest) -> Vec<Call> {
     let mut turns = every_turns(nest.loops().len(), 2, 4);
     if nest.points.len() == SMALLEST || !nest.flagged.is_empty() { turns.drain(1..turns.len() - 1); }
     let counts = turns.into_iter().map(Call::CountCalls);
-    [Call::Load(nest.text()), Call::Plan, Call::MissingRuns].into_iter().chain(counts).collect()
+    let tries = if nest.points.len() < SMALLEST && nest.flagged.is_empty() { improvements(nest) } else { Vec::new() };
+    [Call::Load(nest.text()), Call::Plan, Call::MissingRuns].into_iter().chain(counts).chain(tries).collect()
 }
 
 /// Plays the script of a number; where there is a difference, gives the calls up to it.

@@ -4,6 +4,7 @@
 use crate::barred_check::check_barred;
 use crate::desk_check::check_desk;
 use crate::edges::edges;
+use crate::improving::check_improving;
 use crate::joining::check_joining;
 use crate::nests::*;
 use crate::order::*;
@@ -40,6 +41,7 @@ pub fn self_check() -> bool {
     check_skipping(&mut checks);
     check_runs(&mut checks);
     check_joining(&mut checks);
+    check_improving(&mut checks);
     (0..400).for_each(|case| check_random(&mut checks, &mut Random::new(7, case)));
     finish(checks.passed, checks.failed)
 }

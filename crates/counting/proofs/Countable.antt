@@ -1,5 +1,5 @@
 -- A paper and turns that can be counted, taken apart.
--- Main statements: `countable`; `counted-by-turns`, `barred-uncounted`, `flagged-uncounted`.
+-- Main statements: `countable`; `counted-by-turns`, `barred-not`, `flagged-not`.
 use mathlib.Core.Path.{_≡_}
 use mathlib.Core.Bool.{true, false, _&&_}
 use mathlib.Core.List.{List, []}
@@ -8,31 +8,37 @@ use native.Mathlib.Omega.{arith}
 use lib.Dec.{eqb}
 use lib.ListN.{length}
 use borrow.Author.Tests.{eqb-true, eq-eqb, ne-eqb}
-use Rattle.laws.proofs.Tests.{and-true}
 use Rattle.laws.proofs.Members.{no-members}
+use Rattle.laws.proofs.Tests.{and-true}
 use Rattle.nests.specs.Nests.{Nest}
-use Rattle.calls.specs.Calls.{turnsFit}
+use Rattle.calls.specs.Calls.{OUTER, fitIn}
 use Rattle.counting.specs.Says.{canCount}
 
-pub record Countable (n : Nest) (ts : List ℕ) : Type 0 where
+pub record Countable (inner : ℕ) (n : Nest) (ts : List ℕ) : Type 0 where
   pub none-barred : n .barred ≡ []
-  pub fits : turnsFit n ts ≡ true
+  pub none-flagged : n .flagged ≡ []
+  pub fits : fitIn OUTER inner (n .points) ts ≡ true
 
-pub countable : (n : Nest) (ts : List ℕ) → canCount n ts ≡ true → Countable n ts
-countable n ts h =
-    let flags = eqb (length (n .flagged)) 0 in
-    let z = and-true (eqb (length (n .barred)) 0) (flags && turnsFit n ts) h in
-    let none = eqb-true (length (n .barred)) 0 (z .0) in
-    record { none-barred = no-members (n .barred) (omega arith); fits = and-true flags (turnsFit n ts) (z .1) .1 }
+module _ (inner : ℕ) (n : Nest) (ts : List ℕ) where
+  pub countable : canCount inner n ts ≡ true → Countable inner n ts
+  countable h =
+      let runs = eqb (length (n .flagged)) 0 in
+      let fits = fitIn OUTER inner (n .points) ts in
+      let z = and-true (eqb (length (n .barred)) 0) (runs && fits) h in
+      let y = and-true runs fits (z .1) in
+      record {
+        none-barred = no-members (n .barred) (omega (arith, eqb-true (length (n .barred)) 0 (z .0)));
+        none-flagged = no-members (n .flagged) (omega (arith, eqb-true (length (n .flagged)) 0 (y .0)));
+        fits = y .1;
+      }
 
--- where nothing is barred or flagged the turns decide; elsewhere nothing is counted
-pub counted-by-turns
-    : (n : Nest) (ts : List ℕ) → length (n .barred) ≡ 0 → length (n .flagged) ≡ 0 → canCount n ts ≡ turnsFit n ts
-counted-by-turns n ts h k = rw (eq-eqb (length (n .barred)) 0 h, eq-eqb (length (n .flagged)) 0 k)
+  pub barred-not : (length (n .barred) ≡ 0 → ⊥) → canCount inner n ts ≡ false
+  barred-not h = rw (ne-eqb (length (n .barred)) 0 h)
 
-pub flagged-uncounted
-    : (n : Nest) (ts : List ℕ) → length (n .barred) ≡ 0 → (length (n .flagged) ≡ 0 → ⊥) → canCount n ts ≡ false
-flagged-uncounted n ts h k = rw (eq-eqb (length (n .barred)) 0 h, ne-eqb (length (n .flagged)) 0 k)
+  module _ (h : length (n .barred) ≡ 0) where
+    pub flagged-not : (length (n .flagged) ≡ 0 → ⊥) → canCount inner n ts ≡ false
+    flagged-not k = rw (eq-eqb (length (n .barred)) 0 h, ne-eqb (length (n .flagged)) 0 k)
 
-pub barred-uncounted : (n : Nest) (ts : List ℕ) → (length (n .barred) ≡ 0 → ⊥) → canCount n ts ≡ false
-barred-uncounted n ts h = rw (ne-eqb (length (n .barred)) 0 h)
+    -- the turns decide
+    pub counted-by-turns : length (n .flagged) ≡ 0 → canCount inner n ts ≡ fitIn OUTER inner (n .points) ts
+    counted-by-turns k = rw (eq-eqb (length (n .barred)) 0 h, eq-eqb (length (n .flagged)) 0 k)

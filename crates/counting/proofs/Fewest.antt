@@ -2,18 +2,17 @@
 -- fewer calls than a key (`fewest-of-keys`).
 -- Main statements: `no-fewer`, `calls-alike`.
 use mathlib.Core.Path.{_≡_, sym, _∙_}
-use mathlib.Core.Bool.{Bool, true, false, not}
+use mathlib.Core.Bool.{Bool, true, not}
 use mathlib.Core.List.{List, []}
-use Prim.Native.Nat.{ℕ, _≤_}
+use Prim.Native.Nat.{ℕ}
 use native.Mathlib.Omega.{arith}
 use lib.Dec.{eqb}
 use borrow.Author.Tests.{eq-eqb}
 use Rattle.laws.specs.Choice.{pick, when}
 use Rattle.laws.proofs.Choices.{first-zero, unless-zero}
 use Rattle.nests.specs.Nests.{Nest}
-use Rattle.calls.specs.Calls.{callsOf}
+use Rattle.calls.specs.Calls.{INNER, callsOf}
 use Rattle.calls.proofs.FewestCalls.{fewest-of-keys}
-use Rattle.desk.specs.declared.Desk as DD
 use Rattle.desk.specs.Desks.{Desk, desk, deskIn, stateFault}
 use Rattle.desk.proofs.Ready.{ready, ready-has}
 use Rattle.desk.proofs.TwoDesks.{made-first, two-desks}
@@ -24,17 +23,17 @@ use Rattle.counting.specs.Fewest.{NoFewer, CallsAlike}
 
 -- the calls where nothing is refused, else 0
 abbrev callsValue : List ℕ → Desk → ℕ
-callsValue ts x = pick (eqb (callsFault x ts) 0) (callsOf (x .nest-is) ts (x .key)) 0
+callsValue ts x = pick (eqb (callsFault INNER x ts) 0) (callsOf (x .nest-is) ts (x .key)) 0
 
 pub no-fewer : NoFewer
 no-fewer d ts gs r m h z c =
-    let none : callsFault (deskIn d) ts ≡ 0 = sym (h .number-is) ∙ z in
+    let none : callsFault INNER (deskIn d) ts ≡ 0 = sym (h .number-is) ∙ z in
     let n = deskIn d .nest-is in
-    let parts = first-zero (stateFault true (deskIn d)) (when (not (canCount n ts)) 17) none in
-    let fit = countable n ts (unless-zero (canCount n ts) 16 (parts .1)) in
+    let parts = first-zero (stateFault true (deskIn d)) (when (not (canCount INNER n ts)) 17) none in
+    let fit = countable INNER n ts (unless-zero (canCount INNER n ts) 16 (parts .1)) in
     let key = made-first d m (ready-has d (parts .0) .1) .is-key in
     let calls : r .calls ≡ callsOf n ts (deskIn d .key) =
-    rw (eq-eqb (callsFault (deskIn d) ts) 0 none) at (h .calls-are) in
+    rw (eq-eqb (callsFault INNER (deskIn d) ts) 0 none) at (h .calls-are) in
     omega (arith, fewest-of-keys n ts (deskIn d .key) gs (ready d m (parts .0) .valid) (fit .none-barred) (fit .fits) key c)
 
 abbrev reply : ℕ → ℕ → ℕ → CC.Calls
@@ -46,7 +45,7 @@ same-reply n l c n′ l′ c′ p q r = cc
 pub calls-alike : CallsAlike
 calls-alike d e ts a b m n loaded nest planned h k =
     same-reply (a .number) (a .line) (a .calls) (b .number) (b .line) (b .calls)
-    (h .number-is ∙ alike (λ l x q g. callsFault (desk l x q g [] []) ts) ∙ sym (k .number-is))
+    (h .number-is ∙ alike (λ l x q g. callsFault INNER (desk l x q g [] []) ts) ∙ sym (k .number-is))
     (h .line-is ∙ sym (k .line-is))
     (h .calls-are ∙ alike (λ l x q g. callsValue ts (desk l x q g [] [])) ∙ sym (k .calls-are))
   where

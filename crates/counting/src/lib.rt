@@ -29,7 +29,7 @@ pub fn count_calls(desk: Desk, turns: &[u8]) -> Calls
         return refused(number);
     }
     let nest = desk.nest;
-    if can_count(nest, turns) {
+    if can_count(nest, turns, INNER) {
         let count = nest.count;
         let points = nest.points;
         let key = desk.key;
@@ -42,19 +42,20 @@ pub fn count_calls(desk: Desk, turns: &[u8]) -> Calls
     refused(17)
 }
 
-// Nothing is barred or flagged, and the turns fit the nest's loops.
-fn can_count(nest: Nest, turns: &[u8]) -> bool
+// Nothing is barred, every loop runs, and the turns fit the nest's loops, those of the loops inside from `inner`.
+pub fn can_count(nest: Nest, turns: &[u8], inner: u8) -> bool
     requires { ⌜ IsCounted nest ⌝ }
-    ensures { λ r. ⌜ r ≡ canCount (nestIn nest) (now (turns .entry)) ⌝ }
+    ensures { λ r. ⌜ r ≡ canCount inner (nestIn nest) (now (turns .entry)) ⌝ }
 {
-    if nest.bars == 0 {
-        if nest.flags == 0 {
-            let count = nest.count;
-            let points = nest.points;
-            return turns_fit(&points[..count], turns, OUTER, INNER);
-        }
+    if nest.bars != 0 {
+        return false;
     }
-    false
+    if nest.flags != 0 {
+        return false;
+    }
+    let count = nest.count;
+    let points = nest.points;
+    turns_fit(&points[..count], turns, OUTER, inner)
 }
 
 fn refused(number: u8) -> Calls

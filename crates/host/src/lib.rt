@@ -4,6 +4,7 @@ ghost use Rattle.counting.specs.Says.{CallsSays};
 ghost use Rattle.desk.specs.Desks.{IsMade, IsMadePlain};
 ghost use Rattle.desk.specs.Says.{EmptySays, LoadSays, PlanSays, CountSays, WriteSays, ListSays, OverSays};
 ghost use Rattle.desk.specs.Says.{markIn, verdictIn};
+ghost use Rattle.improving.specs.Says.{ImproveSays};
 ghost use Rattle.joining.specs.Says.{JoinSays};
 ghost use Rattle.screen.specs.Says.{PutSays, LiftSays, BackSays};
 ghost use Rattle.skipping.specs.Says.{MissingSays};
@@ -21,6 +22,7 @@ use desk::Marked;
 use desk::PlainDesk;
 use desk::Reply;
 use desk::Verdict;
+use improving::Improved;
 use joining::Joined;
 use nests::Dependence;
 use screen::Moved;
@@ -205,6 +207,14 @@ pub extern "C" fn desk_count_calls(desk: Desk, turns: &[u8]) -> Calls
     ensures { λ r. ⌜ CallsSays desk (now (turns .entry)) r ⌝ }
 {
     counting::count_calls(desk, turns)
+}
+
+#[no_mangle]
+pub extern "C" fn desk_improve(desk: Desk, turns: &[u8], budget: usize) -> Improved
+    requires { ⌜ IsMade desk ⌝ }
+    ensures { λ r. ⌜ ImproveSays desk (now (turns .entry)) budget r ⌝ }
+{
+    improving::improve(desk, turns, budget)
 }
 
 #[no_mangle]

@@ -26,11 +26,11 @@ use Rattle.placements.specs.Words.{GAPS, holds, gapsIn}
 use Rattle.placements.proofs.Cuts.{CutBy, cut-has-gap, gap-cuts}
 use Rattle.placements.proofs.Words.{gapsOf-in, gapsOf-from, gapsOf-to, in-gaps}
 use Rattle.calls.specs.Calls.{TURNS}
-use Rattle.improving.specs.Timed.{HasTimes, FewTimes}
+use Rattle.turns.specs.Times.{HasTimes}
 use Rattle.improving.specs.Floor.{gapsHad, cheapest, floorFrom, floorOf}
 use Rattle.improving.specs.Tops.{WithEnds}
 use Rattle.improving.specs.Cheapest.{CheapestIn, CheapestSays, GapsPut}
-use Rattle.improving.specs.Steps.{FloorSays}
+use Rattle.improving.specs.Steps.{FewTimes, FloorSays}
 use Rattle.improving.proofs.Lies.{depAt, found-at, found-ends, found-fits}
 use Rattle.improving.proofs.FloorBelow.{in-append, cheapest-is}
 

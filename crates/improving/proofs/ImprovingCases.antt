@@ -7,12 +7,11 @@ use Prim.Native.Nat.{ℕ}
 use Rattle.nests.specs.Nests.{Nest, nest}
 use Rattle.nests.proofs.Cases.{forward}
 use Rattle.placements.specs.Words.{gapsOf}
-use Rattle.calls.specs.Calls.{dosBefore, timesFrom, callsIn, callsOf}
+use Rattle.calls.specs.Calls.{OUTER, dosBefore, timesFrom, fitIn, callsIn, callsOf}
 use Rattle.calls.proofs.CallCases.{paper-once}
 use Rattle.improving.specs.Tries.{takenAway, tryAt}
 use Rattle.improving.specs.Rounds.{Outcome, outcome, go, improvedOf}
 use Rattle.improving.specs.Floor.{cheapest, floorFrom, floorOf}
-use Rattle.improving.specs.Says.{onceFit}
 
 -- both loops run once
 abbrev once : List ℕ
@@ -24,7 +23,7 @@ after b = improvedOf paper-once once (2 ∷ 7 ∷ []) b
 
 -- the third try has fewer calls, the next round none
 pub record Worked : Type 0 where
-  pub fits : onceFit paper-once once ≡ true
+  pub fits : fitIn OUTER OUTER (paper-once .points) once ≡ true
   pub first : tryAt paper-once (2 ∷ 7 ∷ []) 1 ≡ 1 ∷ 2 ∷ 7 ∷ []
   pub third : tryAt paper-once (2 ∷ 7 ∷ []) 4 ≡ 4 ∷ []
   pub ten : after 10 ≡ outcome (4 ∷ []) 10 true

@@ -1,14 +1,11 @@
--- Fewer calls where loops run once: what a try leaves, what rounds of tries lead to, the floor, worked cases; then the
--- tables that the code keeps, a try by chains, the floor by words.
+-- Fewer calls where loops run once: what a try leaves, what rounds of tries lead to, the floor, worked cases; a try by
+-- chains, the floor by words, the rounds as the code makes them; the call.
 pub mod Lies
 pub mod TopLaws
 pub mod Trimmed
 pub mod Budgets
 pub mod FloorBelow
 pub mod ImprovingCases
-pub mod TurnTests
-pub mod TimesTable
-pub mod CallsTable
 pub mod PlaceSearch
 pub mod Chains
 pub mod Trying
@@ -16,3 +13,5 @@ pub mod TryTurns
 pub mod GapRanges
 pub mod RoundTurns
 pub mod FloorWalk
+pub mod Answers
+pub mod Results

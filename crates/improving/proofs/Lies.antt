@@ -2,23 +2,23 @@
 -- Main statements: `ring-gaps`, `of-ring`, `found-at`, `found-among`, `found-fits`, `found-ends`, `found-lies`.
 use mathlib.Core.Path.{_≡_, sym, _∙_}
 use mathlib.Core.Bool.{true, _||_}
-use mathlib.Core.List.{List, [], _∷_}
+use mathlib.Core.List.{List, _∷_}
 use mathlib.Core.Logic.{_⊎_, inl, inr, ⊎-elim}
-use Prim.Native.Nat.{ℕ, zero, suc, _≤_, _<_}
+use Prim.Native.Nat.{ℕ, suc, _≤_, _<_}
 use native.Mathlib.Omega.{arith}
 use lib.ListN.{getD, drop}
 use borrow.Author.Tests.{ne-eqb}
 use Rattle.laws.specs.Choice.{between}
 use Rattle.laws.specs.Members.{Among}
+use Rattle.laws.proofs.Members.{among-drop}
 use Rattle.laws.proofs.Tests.{or-true}
 use Rattle.laws.proofs.Ranges.{in-between}
 use Rattle.nests.specs.declared.Dependence as DE
 use Rattle.nests.specs.declared.Nest as DN
-use Rattle.nests.specs.Kinds.{INDEPENDENT, CARRIED}
-use Rattle.nests.specs.Loops.{endOf}
+use Rattle.nests.specs.Kinds.{INDEPENDENT}
 use Rattle.nests.specs.Gaps.{hasGap}
 use Rattle.nests.specs.Stored.{depIn, nestIn}
-use Rattle.nests.proofs.Deps.{Fits, deps-fit, valid-is}
+use Rattle.nests.proofs.Deps.{Back, Fits, deps-fit, is-line, is-back, valid-is}
 use Rattle.nests.proofs.Loops.{end-there}
 use Rattle.nests.proofs.Stored.{depsIn-at, counted-many}
 use Rattle.improving.specs.Tops.{WithEnds, LiesTo, EndsIn}
@@ -35,13 +35,6 @@ module _ (ps : List ℕ) (e : DE.Dependence) (end : ℕ) (ends : EndsIn ps e end
       (λ (z : between (suc (e .s)) g end ≡ true). inr (in-between (suc (e .s)) g end z))
       (or-true (between (suc (e .d)) g (e .t)) (between (suc (e .s)) g end) (sym (ring-gaps g) ∙ h))
 
--- what stands in front of a rest is one of the list
-among-at : {A : Type 0} (xs : List A) (i : ℕ) (x : A) (rest : List A) → drop i xs ≡ x ∷ rest → Among x xs
-among-at [] zero x rest q = let z : _≡_ {A = ℕ} 0 1 = cc q in absurd (omega arith)
-among-at [] (suc i) x rest q = let z : _≡_ {A = ℕ} 0 1 = cc q in absurd (omega arith)
-among-at (y ∷ ys) zero x rest q = inl (cc q)
-among-at (y ∷ ys) (suc i) x rest q = inr (among-at ys i x rest q)
-
 -- dependence i as the code reads it
 abbrev pub depAt : DN.Nest → ℕ → DE.Dependence
 depAt n i = getD (n .deps) i (record { kind = 0; d = 0; s = 0; t = 0 })
@@ -55,7 +48,7 @@ module _ {nest : DN.Nest} {ends : List ℕ} (w : WithEnds nest ends) {i : ℕ} (
 
   pub found-among : Among (depIn (depAt nest i)) (nestIn nest .deps)
   found-among =
-      among-at (nestIn nest .deps) i (depIn (depAt nest i)) (drop (suc i) (nestIn nest .deps)) found-at
+      among-drop (depIn (depAt nest i)) (nestIn nest .deps) (drop (suc i) (nestIn nest .deps)) i found-at
 
   pub found-fits : Fits (nestIn nest .points) (depIn (depAt nest i))
   found-fits =
@@ -63,41 +56,27 @@ module _ {nest : DN.Nest} {ends : List ℕ} (w : WithEnds nest ends) {i : ℕ} (
       (depIn (depAt nest i))
       found-among
 
+  -- a carried one
+  back : (depAt nest i .kind ≡ INDEPENDENT → ⊥) → Back (nestIn nest .points) (depIn (depAt nest i))
+  back = is-back (nestIn nest .points) (depIn (depAt nest i)) found-fits
+
   pub found-ends : EndsIn (nestIn nest .points) (depAt nest i) (getD ends (depAt nest i .d) 0)
-  found-ends k = go found-fits
-    where
-      go
-          : Fits (nestIn nest .points) (depIn (depAt nest i))
-          → getD ends (depAt nest i .d) 0 ≡ endOf (nestIn nest .points) (depAt nest i .d)
-      go (inl l) = absurd (k (l .kind-is))
-      go (inr b) = w .ends-are (depAt nest i .d) (b .loop)
+  found-ends k = w .ends-are (depAt nest i .d) (back k .loop)
 
   pub found-lies : LiesTo (depAt nest i) (getD ends (depAt nest i .d) 0)
-  found-lies = go found-fits
-    where
-      go : Fits (nestIn nest .points) (depIn (depAt nest i)) → LiesTo (depAt nest i) (getD ends (depAt nest i .d) 0)
-      go (inl l) =
-          record {
-            forward = λ k. l .forward;
-            target-after = λ k. absurd (k (l .kind-is));
-            target-before = λ k. absurd (k (l .kind-is));
-            source-before = λ k. absurd (k (l .kind-is));
-            inside = λ k. absurd (k (l .kind-is));
-          }
-      go (inr b) =
-          let v = valid-is (nestIn nest) (w .valid) in
-          let end : getD ends (depAt nest i .d) 0 ≡ endOf (nestIn nest .points) (depAt nest i .d) =
-          w .ends-are (depAt nest i .d) (b .loop) in
-          record {
-            forward = λ k. (let z : _≡_ {A = ℕ} CARRIED INDEPENDENT = sym (b .kind-is) ∙ k in absurd (omega arith));
-            target-after = λ k. b .target-after;
-            target-before = λ k. omega (arith, b .target-before);
-            source-before = λ k. omega (arith, b .source-before);
-            inside =
-                λ k.
-                omega (
-                  arith,
-                  end-there (nestIn nest .points) (v .shape) (depAt nest i .d) (b .loop),
-                  v .few-points,
-                );
-          }
+  found-lies =
+      let v = valid-is (nestIn nest) (w .valid) in
+      record {
+        forward = λ k. is-line (nestIn nest .points) (depIn (depAt nest i)) found-fits k .forward;
+        target-after = λ k. back k .target-after;
+        target-before = λ k. omega (arith, found-ends k, back k .target-before);
+        source-before = λ k. omega (arith, found-ends k, back k .source-before);
+        inside =
+            λ k.
+            omega (
+              arith,
+              found-ends k,
+              end-there (nestIn nest .points) (v .shape) (depAt nest i .d) (back k .loop),
+              v .few-points,
+            );
+      }

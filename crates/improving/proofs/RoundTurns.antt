@@ -1,19 +1,20 @@
 -- The rounds as the code makes them: what is left to try gives what the rule gives.
--- Main statements: `with-ends`, `some-points`, `turns-given`, `few-times`, `calls-fit`; `Searching`, what a turn keeps;
+-- Main statements: `with-ends`, `some-points`, `turns-asked`, `few-times`, `calls-fit`; `Searching`, what a turn keeps;
 -- `search-start`, `search-asks`, `try-sound`, `search-taken`, `search-kept`, `search-budget`, `search-round`.
 use mathlib.Core.Path.{_≡_, refl, sym, ap, _∙_}
 use mathlib.Core.Bool.{Bool, true, false, not}
 use mathlib.Core.List.{List, [], _∷_}
 use Prim.Native.Nat.{ℕ, zero, suc, _+_, _-_, _≤_, _<_}
 use native.Mathlib.Omega.{arith}
-use lib.Dec.{eqb, ltb}
+use lib.Dec.{ltb}
 use lib.ListN.{length}
-use borrow.Author.Tests.{eqb-true, lt-ltb, le-ltb}
+use borrow.Author.Tests.{lt-ltb, le-ltb}
 use Rattle.laws.specs.Choice.{pick, isIn}
-use Rattle.laws.proofs.Tests.{and-true}
 use Rattle.nests.specs.declared.Nest as DN
 use Rattle.nests.specs.Nests.{Nest}
+use Rattle.nests.specs.Kinds.{POINTS}
 use Rattle.nests.specs.Loops.{HasEnds}
+use Rattle.nests.specs.Valid.{isShape}
 use Rattle.nests.specs.Stored.{nestIn}
 use Rattle.nests.proofs.Deps.{valid-is}
 use Rattle.nests.proofs.Loops.{outermost}
@@ -22,29 +23,26 @@ use Rattle.placements.specs.Placements.{uncut, areGaps}
 use Rattle.placements.specs.Words.{GAPS, holds, gapsOf, gapsIn}
 use Rattle.placements.proofs.Cuts.{AllCut, uncut-none, none-uncut}
 use Rattle.placements.proofs.Words.{gapsOf-add, gapsOf-none, in-gaps}
-use Rattle.calls.specs.Calls.{OUTER, dosBefore, areTurns, callsOf}
-use Rattle.calls.proofs.Turns.{each-turn}
-use Rattle.calls.proofs.Sizes.{times-most, calls-within}
-use Rattle.improving.specs.declared.Ended as DE
-use Rattle.improving.specs.declared.Ended.the-variants as Ended
-use Rattle.improving.specs.declared.Reached as DR
+use Rattle.calls.specs.Calls.{OUTER, fitIn, callsOf}
+use Rattle.calls.proofs.Turns.{fit-lower, turns-most}
+use Rattle.calls.proofs.Sizes.{FewTurns, times-most, calls-within}
+use Rattle.turns.specs.Times.{HasTimes, sumIn}
+use Rattle.turns.proofs.Summing.{calls-told}
+use Rattle.improving.specs.declared.Improved as DI
 use Rattle.improving.specs.declared.Current as DU
 use Rattle.improving.specs.declared.Try as DT
-use Rattle.improving.specs.Timed.{TurnsGiven, HasTimes, FewTimes, sumIn, CallsFit}
 use Rattle.improving.specs.Places.{FreeFrom}
 use Rattle.improving.specs.Tops.{WithEnds, Chained}
 use Rattle.improving.specs.Tries.{freeOf, tryAt}
-use Rattle.improving.specs.Rounds.{Outcome, outcome, go, improvedOf}
-use Rattle.improving.specs.Says.{isWhole, ImproveAsks, ImproveSays}
-use Rattle.improving.specs.Steps.{ReachedSays}
-use Rattle.improving.specs.Steps.{CurrentSays, TryAsks, TrySays, FloorSays}
-use Rattle.improving.proofs.TimesTable.{entry, given-most}
-use Rattle.improving.proofs.CallsTable.{calls-told}
+use Rattle.improving.specs.Rounds.{outcome, go, improvedOf}
+use Rattle.improving.specs.Says.{ROUND, BUDGET, replyIn, foundOf}
+use Rattle.improving.specs.Steps.{SearchAsks, SearchSays, reached, CurrentSays, TryAsks, TrySays, CallsFit}
+use Rattle.improving.specs.Steps.{FewTimes, FloorSays}
 use Rattle.improving.proofs.Trimmed.{try-gaps, try-trimmed}
 
 -- ---- what is asked, for the tables
 
-module _ {nest : DN.Nest} {key : DP.Placement} {ts : List ℕ} (a : ImproveAsks nest key ts) where
+module _ {nest : DN.Nest} {key : DP.Placement} {ts : List ℕ} (a : SearchAsks nest key ts) where
   abbrev n : Nest
   n = nestIn nest
 
@@ -55,17 +53,13 @@ module _ {nest : DN.Nest} {key : DP.Placement} {ts : List ℕ} (a : ImproveAsks 
   pub some-points : 1 ≤ nest .count
   some-points = omega (arith, a .counted .count-is, outermost (n .points) (valid-is n (a .valid) .shape))
 
-  pub turns-given : TurnsGiven (n .points) ts
-  turns-given =
+  pub turns-asked : ((isShape (n .points) ≡ true) × (length (n .points) ≤ POINTS)) × (fitIn 0 0 (n .points) ts ≡ true)
+  turns-asked =
       let v = valid-is n (a .valid) in
-      let many = dosBefore (n .points) (length (n .points)) in
-      let z = and-true (eqb (length ts) many) (areTurns OUTER OUTER ts) (a .turns-fit) in
-      record {
-        shape = v .shape;
-        few = v .few-points;
-        as-many = eqb-true (length ts) many (z .0);
-        most = λ i l. omega (arith, entry ts i 0 1 l, each-turn OUTER ts (z .1) i l .1);
-      }
+      ((v .shape, v .few-points), fit-lower OUTER OUTER (n .points) ts (a .turns-fit))
+
+  few-turns : FewTurns (n .points) ts
+  few-turns = turns-most OUTER OUTER (n .points) ts (a .turns-fit)
 
   module _ (table : List ℕ) (has : HasTimes (n .points) ts table) where
     pub few-times : FewTimes (nest .count) table
@@ -74,7 +68,7 @@ module _ {nest : DN.Nest} {key : DP.Placement} {ts : List ℕ} (a : ImproveAsks 
         omega (
           arith,
           has g i,
-          times-most (n .points) (valid-is n (a .valid) .shape) ts (given-most turns-given) g i,
+          times-most (n .points) (valid-is n (a .valid) .shape) ts few-turns g i,
         )
 
     pub calls-fit : CallsFit (nest .count) table
@@ -82,8 +76,8 @@ module _ {nest : DN.Nest} {key : DP.Placement} {ts : List ℕ} (a : ImproveAsks 
         let r : areGaps n gs ≡ true = rw (a .counted .count-is) at h in
         omega (
           arith,
-          calls-told n ts table has gs r,
-          calls-within n (a .valid) ts (given-most turns-given) gs r,
+          calls-told (n .points) ts table has gs r,
+          calls-within n (a .valid) ts few-turns gs r,
         )
 
 -- ---- gaps still to be tried
@@ -164,7 +158,7 @@ pub record Searching
       ≡ improvedOf (nestIn nest) ts key budget
 
 module _
-    {nest : DN.Nest} {key : DP.Placement} {ts : List ℕ} (a : ImproveAsks nest key ts) (table : List ℕ)
+    {nest : DN.Nest} {key : DP.Placement} {ts : List ℕ} (a : SearchAsks nest key ts) (table : List ℕ)
     (has : HasTimes (nestIn nest .points) ts table) (budget : ℕ)
   where
     count-is : nest .count ≡ length (nestIn nest .points)
@@ -209,7 +203,7 @@ module _
     search-start current calls g sum says f =
         let z : budget - 0 ≡ budget = omega arith in
         begun current key calls 0 g (a .gaps-fit) (a .all-cut)
-        (sum ∙ calls-told (nestIn nest) ts table has (gapsIn (key .words)) (a .gaps-fit))
+        (sum ∙ calls-told (nestIn nest .points) ts table has (gapsIn (key .words)) (a .gaps-fit))
         says
         (omega arith)
         (rw z)
@@ -223,22 +217,16 @@ module _
 
         -- what is reached
         ended
-            : (w : Bool) (e : DE.Ended) (floor : ℕ) (r : DR.Reached)
+            : (w : Bool) (floor : ℕ) (r : DI.Improved)
             → FloorSays (nestIn nest) table floor
-            → ReachedSays current tries e floor r
-            → isWhole e ≡ w
+            → replyIn r ≡ reached current tries (pick w ROUND BUDGET) floor
             → outcome x tries w ≡ improvedOf (nestIn nest) ts (gapsIn (key .words)) budget
-            → ImproveSays (nestIn nest) ts (gapsIn (key .words)) budget r
-        ended w e floor r low is why all =
-            let gaps : x ≡ improvedOf (nestIn nest) ts (gapsIn (key .words)) budget .gaps =
-            ap (λ (o : Outcome). o .gaps) all in
-            record {
-              gaps-are = ap (λ (q : DP.Placement). gapsIn (q .words)) (is .placement-is) ∙ gaps;
-              calls-are = is .calls-are ∙ s .calls-are ∙ ap (callsOf (nestIn nest) ts) gaps;
-              tries-are = is .tries-are ∙ ap (λ (o : Outcome). o .tries) all;
-              ended-is = ap isWhole (is .ended-is) ∙ why ∙ ap (λ (o : Outcome). o .whole) all;
-              floor-is = is .floor-is ∙ low ts has;
-            }
+            → SearchSays (nestIn nest) ts (gapsIn (key .words)) budget r
+        ended w floor r low is all =
+            let found
+            : reached current tries (pick w ROUND BUDGET) floor ≡ foundOf (nestIn nest) ts (outcome x tries w) =
+            cc (s .calls-are, low ts has) in
+            is ∙ found ∙ ap (foundOf (nestIn nest) ts) all
 
         -- ---- a try
 
@@ -279,7 +267,7 @@ module _
             try-sound = (rw (says .gaps-are) tried-gaps, rw (says .gaps-are) tried-cut)
 
             tried-calls : t .calls ≡ callsOf (nestIn nest) ts (tryAt (nestIn nest) x g)
-            tried-calls = says .calls-are ∙ calls-told (nestIn nest) ts table has (tryAt (nestIn nest) x g) tried-gaps
+            tried-calls = says .calls-are ∙ calls-told (nestIn nest .points) ts table has (tryAt (nestIn nest) x g) tried-gaps
 
             -- what is left after this try
             left
@@ -343,26 +331,26 @@ module _
 
           -- the budget is used
           pub search-budget
-              : (floor : ℕ) (r : DR.Reached)
+              : (floor : ℕ) (r : DI.Improved)
               → tries ≡ budget
               → FloorSays (nestIn nest) table floor
-              → ReachedSays current tries Ended.Budget floor r
-              → ImproveSays (nestIn nest) ts (gapsIn (key .words)) budget r
+              → replyIn r ≡ reached current tries BUDGET floor
+              → SearchSays (nestIn nest) ts (gapsIn (key .words)) budget r
           unfolding go
           search-budget floor r used low is =
               let z : budget - tries ≡ 0 = omega arith in
               let f = free-front (nestIn nest) (current .placement .words) short g inside (s .free more) in
-              ended false Ended.Budget floor r low is refl (rw (z, f) at (s .rest))
+              ended false floor r low is (rw (z, f) at (s .rest))
 
         -- a whole round has changed nothing
         pub search-round
-            : (floor : ℕ) (r : DR.Reached)
+            : (floor : ℕ) (r : DI.Improved)
             → nest .count ≤ g
             → FloorSays (nestIn nest) table floor
-            → ReachedSays current tries Ended.Round floor r
-            → ImproveSays (nestIn nest) ts (gapsIn (key .words)) budget r
+            → replyIn r ≡ reached current tries ROUND floor
+            → SearchSays (nestIn nest) ts (gapsIn (key .words)) budget r
         search-round floor r none low is =
             let f : freeFrom (nestIn nest) x g ≡ [] =
             free-none (nestIn nest) (current .placement .words) short g (omega (arith, count-is)) in
-            ended true Ended.Round floor r low is refl
+            ended true floor r low is
             (sym (go-none (nestIn nest) ts (budget - tries) x tries) ∙ (rw f at (s .rest)))

@@ -21,13 +21,13 @@ use Rattle.placements.specs.GapLists.{withGap}
 use Rattle.placements.proofs.Cuts.{AllCut, uncut-none}
 use Rattle.placements.proofs.Words.{in-gaps, gaps-none}
 use Rattle.sitting.proofs.Words.{gaps-with}
+use Rattle.turns.specs.Times.{sumIn}
+use Rattle.turns.proofs.Summing.{calls-with}
 use Rattle.improving.specs.declared.Current as DU
 use Rattle.improving.specs.declared.Try as DT
-use Rattle.improving.specs.Timed.{sumIn}
 use Rattle.improving.specs.Tries.{tryAt}
 use Rattle.improving.specs.Tops.{topAt, WithEnds, NextOf}
 use Rattle.improving.specs.Steps.{TryAsks, TrySays}
-use Rattle.improving.proofs.CallsTable.{calls-with}
 use Rattle.improving.proofs.Lies.{depAt, found-at, found-ends}
 use Rattle.improving.proofs.Trying.{Trying, trying-start, trying-cut, kept-new, kept-gaps, trying-kept}
 use Rattle.improving.proofs.Trying.{trying-next, trying-done}

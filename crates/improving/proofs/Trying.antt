@@ -20,10 +20,10 @@ use Rattle.placements.specs.GapLists.{withGap}
 use Rattle.placements.proofs.Cuts.{CutBy, cut-has-gap, gap-cuts, AllCut}
 use Rattle.placements.proofs.Rising.{rising-in}
 use Rattle.placements.proofs.GapLists.{in-with, rising-with}
-use Rattle.improving.specs.Timed.{sumIn}
+use Rattle.turns.specs.Times.{sumIn}
+use Rattle.turns.proofs.Summing.{calls-with}
 use Rattle.improving.specs.Tries.{tryAt}
 use Rattle.improving.specs.Tops.{topAt, NextOf}
-use Rattle.improving.proofs.CallsTable.{calls-with}
 use Rattle.improving.proofs.TopLaws.{Top, top-there, top-at}
 use Rattle.improving.proofs.Trimmed.{Needed, one-trimmed, try-gaps, try-trimmed}
 

@@ -1,50 +1,77 @@
--- What the search from the key asks and promises (job 13).
--- Main definitions: `fitFrom`, `onceFit`, `isWhole`, `ImproveAsks`, `ImproveSays`.
+-- What the call promises that tries for fewer calls (job 13): where the tries lead, what ended them, and the floor. It
+-- does not change the desk.
+-- Main definitions: `Reply`, `replyIn`, `foundOf`, `replyOf`, `ImproveSays`.
 use mathlib.Core.Path.{_≡_}
-use mathlib.Core.Bool.{Bool, true, false, _&&_}
-use mathlib.Core.List.{List}
+use mathlib.Core.List.{List, []}
 use Prim.Native.Nat.{ℕ}
 use lib.Dec.{eqb}
-use lib.ListN.{length}
-use Rattle.nests.specs.declared.Nest as DN
+use Rattle.laws.specs.Choice.{pick}
 use Rattle.nests.specs.Nests.{Nest}
-use Rattle.nests.specs.Valid.{isValid}
-use Rattle.nests.specs.Stored.{nestIn, IsCounted}
-use Rattle.placements.specs.declared.Placement as DP
-use Rattle.placements.specs.Placements.{uncut, areGaps}
 use Rattle.placements.specs.Words.{gapsIn}
-use Rattle.calls.specs.Calls.{OUTER, dosBefore, areTurns, callsOf}
-use Rattle.improving.specs.declared.Ended as DE
-use Rattle.improving.specs.declared.Ended.the-variants as Ended
-use Rattle.improving.specs.declared.Reached as DR
-use Rattle.improving.specs.Rounds.{improvedOf}
+use Rattle.calls.specs.Calls.{OUTER, callsOf}
+use Rattle.desk.specs.declared.Desk as DD
+use Rattle.desk.specs.Desks.{Desk, deskIn}
+use Rattle.counting.specs.Says.{callsFault}
+use Rattle.improving.specs.declared.Improved as DI
+use Rattle.improving.specs.Rounds.{Outcome, improvedOf}
 use Rattle.improving.specs.Floor.{floorOf}
 
--- as many turns as there are loops, at most 16, the first from 1 and the others from `inner`
-abbrev pub fitFrom : ℕ → List ℕ → List ℕ → Bool
-fitFrom inner ps ts = eqb (length ts) (dosBefore ps (length ps)) && areTurns OUTER inner ts
+-- the numbers that a reply gives, and its gaps
+pub record Reply : Type 0 where
+  pub number : ℕ
+  pub line : ℕ
+  pub gaps : List ℕ
+  pub calls : ℕ
+  pub tries : ℕ
+  pub ended : ℕ
+  pub floor : ℕ
 
--- turns from 1 to 16
-abbrev pub onceFit : Nest → List ℕ → Bool
-onceFit n ts = fitFrom OUTER (n .points) ts
+abbrev pub replyIn : DI.Improved → Reply
+replyIn r =
+    record {
+      number = r .number;
+      line = r .line;
+      gaps = gapsIn (r .placement .words);
+      calls = r .calls;
+      tries = r .tries;
+      ended = r .ended;
+      floor = r .floor;
+    }
 
--- a whole round ended it
-abbrev pub isWhole : DE.Ended → Bool
-isWhole Ended.Round = true
-isWhole Ended.Budget = false
+-- what ended the tries
+abbrev pub ROUND : ℕ
+ROUND = 0
 
--- a nest within the limits, a placement that cuts every dependence, and turns from 1 to 16 for every loop
-pub record ImproveAsks (nest : DN.Nest) (key : DP.Placement) (ts : List ℕ) : Type 0 where
-  pub counted : IsCounted nest
-  pub valid : isValid (nestIn nest) ≡ true
-  pub gaps-fit : areGaps (nestIn nest) (gapsIn (key .words)) ≡ true
-  pub all-cut : uncut (nestIn nest) (gapsIn (key .words)) ≡ 0
-  pub turns-fit : onceFit (nestIn nest) ts ≡ true
+abbrev pub BUDGET : ℕ
+BUDGET = 1
 
--- what the rounds lead to, and the floor
-pub record ImproveSays (n : Nest) (ts key : List ℕ) (budget : ℕ) (r : DR.Reached) : Type 0 where
-  pub gaps-are : gapsIn (r .placement .words) ≡ improvedOf n ts key budget .gaps
-  pub calls-are : r .calls ≡ callsOf n ts (improvedOf n ts key budget .gaps)
-  pub tries-are : r .tries ≡ improvedOf n ts key budget .tries
-  pub ended-is : isWhole (r .ended) ≡ improvedOf n ts key budget .whole
-  pub floor-is : r .floor ≡ floorOf n ts
+-- a reply that refuses
+abbrev pub refusal : ℕ → Reply
+refusal k = record { number = k; line = 0; gaps = []; calls = 0; tries = 0; ended = 0; floor = 0 }
+
+-- the reply with what the tries lead to
+abbrev pub foundOf : Nest → List ℕ → Outcome → Reply
+foundOf n ts o =
+    record {
+      number = 0;
+      line = 0;
+      gaps = o .gaps;
+      calls = callsOf n ts (o .gaps);
+      tries = o .tries;
+      ended = pick (o .whole) ROUND BUDGET;
+      floor = floorOf n ts;
+    }
+
+-- 10, 11, then 17 with turns from 1
+abbrev pub improveFault : Desk → List ℕ → ℕ
+improveFault x ts = callsFault OUTER x ts
+
+abbrev pub replyOf : Desk → List ℕ → ℕ → Reply
+replyOf x ts budget =
+    pick
+    (eqb (improveFault x ts) 0)
+    (foundOf (x .nest-is) ts (improvedOf (x .nest-is) ts (x .key) budget))
+    (refusal (improveFault x ts))
+
+abbrev pub ImproveSays : DD.Desk → List ℕ → ℕ → DI.Improved → Type 0
+ImproveSays d ts budget r = replyIn r ≡ replyOf (deskIn d) ts budget

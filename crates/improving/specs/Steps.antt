@@ -1,37 +1,64 @@
--- What the functions behind the search promise: a placement with its chains, a try, the floor.
--- Main definitions: `ReachedSays`, `CurrentSays`, `TryAsks`, `TrySays`, `FloorSays`.
+-- What the functions behind the call ask and promise: the search, a placement with its chains, a try, the floor.
+-- Main definitions: `SearchAsks`, `SearchSays`, `reached`, `CurrentSays`, `TryAsks`, `TrySays`, `FewTimes`,
+-- `FloorSays`.
 use mathlib.Core.Path.{_≡_}
 use mathlib.Core.Bool.{true, false}
 use mathlib.Core.List.{List}
-use Prim.Native.Nat.{ℕ, _<_}
+use Prim.Native.Nat.{ℕ, _^_, _≤_, _<_}
+use Rattle.laws.specs.Entries.{at}
 use Rattle.nests.specs.declared.Nest as DN
+use Rattle.nests.specs.Kinds.{DEPTH}
 use Rattle.nests.specs.Nests.{Nest}
-use Rattle.nests.specs.Stored.{nestIn}
+use Rattle.nests.specs.Valid.{isValid}
+use Rattle.nests.specs.Stored.{nestIn, IsCounted}
 use Rattle.placements.specs.declared.Placement as DP
-use Rattle.placements.specs.Placements.{uncut, areGaps}
+use Rattle.placements.specs.Placements.{uncut, areGapsFrom, areGaps}
 use Rattle.placements.specs.Words.{holds, gapsIn}
-use Rattle.improving.specs.declared.Ended as DE
-use Rattle.improving.specs.declared.Reached as DR
+use Rattle.calls.specs.Calls.{TURNS, OUTER, fitIn}
+use Rattle.turns.specs.Times.{HasTimes, sumIn}
+use Rattle.improving.specs.declared.Improved as DI
 use Rattle.improving.specs.declared.Current as DC
 use Rattle.improving.specs.declared.Try as DT
-use Rattle.improving.specs.Timed.{HasTimes, sumIn, CallsFit}
 use Rattle.improving.specs.Tries.{tryAt}
+use Rattle.improving.specs.Rounds.{improvedOf}
 use Rattle.improving.specs.Floor.{floorOf}
 use Rattle.improving.specs.Tops.{Chained}
+use Rattle.improving.specs.Says.{Reply, replyIn, foundOf}
 
--- the current placement and its calls, with the other answers
-pub record ReachedSays (current : DC.Current) (tries : ℕ) (ended : DE.Ended) (floor : ℕ) (r : DR.Reached) : Type 0 where
-  pub placement-is : r .placement ≡ current .placement
-  pub calls-are : r .calls ≡ current .calls
-  pub tries-are : r .tries ≡ tries
-  pub ended-is : r .ended ≡ ended
-  pub floor-is : r .floor ≡ floor
+-- a nest within the limits, a placement that cuts every dependence, and turns from 1 to 16 for every loop
+pub record SearchAsks (nest : DN.Nest) (key : DP.Placement) (ts : List ℕ) : Type 0 where
+  pub counted : IsCounted nest
+  pub valid : isValid (nestIn nest) ≡ true
+  pub gaps-fit : areGaps (nestIn nest) (gapsIn (key .words)) ≡ true
+  pub all-cut : uncut (nestIn nest) (gapsIn (key .words)) ≡ 0
+  pub turns-fit : fitIn OUTER OUTER (nestIn nest .points) ts ≡ true
+
+-- what the rounds lead to, and the floor
+abbrev pub SearchSays : Nest → List ℕ → List ℕ → ℕ → DI.Improved → Type 0
+SearchSays n ts key budget r = replyIn r ≡ foundOf n ts (improvedOf n ts key budget)
+
+-- the reply with the current placement and its calls, and the other answers
+abbrev pub reached : DC.Current → ℕ → ℕ → ℕ → Reply
+reached current tries ended floor =
+    record {
+      number = 0;
+      line = 0;
+      gaps = gapsIn (current .placement .words);
+      calls = current .calls;
+      tries = tries;
+      ended = ended;
+      floor = floor;
+    }
 
 -- the placement, its calls and its chains
 pub record CurrentSays (n : Nest) (p : DP.Placement) (calls : ℕ) (r : DC.Current) : Type 0 where
   pub placement-is : r .placement ≡ p
   pub calls-are : r .calls ≡ calls
   pub chained : Chained n (gapsIn (r .placement .words)) (r .first) (r .next)
+
+-- the sum at the gaps of any placement of a nest of `count` points fits a word
+abbrev pub CallsFit : ℕ → List ℕ → Type 0
+CallsFit count table = (gs : List ℕ) → areGapsFrom 0 count gs ≡ true → sumIn table gs < 2 ^ 64
 
 -- a placement that cuts every dependence, with its chains, and a gap without a barrier
 pub record TryAsks (nest : DN.Nest) (current : DC.Current) (table : List ℕ) (g : ℕ) : Type 0 where
@@ -47,6 +74,10 @@ pub record TryAsks (nest : DN.Nest) (current : DC.Current) (table : List ℕ) (g
 pub record TrySays (n : Nest) (x table : List ℕ) (g : ℕ) (r : DT.Try) : Type 0 where
   pub gaps-are : gapsIn (r .placement .words) ≡ tryAt n x g
   pub calls-are : r .calls ≡ sumIn table (tryAt n x g)
+
+-- the most that a gap can be passed
+abbrev pub FewTimes : ℕ → List ℕ → Type 0
+FewTimes count table = (g : ℕ) → g < count → at table g ≤ TURNS ^ DEPTH
 
 -- the floor, under any turns of which the table has how often each gap is passed
 abbrev pub FloorSays : Nest → List ℕ → ℕ → Type 0

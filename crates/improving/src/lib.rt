@@ -1,42 +1,47 @@
 // Fewer calls where loops run once: tries from the key within a budget, and a floor under the calls of every correct
 // placement.
-use nests::Dependence;
-use nests::Nest;
-use placements::Cut;
-use placements::Placement;
-use placements::cut_in;
 ghost use mathlib.Core.Path.{_≡_};
-ghost use mathlib.Core.Bool.{true, _||_};
-ghost use Prim.Native.Nat.{ℕ, _^_, _<_, _≤_};
-ghost use lib.ListN.{length};
+ghost use mathlib.Core.Bool.{_||_, true};
+ghost use Prim.Native.Nat.{ℕ, _<_, _≤_};
 ghost use Rattle.laws.specs.Choice.{between};
 ghost use Rattle.nests.specs.Kinds.{POINTS};
 ghost use Rattle.nests.specs.Stored.{nestIn};
 ghost use Rattle.placements.specs.Placements.{uncut, areGaps};
 ghost use Rattle.placements.specs.Words.{GAPS, holds, gapsIn};
-ghost use Rattle.improving.specs.Timed.{TurnsGiven, HasTimes, FewTimes, sumIn};
+ghost use Rattle.desk.specs.Desks.{IsMade};
 ghost use Rattle.improving.specs.Places.{FreeFrom, HasLatest};
 ghost use Rattle.improving.specs.Tops.{WithEnds, LiesTo, HighestSays};
 ghost use Rattle.improving.specs.Cheapest.{LeastIn, CheapestSays, GapsPut};
-ghost use Rattle.calls.specs.Calls.{OUTER, dosBefore, areTurns};
-ghost use Rattle.improving.specs.Says.{fitFrom, ImproveAsks, ImproveSays};
-ghost use Rattle.improving.specs.Steps.{ReachedSays, CurrentSays, TryAsks, TrySays, FloorSays};
-
-// The most turns of a loop.
-const TURNS: u8 = 16;
+ghost use Rattle.improving.specs.Steps.{FewTimes, reached, CurrentSays, TryAsks, TrySays, FloorSays};
+ghost use Rattle.improving.specs.Steps.{SearchAsks, SearchSays};
+ghost use Rattle.improving.specs.Says.{replyIn, refusal, ImproveSays};
+use counting::can_count;
+use desk::Desk;
+use desk::key_fault;
+use nests::Dependence;
+use nests::Nest;
+use placements::Cut;
+use placements::Placement;
+use placements::cut_in;
+use turns::OUTER;
+use turns::sum_at;
+use turns::times_of;
 
 // What ended the tries: a round through all gaps in which none was taken, or the budget before the round was through.
-pub enum Ended {
-    Round,
-    Budget,
-}
+pub const ROUND: u8 = 0;
 
-// Where the tries lead, and the floor.
-pub struct Reached {
+pub const BUDGET: u8 = 1;
+
+// The number and the line of a refusal, 0 and 0 for none; where the tries lead, its calls, how many tries were made and
+// what ended them; the floor.
+#[repr(C)]
+pub struct Improved {
+    pub number: u8,
+    pub line: usize,
     pub placement: Placement,
     pub calls: u64,
     pub tries: usize,
-    pub ended: Ended,
+    pub ended: u8,
     pub floor: u64,
 }
 
@@ -55,25 +60,57 @@ struct Try {
     calls: u64,
 }
 
+// Tries from the key for fewer calls, given a number of turns, from 1, for each loop in order of its DO and a budget of
+// tries; and the floor. Numbers 10, 11, 17.
+pub fn improve(desk: Desk, turns: &[u8], budget: usize) -> Improved
+    requires { ⌜ IsMade desk ⌝ }
+    ensures { λ r. ⌜ ImproveSays desk (now (turns .entry)) budget r ⌝ }
+{
+    let number = key_fault(desk.loaded, desk.planned);
+    if number != 0 {
+        return refused(number);
+    }
+    let nest = desk.nest;
+    if can_count(nest, turns, OUTER) {
+        let key = desk.key;
+        return improve_key(nest, key, turns, budget);
+    }
+    refused(17)
+}
+
+fn refused(number: u8) -> Improved
+    ensures { λ r. ⌜ replyIn r ≡ refusal number ⌝ }
+{
+    Improved {
+        number: number,
+        line: 0,
+        placement: Placement::empty(),
+        calls: 0,
+        tries: 0,
+        ended: 0,
+        floor: 0,
+    }
+}
+
 // Tries from the key, and the floor. It ends for every budget, also 2⁶⁴ - 1: each turn of the loop is a try that the
 // budget counts. Long before that a whole round changes nothing, since each try that is taken has fewer calls than the
-// placement before it, and a round has at most 255 tries.
-pub fn improve_key(nest: Nest, key: Placement, turns: &[u8], budget: usize) -> Reached
-    requires { ⌜ ImproveAsks nest key (now turns) ⌝ }
-    ensures { λ r. ⌜ ImproveSays (nestIn nest) (now (turns .entry)) (gapsIn (key .words)) budget r ⌝ }
+// placement before it, the key at most 255 · 16⁸, and a round has at most 255 tries.
+fn improve_key(nest: Nest, key: Placement, turns: &[u8], budget: usize) -> Improved
+    requires { ⌜ SearchAsks nest key (now turns) ⌝ }
+    ensures { λ r. ⌜ SearchSays (nestIn nest) (now (turns .entry)) (gapsIn (key .words)) budget r ⌝ }
 {
     let count = nest.count;
     let points = nest.points;
     let times = times_of(&points[..count], turns);
     let ends = nests::ends_of(&points[..count]);
     let floor = floor_of(nest, &ends, &times);
-    let calls = calls_of(&times, key);
+    let calls = sum_at(&times, key);
     let mut current = current_of(nest, &ends, key, calls);
     let mut tries: usize = 0;
     let mut g = free_from(key, 1, count);
     while g < count {
         if tries == budget {
-            return outcome_of(current, tries, Ended::Budget, floor);
+            return outcome_of(current, tries, BUDGET, floor);
         }
         let tried = try_at(nest, current, &ends, &times, g);
         tries += 1;
@@ -88,117 +125,23 @@ pub fn improve_key(nest: Nest, key: Placement, turns: &[u8], budget: usize) -> R
             g = free_from(p, g + 1, count);
         }
     }
-    outcome_of(current, tries, Ended::Round, floor)
-}
-
-// The turns are as many as there are loops, at most 16, the first from 1 and the others from `inner`.
-pub fn turns_fit(points: &[u8], turns: &[u8], inner: u8) -> bool
-    ensures { λ r. ⌜ r ≡ fitFrom inner (now (points .entry)) (now (turns .entry)) ⌝ }
-{
-    if turns.len() == loops_in(points) {
-        return within(turns, inner);
-    }
-    false
-}
-
-// How many loops there are.
-fn loops_in(points: &[u8]) -> usize
-    ensures { λ r. ⌜ r ≡ dosBefore (now (points .entry)) (length (now (points .entry))) ⌝ }
-{
-    let mut loops: usize = 0;
-    let mut i: usize = 0;
-    while i < points.len() {
-        if points[i] == nests::DO {
-            loops += 1;
-            i += 1;
-        } else {
-            i += 1;
-        }
-    }
-    loops
-}
-
-// The turns are at most 16, the first from 1 and the others from `inner`.
-fn within(turns: &[u8], inner: u8) -> bool
-    ensures { λ r. ⌜ r ≡ areTurns OUTER inner (now (turns .entry)) ⌝ }
-{
-    let mut low: u8 = 1;
-    let mut i: usize = 0;
-    while i < turns.len() {
-        let t = turns[i];
-        if t < low {
-            return false;
-        }
-        if TURNS < t {
-            return false;
-        }
-        low = inner;
-        i += 1;
-    }
-    true
+    outcome_of(current, tries, ROUND, floor)
 }
 
 // The current placement and its calls, with the other answers.
-fn outcome_of(current: Current, tries: usize, ended: Ended, floor: u64) -> Reached
-    ensures { λ r. ⌜ ReachedSays current tries ended floor r ⌝ }
+fn outcome_of(current: Current, tries: usize, ended: u8, floor: u64) -> Improved
+    ensures { λ r. ⌜ replyIn r ≡ reached current tries ended floor ⌝ }
 {
     let placement = current.placement;
-    Reached {
+    Improved {
+        number: 0,
+        line: 0,
         placement: placement,
         calls: current.calls,
         tries: tries,
         ended: ended,
         floor: floor,
     }
-}
-
-// How often each gap is passed in a run: the product of the turns of the loops around it.
-fn times_of(points: &[u8], turns: &[u8]) -> [u64; Nest::POINTS]
-    requires { ⌜ TurnsGiven (now points) (now turns) ⌝ }
-    ensures { λ r. ⌜ HasTimes (now (points .entry)) (now (turns .entry)) r ⌝ }
-{
-    let mut times: [u64; Nest::POINTS] = [1; Nest::POINTS];
-    let mut outside: [u64; Nest::DEPTH] = [1; Nest::DEPTH];
-    let mut depth: usize = 0;
-    let mut k: usize = 0;
-    let mut i: usize = 0;
-    while i + 1 < points.len() {
-        let p = points[i];
-        let here = times[i];
-        if p == nests::DO {
-            outside[depth] = here;
-            times[i + 1] = turns[k] as u64 * here;
-            depth += 1;
-            k += 1;
-            i += 1;
-        } else if p == nests::ENDDO {
-            depth -= 1;
-            times[i + 1] = outside[depth];
-            i += 1;
-        } else {
-            times[i + 1] = here;
-            i += 1;
-        }
-    }
-    times
-}
-
-// The sum of the table's entries at the gaps of a placement.
-fn calls_of(times: &[u64; Nest::POINTS], p: Placement) -> u64
-    requires { ⌜ sumIn (now times) (gapsIn (p .words)) < 2 ^ 64 ⌝ }
-    ensures { λ r. ⌜ r ≡ sumIn (now (times .entry)) (gapsIn (p .words)) ⌝ }
-{
-    let mut calls: u64 = 0;
-    let mut g: usize = 0;
-    while g < Placement::GAPS {
-        if p.holds(g) {
-            calls += times[g];
-            g += 1;
-        } else {
-            g += 1;
-        }
-    }
-    calls
 }
 
 // The lowest gap from lo on without a barrier; `count` for none.

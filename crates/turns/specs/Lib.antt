@@ -1,2 +1,2 @@
--- Tables of a run: how often the gaps of each loop are passed.
-pub mod Prices
+-- Tables of a run: how often each gap is passed.
+pub mod Times

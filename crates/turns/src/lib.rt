@@ -1,16 +1,14 @@
 // Turns of a nest's loops: whether a list of them fits, and how many barrier calls a placement has under them.
 ghost use mathlib.Core.Path.{_≡_};
 ghost use mathlib.Core.Bool.{true};
-ghost use Prim.Native.Nat.{_<_, _≤_};
+ghost use Prim.Native.Nat.{_^_, _<_, _≤_};
 ghost use lib.ListN.{length};
-ghost use Rattle.laws.specs.Choice.{when};
 ghost use Rattle.nests.specs.Kinds.{POINTS};
 ghost use Rattle.nests.specs.Valid.{isShape};
 ghost use Rattle.placements.specs.Placements.{areGapsFrom};
-ghost use Rattle.placements.specs.Words.{GAPS, holds, gapsIn};
+ghost use Rattle.placements.specs.Words.{gapsIn};
 ghost use Rattle.calls.specs.Calls.{dosBefore, areTurns, fitIn, callsIn};
-ghost use Rattle.owners.specs.Tables.{OwnersAre};
-ghost use Rattle.turns.specs.Prices.{PricesAre};
+ghost use Rattle.turns.specs.Times.{HasTimes, sumIn};
 use nests::Nest;
 use owners::owners_of;
 use placements::Placement;
@@ -39,14 +37,48 @@ pub fn calls_of(points: &[u8], p: Placement, turns: &[u8]) -> u64
     requires { ⌜ fitIn 0 0 (now points) (now turns) ≡ true ⌝ }
     ensures { λ r. ⌜ r ≡ callsIn (now (points .entry)) (now (turns .entry)) (gapsIn (p .words)) ⌝ }
 {
+    let times = times_of(points, turns);
+    sum_at(&times, p)
+}
+
+// How often each gap is passed in a run: the product of the turns of the loops around it.
+pub fn times_of(points: &[u8], turns: &[u8]) -> [u64; Nest::POINTS]
+    requires { ⌜ (isShape (now points) ≡ true) × (length (now points) ≤ POINTS) ⌝ }
+    requires { ⌜ fitIn 0 0 (now points) (now turns) ≡ true ⌝ }
+    ensures { λ r. ⌜ HasTimes (now (points .entry)) (now (turns .entry)) r ⌝ }
+{
     let owners = owners_of(points);
-    let prices = prices_of(points, &owners, turns);
+    let mut times = [1; Nest::POINTS];
+    let mut next: usize = 0;
+    let mut i: usize = 0;
+    while i + 1 < points.len() {
+        if points[i] == nests::DO {
+            times[i + 1] = turns[next] as u64 * times[i];
+            next += 1;
+            i += 1;
+        } else {
+            let d = owners[i + 1];
+            times[i + 1] = times[d + 1];
+            i += 1;
+        }
+    }
+    times
+}
+
+// The sum of the table's entries at the gaps of a placement.
+pub fn sum_at(times: &[u64; Nest::POINTS], p: Placement) -> u64
+    requires { ⌜ sumIn (now times) (gapsIn (p .words)) < 2 ^ 64 ⌝ }
+    ensures { λ r. ⌜ r ≡ sumIn (now (times .entry)) (gapsIn (p .words)) ⌝ }
+{
     let mut calls: u64 = 0;
     let mut g: usize = 0;
-    while g < points.len() {
-        let d = owners[g];
-        calls += called(p, g, prices[d]);
-        g += 1;
+    while g < Placement::GAPS {
+        if p.holds(g) {
+            calls += times[g];
+            g += 1;
+        } else {
+            g += 1;
+        }
     }
     calls
 }
@@ -86,35 +118,4 @@ fn are_turns(turns: &[u8], first: u8, inner: u8) -> bool
         i += 1;
     }
     true
-}
-
-// How often a barrier at a loop's own gaps is called, by the loop's DO.
-fn prices_of(points: &[u8], owners: &[usize], turns: &[u8]) -> [u64; Nest::POINTS]
-    requires { ⌜ (isShape (now points) ≡ true) × (length (now points) ≤ POINTS) ⌝ }
-    requires { ⌜ (OwnersAre (now points) (now owners)) × (length (now owners) ≡ POINTS) ⌝ }
-    requires { ⌜ fitIn 0 0 (now points) (now turns) ≡ true ⌝ }
-    ensures { λ r. ⌜ PricesAre (now (points .entry)) (now (turns .entry)) r ⌝ }
-{
-    let mut prices = [1; Nest::POINTS];
-    let mut next: usize = 0;
-    let mut d: usize = 0;
-    while d < points.len() {
-        if points[d] == nests::DO {
-            let around = owners[d];
-            prices[d] = turns[next] as u64 * prices[around];
-            next += 1;
-            d += 1;
-        } else {
-            d += 1;
-        }
-    }
-    prices
-}
-
-// The price where the placement holds the gap, else 0.
-fn called(p: Placement, g: usize, price: u64) -> u64
-    requires { ⌜ g < GAPS ⌝ }
-    ensures { λ r. ⌜ r ≡ when (holds (p .words) g) price ⌝ }
-{
-    if p.holds(g) { price } else { 0 }
 }

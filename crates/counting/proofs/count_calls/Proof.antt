@@ -2,9 +2,6 @@
 -- the count (`ready`).
 use mathlib.Core.Path.{_≡_, sym, _∙_}
 use mathlib.Core.Bool.{true}
-use Prim.Native.Nat.{_-_}
-use native.Mathlib.Omega.{arith}
-use lib.ListN.{length}
 use borrow.Author.Needs.{needs}
 use Rattle.nests.specs.Stored.{nestIn}
 use Rattle.nests.proofs.Stored.{counted-points}
@@ -48,7 +45,7 @@ none c =
 counts :
     (c : tie.Then2) →
     let a = called (c .before) .args in
-    canCount (deskIn (a .desk) .nest-is) (a .turns .now) ≡ true
+    canCount INNER (deskIn (a .desk) .nest-is) (a .turns .now) ≡ true
 counts c = sym (c .before .can-count .ensures) ∙ c .if2 .taken
 
 array-share-prefix-points : tie.Need-array-share-prefix-points
@@ -65,7 +62,7 @@ calls-of-requires c κs =
     let s = called (t .before) in
     let n = nestIn (s .args .desk .nest) in
     let y = ready (s .args .desk) (s .pre) (none (t .before)) in
-    let fits = countable n (s .args .turns .now) (counts t) .fits in
+    let fits = countable INNER n (s .args .turns .now) (counts t) .fits in
     ((y .shape, y .few), (y .key-gaps, fit-lower OUTER INNER (n .points) (s .args .turns .now) fits))
 
 returns-2 : tie.Need-returns-2

@@ -10,7 +10,7 @@ use Rattle.nests.specs.Stored.{nestIn}
 use Rattle.placements.specs.Words.{gapsIn}
 use Rattle.improving.specs.Tops.{topAt}
 use Rattle.improving.proofs.Chains.{Chaining, chain-start, chain-on, chain-done, top-told, top-low}
-use Rattle.improving.proofs.TimesTable.{entry}
+use Rattle.turns.proofs.Timing.{entry}
 use Rattle.improving.proofs.Lies.{found-lies}
 use Rattle.improving.proofs.current_of.Statement.{statement}
 use Rattle.improving.proofs.current_of.Tie as tie

@@ -12,11 +12,11 @@ use Rattle.nests.specs.Stored.{nestIn}
 use Rattle.nests.proofs.Stored.{counted-points}
 use Rattle.placements.specs.declared.Placement as DP
 use Rattle.placements.specs.Words.{gapsIn}
+use Rattle.turns.specs.Times.{HasTimes}
 use Rattle.improving.specs.declared.Current as DU
-use Rattle.improving.specs.Timed.{HasTimes}
 use Rattle.improving.specs.Tops.{WithEnds}
-use Rattle.improving.specs.Says.{ImproveAsks}
-use Rattle.improving.proofs.RoundTurns.{with-ends, some-points, turns-given, few-times, calls-fit}
+use Rattle.improving.specs.Steps.{SearchAsks}
+use Rattle.improving.proofs.RoundTurns.{with-ends, some-points, turns-asked, few-times, calls-fit}
 use Rattle.improving.proofs.RoundTurns.{Searching, search-start, search-asks, try-sound, search-taken}
 use Rattle.improving.proofs.RoundTurns.{search-kept, search-budget, search-round}
 use Rattle.improving.proofs.improve_key.Statement.{statement}
@@ -42,7 +42,7 @@ slice-aggregate-times-of : tie.Need-slice-aggregate-times-of Inv-loop μ-loop
 slice-aggregate-times-of c = c .before .before .before .pre .counted .count-is
 
 times-of-requires : tie.Need-times-of-requires Inv-loop μ-loop
-times-of-requires c κs = turns-given (c .before .before .before .pre)
+times-of-requires c κs = turns-asked (c .before .before .before .pre)
 
 array-share-prefix-points-2 : tie.Need-array-share-prefix-points-2 Inv-loop μ-loop
 array-share-prefix-points-2 c =
@@ -66,8 +66,8 @@ floor-of-requires c κs =
       few-times p (b4 .times-of .result) (b4 .times-of .ensures),
     )
 
-calls-of-requires : tie.Need-calls-of-requires Inv-loop μ-loop
-calls-of-requires c κs =
+sum-at-requires : tie.Need-sum-at-requires Inv-loop μ-loop
+sum-at-requires c κs =
     let b6 = c .before .before .before .before .before .before in
     let s = b6 .before .before .before .before in
     calls-fit (s .pre) (b6 .times-of .result) (b6 .times-of .ensures) (gapsIn (s .args .key .words))
@@ -89,7 +89,7 @@ loop-holds c =
     let k = c .before in
     let s = planned k in
     let times = c .before .before .before .before .before .before .before .before .before .before .times-of in
-    let calls = c .before .before .before .calls-of in
+    let calls = c .before .before .before .sum-at in
     let r = k .current-of in
     subst
     (λ (x : List ℕ).
@@ -123,7 +123,7 @@ module _ (c : tie.At-loop Inv-loop μ-loop) where
   abbrev times : List ℕ
   times = c .before .before .before .before .before .before .before .before .before .before .before .times-of .result
 
-  asks : ImproveAsks nest key turns
+  asks : SearchAsks nest key turns
   asks = started .pre
 
   has : HasTimes (nestIn nest .points) turns times
@@ -249,7 +249,7 @@ improve-key-spec =
     slice-aggregate-ends-of
     ends-of-requires
     floor-of-requires
-    calls-of-requires
+    sum-at-requires
     current-of-requires
     free-from-requires
     loop-holds

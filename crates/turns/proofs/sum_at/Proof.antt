@@ -1,11 +1,11 @@
--- `calls_of` meets its contract. The invariant: what is summed and what is left give the whole (`Summing`). The measure
+-- `sum_at` meets its contract. The invariant: what is summed and what is left give the whole (`Summing`). The measure
 -- is how many gaps are left.
 use mathlib.Core.Path.{sym, _∙_}
 use Prim.Native.Nat.{_-_}
 use native.Mathlib.Omega.{arith}
-use Rattle.improving.proofs.CallsTable.{Summing, sum-start, sum-held, sum-free, sum-fits, sum-done}
-use Rattle.improving.proofs.calls_of.Statement.{statement}
-use Rattle.improving.proofs.calls_of.Tie as tie
+use Rattle.turns.proofs.Summing.{Summing, sum-start, sum-held, sum-free, sum-fits, sum-done}
+use Rattle.turns.proofs.sum_at.Statement.{statement}
+use Rattle.turns.proofs.sum_at.Tie as tie
 
 abbrev Inv-loop : tie.InvT-loop
 Inv-loop times p calls₀ g₀ calls g = Summing times (p .words) g calls
@@ -59,8 +59,8 @@ loop-again-2 c =
 returns : tie.Need-returns Inv-loop μ-loop
 returns c = sum-done (c .before .loop .inv) (c .loop-test .left)
 
-pub calls-of-spec : {M : Type 1} → statement M
-calls-of-spec =
+pub sum-at-spec : {M : Type 1} → statement M
+sum-at-spec =
     tie.close
     (tie.spec
     Inv-loop
