@@ -144,6 +144,14 @@ def join(first: bytes, second: bytes) -> bytes:
     return out.raw[:length]
 
 
+def run_ends(processors: int, phases: int, durations: list[int], waits: list[int]) -> tuple[int, int]:
+    """When the run of a timing sheet ends: with its waits, and with all barriers kept."""
+    slices = [(ctypes.c_uint16 * len(some))(*some) for some in (durations, waits)]
+    told = [part for some in slices for part in (some, len(some))]
+    ends = given(library().desk_sheet(processors, phases, *told))
+    return ends.waiting, ends.barriers
+
+
 def given(reply: ctypes.Structure) -> ctypes.Structure:
     """The reply of a call that is not refused."""
     if reply.number != 0:

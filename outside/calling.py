@@ -106,6 +106,23 @@ def improved(tally: Tally, folder: pathlib.Path) -> None:
         tally.check(f'a budget of {budget}', seen.failed('budget'), seen)
 
 
+def sheets(tally: Tally) -> None:
+    """Timing sheets: when a run ends, and what is wrong with one."""
+    sheet = b'5 3 8   # three processors\n\n4:0,1 2:1 6:0,1,2\n1:0 9:1 0:2\n'
+    told = b'with its waits the run ends at 14\nwith all barriers kept it ends at 23\n'
+    seen = run(DESK, 'sheet', '-', given=sheet)
+    tally.check('a sheet', seen == Seen(told, '', 0), seen)
+    told = b'with its waits the run ends at 65,535\nwith all barriers kept it ends at 65,535\n'
+    tally.check('one phase', run(DESK, 'sheet', '-', given=b'65535') == Seen(told, '', 0))
+    for text, word in [(b'', 'number 19'), (b'1 ' * 17, 'number 19'), (b'1\n' + b'1:0\n' * 64, 'number 19'),
+                       (b'1 1\n1:0 1:0\n', 'number 20'), (b'1 1\n1:0 1:1,2\n', 'number 20'),
+                       (b'1 1\n1:0\n', 'line 2 of the sheet is refused: it has 1'), (b'1:0\n', 'line 1'),
+                       (b'1\n1\n', 'line 2'), (b'65536\n', 'line 1'), (b'1\n1:16\n', 'line 2'), (b'x\n', 'line 1')]:
+        seen = run(DESK, 'sheet', '-', given=text)
+        tally.check(f'the sheet {text[:20]!r}', word in seen.err and (seen.out, seen.status) == (b'', 1), seen)
+    tally.check('no sheet', run(DESK, 'sheet', '/').failed('cannot read'))
+
+
 def main() -> None:
     tally = Tally()
     with tempfile.TemporaryDirectory() as name:
@@ -114,6 +131,7 @@ def main() -> None:
         calls(tally, folder)
         joined(tally, folder)
         improved(tally, folder)
+        sheets(tally)
     tally.close()
 
 

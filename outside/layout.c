@@ -86,6 +86,11 @@ AT(DeskImproved, calls, 48, 8);
 AT(DeskImproved, tries, 56, 8);
 AT(DeskImproved, ended, 64, 1);
 AT(DeskImproved, floor, 72, 8);
+SIZE(DeskRunEnds, 24);
+AT(DeskRunEnds, number, 0, 1);
+AT(DeskRunEnds, line, 8, 8);
+AT(DeskRunEnds, waiting, 16, 4);
+AT(DeskRunEnds, barriers, 20, 4);
 SIZE(DeskJoined, 24);
 AT(DeskJoined, number, 0, 1);
 AT(DeskJoined, text, 1, 1);
@@ -126,6 +131,8 @@ static const uint8_t FOUNDATION[] = "01\n03\n03\n03\n03\n03\n02\n12000503\n12000
 
 static const uint8_t ONCE[] = "01\n03\n01\n03\n03\n03\n02\n03\n02\n110104\n110307\n";
 
+static const uint16_t WORK[] = {5, 1, 1, 5}, WAITS[] = {1, 2};
+
 static const uint8_t SKIPPING[] = "01\n03\n04\n03\n02\n03\n02\n12020303\n110105\n";
 
 typedef void *Fresh(void *);
@@ -134,6 +141,7 @@ typedef void *OnText(void *, Desk, const uint8_t *, size_t);
 typedef void *OnNumber(void *, Desk, size_t);
 typedef void *OnPlain(void *, DeskPlain);
 typedef void *OnTurns(void *, Desk, const uint8_t *, size_t, size_t);
+typedef void *OnSheet(void *, size_t, size_t, const uint16_t *, size_t, const uint16_t *, size_t);
 typedef void *OnTexts(void *, const uint8_t *, size_t, const uint8_t *, size_t, uint8_t *, size_t);
 typedef void *OnBoth(void *, Desk, const uint8_t *, size_t, uint8_t *, size_t);
 
@@ -153,6 +161,7 @@ static void sizes(Desk desk, DeskPlain plain) {
     GIVES(OnDesk, desk_missing_runs, sizeof(DeskChosen), room, desk);
     GIVES(OnText, desk_count_calls, sizeof(DeskCalls), room, desk, P, 0);
     GIVES(OnTurns, desk_improve, sizeof(DeskImproved), room, desk, P, 0, 10);
+    GIVES(OnSheet, desk_sheet, sizeof(DeskRunEnds), room, 2, 2, WORK, 4, WAITS, 2);
     GIVES(OnTexts, desk_join, sizeof(DeskJoined), room, P, 0, P, 0, lent, sizeof lent);
     GIVES(OnBoth, desk_candidate_slip, sizeof(DeskAnswer), room, desk, P, 0, lent, sizeof lent);
     GIVES(OnBoth, desk_examiner_slip, sizeof(DeskAnswer), room, desk, P, 0, lent, sizeof lent);
@@ -225,6 +234,13 @@ static void improving(Desk desk) {
     that("17 turns", desk_improve(desk, (const uint8_t[]){1, 17}, 2, 9).number == 17);
 }
 
+static void sheets(void) {
+    DeskRunEnds ends = desk_sheet(2, 2, WORK, 4, WAITS, 2);
+    that("ends", ends.number == 0 && ends.line == 0 && ends.waiting == 6 && ends.barriers == 10);
+    that("a slice too short", desk_sheet(2, 2, WORK, 4, WAITS, 1).number == 19);
+    that("a set without its own", desk_sheet(2, 2, WORK, 4, WORK, 2).number == 20);
+}
+
 static void joining(void) {
     const uint8_t *one = (const uint8_t *)"01\n03\n02\n12000101\n", *two = (const uint8_t *)"04\n02\n";
     memset(lent, 7, sizeof lent);
@@ -244,6 +260,7 @@ int main(void) {
     skipping(desk_load(desk, SKIPPING, sizeof SKIPPING - 1).desk);
     improving(desk_plan(desk_load(desk, ONCE, sizeof ONCE - 1).desk).desk);
     joining();
+    sheets();
     printf("%d passed, %d failed\n", passed, failed);
     return failed != 0;
 }

@@ -26,6 +26,8 @@
     16   a barred gap in a placement text, or Put of one
     17   not as many turns as loops, turns out of range, or a nest with barred gaps or loops that may not run
     18   the joint nest would have more than 256 points, more than 512 dependences, or a loop 9 deep
+    19   a number of processors or phases out of range, or a slice that is not as long as they say
+    20   a set of waits without its own processor, or with one that the sheet does not have
 
    A text or a buffer is lent as a pointer and a length in bytes. A thread with a stack of 160 KiB has room for every
    call. The library is for x86-64, and links against memcpy and memset alone:
@@ -48,6 +50,9 @@ enum { DESK_POINTS = 256, DESK_DEPENDENCES = 512, DESK_BARS = 255, DESK_GAPS = 2
 /* The kinds of points, of dependences, and of barred gaps. In a text 04 is the DO of a loop that may not run. */
 enum { DESK_DO = 0x01, DESK_ENDDO = 0x02, DESK_STATEMENT = 0x03, DESK_FLAGGED = 0x04 };
 enum { DESK_INDEPENDENT = 0x11, DESK_CARRIED = 0x12, DESK_BARRED = 0x13 };
+
+/* Limits of a timing sheet. */
+enum { DESK_PROCESSORS = 16, DESK_PHASES = 64 };
 
 /* What ended the tries for fewer calls: a whole round, or the budget. */
 enum { DESK_ROUND = 0, DESK_BUDGET = 1 };
@@ -170,6 +175,14 @@ typedef struct DeskImproved {
     uint64_t floor;
 } DeskImproved;
 
+/* When a run ends: with the waits of a sheet, and with all barriers kept. */
+typedef struct DeskRunEnds {
+    uint8_t number;
+    size_t line;
+    uint32_t waiting;
+    uint32_t barriers;
+} DeskRunEnds;
+
 /* `text` is 1 or 2, the text at fault, or 0 for neither; `value` is the length of the joint text. */
 typedef struct DeskJoined {
     uint8_t number;
@@ -246,6 +259,12 @@ DeskJoined desk_join(const uint8_t *a, size_t first, const uint8_t *b, size_t se
    a budget of tries, none of which is made beyond it. No correct placement has fewer calls than the floor. Numbers 10, 11,
    17. */
 DeskImproved desk_improve(Desk desk, const uint8_t *turns, size_t length, size_t budget);
+
+/* When the run of a timing sheet ends. `durations` has phases times processors numbers, phase by phase, processors rising
+   in each; `waits` has as many sets for each phase after the first, the lowest bit for processor 0: of those for which a
+   processor waits, itself among them. Numbers 19, 20. */
+DeskRunEnds desk_sheet(size_t processors, size_t phases, const uint16_t *durations, size_t works, const uint16_t *waits,
+                       size_t sets);
 
 /* A desk in use goes over from the kind before sittings: the nest is kept, the sitting is empty, and where there was a
    key it is worked out anew, unless Plan would refuse. `old` has a nest that desk_load accepted, or none (count, many,

@@ -4,6 +4,7 @@ use crate::host::{self, Desk, Placement, PlainDesk, WORDS};
 use crate::improving;
 use crate::joining;
 use crate::runs;
+use crate::sheets::{self, Sheet};
 use crate::skipping;
 use crate::slips;
 use crate::textbook;
@@ -36,6 +37,8 @@ pub enum Call {
     Join(Vec<u8>, Vec<u8>, Vec<u8>),
     /// With the turns of the loops, and a budget of tries.
     Improve(Vec<u8>, usize),
+    /// The desk has no part in it.
+    Sheet(Sheet),
 }
 
 impl Call {
@@ -61,6 +64,7 @@ impl Call {
             Call::CountCalls(_) => "count calls",
             Call::Join(..) => "join",
             Call::Improve(..) => "improve",
+            Call::Sheet(_) => "sheet",
         }
     }
 
@@ -73,6 +77,7 @@ impl Call {
             Call::Over(planned, key) => format!("with a key: {planned}, words {key:?}"),
             Call::Slip(_, text, out) => format!("{}, a buffer of {} bytes", shown(text), out.len()),
             Call::Improve(turns, budget) => format!("{turns:?}, {budget} tries"),
+            Call::Sheet(sheet) => format!("{sheet:?}"),
             Call::Join(a, b, out) => format!("{}, {}, a buffer of {} bytes", shown(a), shown(b), out.len()),
             _ => String::new(),
         };
@@ -153,6 +158,7 @@ pub fn play(desk: &mut Desk, call: &Call) -> Reply {
             Call::CountCalls(turns) => runs::play(*desk, turns),
             Call::Join(a, b, out) => joining::play(a, b, out),
             Call::Improve(turns, budget) => improving::play(*desk, turns, *budget),
+            Call::Sheet(sheet) => sheets::play(sheet),
         }
     }
 }

@@ -8,6 +8,7 @@ use crate::joining;
 use crate::nests::*;
 use crate::order::{first_key, mark, Mark};
 use crate::runs;
+use crate::sheets;
 use crate::skipping;
 use crate::slips;
 use crate::textbook;
@@ -99,6 +100,7 @@ impl Desk {
             Call::CountCalls(turns) => return runs::answer(self, turns),
             Call::Join(a, b, out) => return joining::answer(a, b, out),
             Call::Improve(turns, budget) => return improving::answer(self, turns, *budget),
+            Call::Sheet(sheet) => return sheets::answer(sheet),
         }
         Reply { number, line, values, lent }
     }

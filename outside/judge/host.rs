@@ -82,6 +82,9 @@ pub struct Improved {
 }
 
 #[repr(C)]
+pub struct RunEnds { pub number: u8, pub line: usize, pub waiting: u32, pub barriers: u32 }
+
+#[repr(C)]
 pub struct Joined { pub number: u8, pub text: u8, pub line: usize, pub value: usize }
 
 extern "C" {
@@ -104,6 +107,9 @@ extern "C" {
     pub fn desk_missing_runs(desk: Desk) -> Chosen;
     pub fn desk_count_calls(desk: Desk, turns: *const u8, length: usize) -> Calls;
     pub fn desk_improve(desk: Desk, turns: *const u8, length: usize, budget: usize) -> Improved;
+    pub fn desk_sheet(
+        processors: usize, phases: usize, durations: *const u16, works: usize, waits: *const u16, sets: usize,
+    ) -> RunEnds;
     pub fn desk_join(
         a: *const u8, first: usize, b: *const u8, second: usize, out: *mut u8, room: usize,
     ) -> Joined;

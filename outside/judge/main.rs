@@ -35,6 +35,7 @@ mod program;
 mod runs;
 mod scripts;
 mod self_check;
+mod sheets;
 mod skipping;
 mod slips;
 mod textbook;

@@ -11,6 +11,7 @@ use crate::order::key_fault;
 use crate::papers::*;
 use crate::program::{finish, THREADS};
 use crate::runs::{every_turns, random_turns};
+use crate::sheets::{every_sheet, random_sheet};
 use crate::skipping;
 use crate::slips::slip_length;
 use crate::texts::line;
@@ -107,7 +108,7 @@ fn random_call(random: &mut Random, desk: &Desk, mix: Mix, edges: &[Vec<u8>]) ->
 }
 
 fn random_ask(random: &mut Random, desk: &Desk, edges: &[Vec<u8>]) -> Call {
-    match random.below(22) {
+    match random.below(24) {
         0 => Call::Count(random_point(random, desk)),
         1 | 2 => Call::Write(buffer(random, 5 * desk.key().len())),
         3 => Call::Sitting(buffer(random, 5 * desk.sitting.len())),
@@ -125,6 +126,7 @@ fn random_ask(random: &mut Random, desk: &Desk, edges: &[Vec<u8>]) -> Call {
             let turns = random_turns(random, desk.nest.as_ref());
             Call::Improve(turns, random_budget(random, desk.points()))
         }
+        19 | 20 => Call::Sheet(random_sheet(random)),
         _ => Call::Mark(placement_text(random, desk)),
     }
 }
@@ -286,7 +288,8 @@ fn fixed_scripts() -> Vec<Vec<Call>> {
     let flagged = (0..FIXED).map(|case| small_flagged(&mut Random::new(14, case)).text());
     let made = skipping::PAPERS.iter().map(|paper| words(paper.0)).chain(flagged);
     let asked = made.map(|text| vec![Call::Load(text), Call::Plan, Call::MissingRuns]);
-    lines.chain(asked).chain(joins()).chain((2..=SMALLEST).flat_map(every_paper).map(|nest| asks_of(&nest))).collect()
+    let every = (2..=SMALLEST).flat_map(every_paper).map(|nest| asks_of(&nest));
+    lines.chain(asked).chain(joins()).chain(every_sheet()).chain(every).collect()
 }
 
 /// What is asked of a small paper: its missing runs; its calls under all turns from 2 to 4, under some if it is not one

@@ -11,6 +11,7 @@ use crate::order::*;
 use crate::papers::*;
 use crate::program::*;
 use crate::runs::check_runs;
+use crate::sheets::check_sheets;
 use crate::skipping::check_skipping;
 use crate::slips::check_slips;
 use crate::textbook::check_textbook;
@@ -42,6 +43,7 @@ pub fn self_check() -> bool {
     check_runs(&mut checks);
     check_joining(&mut checks);
     check_improving(&mut checks);
+    check_sheets(&mut checks);
     (0..400).for_each(|case| check_random(&mut checks, &mut Random::new(7, case)));
     finish(checks.passed, checks.failed)
 }

@@ -7,6 +7,8 @@ ghost use Rattle.desk.specs.Says.{markIn, verdictIn};
 ghost use Rattle.improving.specs.Says.{ImproveSays};
 ghost use Rattle.joining.specs.Says.{JoinSays};
 ghost use Rattle.screen.specs.Says.{PutSays, LiftSays, BackSays};
+ghost use Rattle.sheets.specs.Says.{endsOf};
+ghost use Rattle.sheets.specs.Sheets.{sheet};
 ghost use Rattle.skipping.specs.Says.{MissingSays};
 ghost use Rattle.slips.specs.Says.{CandidateSays, ExaminerSays};
 ghost use Rattle.textbook.specs.Says.{TextbookSays};
@@ -26,6 +28,7 @@ use improving::Improved;
 use joining::Joined;
 use nests::Dependence;
 use screen::Moved;
+use sheets::RunEnds;
 
 // Mark's answer in numbers alone: the number and the line of a refusal, or 0 and 0 with the verdict's code. Uncut (0)
 // has a dependence in a; Dearer (1) has a loop in a, their count in b and our count in c; Best is 2. All else is 0.
@@ -222,6 +225,18 @@ pub extern "C" fn desk_join(a: &[u8], b: &[u8], out: &mut [u8]) -> Joined
     ensures { λ r. ⌜ JoinSays (now (a .entry)) (now (b .entry)) (now (out .entry)) (now (out .exit)) r ⌝ }
 {
     joining::join(a, b, out)
+}
+
+#[no_mangle]
+pub extern "C" fn desk_sheet(
+    processors: usize,
+    phases: usize,
+    durations: &[u16],
+    waits: &[u16],
+) -> RunEnds
+    ensures { λ r. ⌜ r ≡ endsOf (sheet processors phases (now (durations .entry)) (now (waits .entry))) ⌝ }
+{
+    sheets::ends(processors, phases, durations, waits)
 }
 
 #[no_mangle]
