@@ -13,7 +13,7 @@ use Rattle.lines.specs.Writing.{over}
 use Rattle.lines.proofs.Writing.{over-length, over-part}
 use Rattle.placements.specs.Placements.{areGaps}
 use Rattle.texts.specs.PlacementTexts.{keyText}
-use Rattle.texts.specs.Counts.{countsText, CountsSay}
+use Rattle.texts.specs.Counts.{countsText, CountsFit, CountsSay}
 use Rattle.texts.proofs.Counting.{counts-length}
 use Rattle.answers.specs.Answers.{ROOM, keyAndCounts}
 use Rattle.answers.proofs.Lengths.{key-room}
@@ -45,8 +45,10 @@ module _
     pub at-within : at ≤ length out
     at-within = omega (arith, key-fits n gs o y, same)
 
-    pub counts-fit : 7 * length (n .points) ≤ length (take (length out - at) (drop at out))
-    counts-fit = simp (length-take, length-drop) (omega (arith, key-fits n gs o y, same))
+    pub counts-fit : CountsFit (n .points) gs (length (take (length out - at) (drop at out)))
+    counts-fit m alike =
+        let short = counts-length m gs 0 (m .points) in
+        simp (length-take, length-drop) (omega (arith, key-fits n gs o y, same, short, ap length alike))
 
     module _ (q : List ℕ) (r : ℕ) (c : CountsSay (n .points) gs (midOf at (length out - at) out) q r) where
       counts-short : length (countsText n gs) ≤ 7 * length (n .points)

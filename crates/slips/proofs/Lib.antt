@@ -4,7 +4,6 @@ pub mod Bytes
 pub mod Lengths
 pub mod Joined
 pub mod Longest
-pub mod CountLines
 pub mod CutLines
 pub mod SlipCases
 pub mod Answers

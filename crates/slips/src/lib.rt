@@ -10,7 +10,6 @@ ghost use Rattle.nests.specs.Stored.{nestIn, IsCounted};
 ghost use Rattle.placements.specs.Answers.{cutOf};
 ghost use Rattle.placements.specs.Placements.{areGaps};
 ghost use Rattle.placements.specs.Words.{gapsIn};
-ghost use Rattle.texts.specs.Counts.{countsText};
 ghost use Rattle.desk.specs.Desks.{IsMade};
 ghost use Rattle.desk.specs.Says.{verdictIn};
 ghost use Rattle.slips.specs.Texts.{shown, firstText, slipText, verdictLine, verdictText, cutsText, examinerText};
@@ -24,13 +23,12 @@ use desk::key_fault;
 use desk::refused;
 use lines::put_frame;
 use nests::Nest;
-use owners::counts_of;
 use placements::Cut;
 use placements::Placement;
 use placements::cut_in;
 use placements::uncut;
-use texts::COUNT;
 use texts::PlacementReading;
+use texts::write_counts;
 
 // The kinds of a slip's lines: the first uncut dependence, the verdict, the gap that cuts a dependence.
 const FIRST_UNCUT: u8 = 35;
@@ -171,7 +169,9 @@ fn write_slip(nest: Nest, placement: Placement, out: &mut [u8]) -> usize
 {
     let first = uncut(nest, placement);
     let at = write_first(first, out);
-    at + write_counts(nest, placement, &mut out[at..])
+    let count = nest.count;
+    let points = nest.points;
+    at + write_counts(&points[..count], placement, &mut out[at..])
 }
 
 // Writes the examiner's slip.
@@ -214,32 +214,6 @@ fn shown(first: usize) -> usize
         return NONE;
     }
     first - 1
-}
-
-// Writes for each loop in order of its DO a line with its count.
-fn write_counts(nest: Nest, placement: Placement, out: &mut [u8]) -> usize
-    requires { ⌜ IsCounted nest ⌝ }
-    requires { ⌜ isValid (nestIn nest) ≡ true ⌝ }
-    requires { ⌜ areGaps (nestIn nest) (gapsIn (placement .words)) ≡ true ⌝ }
-    requires { ⌜ length (countsText (nestIn nest) (gapsIn (placement .words))) ≤ length (now out) ⌝ }
-    ensures { λ r. ⌜ Wrote (countsText (nestIn nest) (gapsIn (placement .words)))
-        (now (out .entry)) (now (out .exit)) r ⌝ }
-{
-    let count = nest.count;
-    let points = nest.points;
-    let counts = counts_of(&points[..count], placement);
-    let mut at: usize = 0;
-    let mut d: usize = 0;
-    while d < count {
-        if nest.points[d] == nests::DO {
-            let frame = [COUNT, (d % 256) as u8, (counts[d] % 256) as u8];
-            at += put_frame(&mut out[at..], &frame);
-            d += 1;
-        } else {
-            d += 1;
-        }
-    }
-    at
 }
 
 // Writes the line of the verdict.

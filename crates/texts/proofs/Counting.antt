@@ -1,7 +1,7 @@
--- The counts written loop by loop, in order of the DOs: what is written and what is left give the whole text, in each
--- nest with these points.
--- Main statements: `count-byte`, `counts-length`; `rest-all`, `rest-skip`, `rest-do`, `rest-end`; `Counting`, what a
--- turn keeps; `count-begin`, `count-skip`, `count-on`, `count-done`.
+-- The counts written from their table, a line for each loop in order of its DO: what is written and what is left give
+-- the whole text, in each nest with these points.
+-- Main definition: `Counting`, what a turn keeps. Main statements: `count-byte`, `counts-length`, `counts-fit`; `rest-all`, `rest-skip`,
+-- `rest-do`, `rest-end`; `count-begin`, `count-skip`, `count-on`, `count-done`.
 use mathlib.Core.Path.{_≡_, refl, _∙_, ap}
 use mathlib.Core.Bool.{Bool, true, false}
 use mathlib.Core.List.{List, [], _∷_, _++_}
@@ -14,6 +14,7 @@ use lib.Seq.{drop-cons}
 use borrow.Author.Tests.{eq-eqb, ne-eqb}
 use borrow.Rule.Slice.PartMut.{midOf, putMid}
 use Rattle.laws.specs.Choice.{pick}
+use Rattle.laws.specs.Entries.{at}
 use Rattle.nests.specs.Kinds.{DO, POINTS}
 use Rattle.nests.specs.Nests.{Nest, nest}
 use Rattle.lines.specs.Lines.{lineText}
@@ -22,7 +23,8 @@ use Rattle.lines.proofs.Writing.{text-length}
 use Rattle.lines.proofs.Parts.{Partly, part-begin, part-room, part-length, part-on, part-left, part-done}
 use Rattle.placements.specs.Placements.{areGapsFrom, areGaps, loopCount}
 use Rattle.placements.proofs.GapLists.{rising-length, count-few}
-use Rattle.texts.specs.Counts.{COUNT, countsFrom, countsText, CountsSay}
+use Rattle.owners.specs.Tables.{CountsAre}
+use Rattle.texts.specs.Counts.{COUNT, countsFrom, countsText, CountsFit, CountsSay}
 
 -- a loop's count in a nest within the limits is a byte
 pub count-byte
@@ -53,6 +55,38 @@ counts-length n gs i (p ∷ ps) = go (eqb p DO) (counts-length n gs (suc i) ps)
     go true h = omega (arith, length-append line (countsFrom n gs (suc i) ps), line-length i (loopCount n gs i))
     go false h = omega arith
 
+-- there is a line for each DO, in whatever nest
+lines-alike
+    : (n m : Nest) (gs : List ℕ) (i : ℕ) (ps : List ℕ) → length (countsFrom n gs i ps) ≡ length (countsFrom m gs i ps)
+unfolding countsFrom
+lines-alike n m gs i [] = refl
+lines-alike n m gs i (p ∷ ps) = go (eqb p DO) (lines-alike n m gs (suc i) ps)
+  where
+    line : Nest → List ℕ
+    line k = lineText (COUNT ∷ (i ∷ (loopCount k gs i ∷ [])))
+
+    go
+        : (t : Bool)
+        → length (countsFrom n gs (suc i) ps) ≡ length (countsFrom m gs (suc i) ps)
+        → length (pick t (lineText (COUNT ∷ (i ∷ (loopCount n gs i ∷ [])))) [] ++ countsFrom n gs (suc i) ps)
+        ≡ length (pick t (lineText (COUNT ∷ (i ∷ (loopCount m gs i ∷ [])))) [] ++ countsFrom m gs (suc i) ps)
+    go true h =
+        omega (
+          arith,
+          length-append (line n) (countsFrom n gs (suc i) ps),
+          length-append (line m) (countsFrom m gs (suc i) ps),
+          line-length i (loopCount n gs i),
+          line-length i (loopCount m gs i),
+        )
+    go false h = h
+
+-- so where those of one nest have room, those of each with its points have
+pub counts-fit
+    : (n : Nest) (gs : List ℕ) (room : ℕ) → length (countsText n gs) ≤ room → CountsFit (n .points) gs room
+counts-fit n gs room fits m same =
+    let long = ap (λ (ps : List ℕ). length (countsFrom n gs 0 ps)) same in
+    omega (arith, lines-alike m n gs 0 (m .points))
+
 -- the counts of the loops from point d on are left
 pub restOf : Nest → List ℕ → ℕ → List ℕ
 restOf n gs d = countsFrom n gs d (drop d (n .points))
@@ -82,101 +116,86 @@ pub rest-end : (n : Nest) (gs : List ℕ) (d : ℕ) → length (n .points) ≤ d
 unfolding restOf countsFrom
 rest-end n gs d h = rw (drop-of-length-le (n .points) {i = d} h)
 
+-- the table has the counts of a placement, and the buffer has room for their lines
+pub record Given (ps gs counts o : List ℕ) : Type 0 where
+  pub few : length ps ≤ POINTS
+  pub gaps : areGapsFrom 0 (length ps) gs ≡ true
+  pub counts-are : CountsAre ps gs counts
+  pub room : CountsFit ps gs (length o)
+
 -- the lines of the loops before point d are written
-pub record Counting (ps gs o out : List ℕ) (at d : ℕ) : Type 0 where
+pub record Counting (ps counts o out : List ℕ) (place d : ℕ) : Type 0 where
   pub low : d ≤ length ps
-  pub part : (n : Nest) → n .points ≡ ps → Partly (countsText n gs) (restOf n gs d) o out at
+  pub part
+      : (gs : List ℕ) → Given ps gs counts o → (n : Nest) → n .points ≡ ps
+      → Partly (countsText n gs) (restOf n gs d) o out place
 
-pub count-begin : (ps gs o : List ℕ) → Counting ps gs o o 0 0
+pub count-begin : (ps counts o : List ℕ) → Counting ps counts o o 0 0
 unfolding restOf
-count-begin ps gs o = record { low = omega arith; part = λ n same. part-begin (countsText n gs) o }
+count-begin ps counts o = record { low = omega arith; part = λ gs y n same. part-begin (countsText n gs) o }
 
-module _
-    (ps gs o out : List ℕ)
-    (at d : ℕ)
-    (c : Counting ps gs o out at d)
-    (room : 7 * length ps ≤ length o)
-  where
+module _ (ps counts o out : List ℕ) (place d : ℕ) (c : Counting ps counts o out place d) where
+  module _ (gs : List ℕ) (y : Given ps gs counts o) where
     -- one nest with these points
     abbrev bare : Nest
     bare = nest ps []
 
-    fits : (n : Nest) → n .points ≡ ps → length (countsText n gs) ≤ length o
-    fits n same = omega (arith, counts-length n gs 0 (n .points), ap length same)
-
+    -- the buffer keeps its length, and the place and what is left lie in it
     pub count-length : length out ≡ length o
-    count-length = part-length (countsText bare gs) (restOf bare gs d) o out at (c .part bare refl) (fits bare refl)
+    count-length =
+        part-length (countsText bare gs) (restOf bare gs d) o out place (c .part gs y bare refl) (y .room bare refl)
 
-    within : length (restOf bare gs d) + at ≤ length o
+    within : length (restOf bare gs d) + place ≤ length o
     within =
-        omega (arith, part-room (countsText bare gs) (restOf bare gs d) o out at (c .part bare refl) (fits bare refl))
+        let part = c .part gs y bare refl in
+        omega (arith, part-room (countsText bare gs) (restOf bare gs d) o out place part (y .room bare refl))
 
-    pub count-within : at ≤ length o
+    pub count-within : place ≤ length o
     count-within = omega (arith, within)
 
-    pub count-skip : d < length ps → (getD ps d 0 ≡ DO → ⊥) → Counting ps gs o out at (d + 1)
-    count-skip h e =
-        record {
-          low = omega arith;
-          part =
-              λ n same.
-              part-left (countsText n gs) (restOf n gs d) o out at (c .part n same) (restOf n gs (d + 1))
-              (rest-skip n gs d (rw same h) (rw same e));
-        }
+    pub count-room : d < length ps → at ps d ≡ DO → place + 7 ≤ length o
+    count-room h e =
+        let line = lineText (COUNT ∷ (d ∷ (loopCount bare gs d ∷ []))) in
+        let long : length (restOf bare gs d) ≡ length line + length (restOf bare gs (d + 1)) =
+        ap length (rest-do bare gs d h e) ∙ length-append line (restOf bare gs (d + 1)) in
+        omega (arith, line-length d (loopCount bare gs d), within)
 
-    module _ (h : d < length ps) (e : getD ps d 0 ≡ DO) where
-      pub count-room : at + 7 ≤ length o
-      count-room =
-          let line = lineText (COUNT ∷ (d ∷ (loopCount bare gs d ∷ []))) in
-          let long : length (restOf bare gs d) ≡ length line + length (restOf bare gs (d + 1)) =
-          ap length (rest-do bare gs d h e) ∙ length-append line (restOf bare gs (d + 1)) in
-          omega (arith, line-length d (loopCount bare gs d), within)
-
-      -- the line of the loop whose DO is d, where `ones` is its count
-      pub count-on
-          : (ones r : ℕ) (q : List ℕ)
-          → length ps ≤ POINTS
-          → areGapsFrom 0 (length ps) gs ≡ true
-          → ((n : Nest) → n .points ≡ ps → ones ≡ loopCount n gs d)
-          → r ≡ length (lineText (COUNT ∷ (d % 256 ∷ (ones % 256 ∷ []))))
-          → q ≡ over (lineText (COUNT ∷ (d % 256 ∷ (ones % 256 ∷ [])))) (midOf at (length out - at) out)
-          → Counting ps gs o (putMid at (length out - at) out q) (at + r) (d + 1)
-      count-on ones r q few gaps is l w =
-          record {
-            low = omega arith;
-            part =
-                λ n same.
-                let loop : d % 256 ≡ d = omega arith in
-                let byte = count-byte n gs d (rw same few) (rw same gaps) in
-                let count : ones % 256 ≡ loopCount n gs d = omega (arith, is n same, byte) in
-                part-on
-                (countsText n gs)
-                (restOf n gs d)
-                o
-                out
-                at
-                (c .part n same)
-                (lineText (COUNT ∷ (d % 256 ∷ (ones % 256 ∷ []))))
-                (restOf n gs (d + 1))
-                q
-                r
-                (fits n same)
-                (rw (loop, count) (rest-do n gs d (rw same h) (rw same e)))
-                l
-                w;
-          }
-
-    pub count-done : length ps ≤ d → CountsSay ps gs o out at
-    count-done h =
-        record {
-          length-is = λ n same. all n same .0;
-          out-is = λ n same. all n same .1;
-        }
+    pub count-done : length ps ≤ d → CountsSay ps gs o out place
+    count-done h = record { length-is = λ n same. all n same .0; out-is = λ n same. all n same .1 }
       where
-        all
-            : (n : Nest)
-            → n .points ≡ ps
-            → (at ≡ length (countsText n gs)) × (out ≡ over (countsText n gs) o)
+        all : (n : Nest) → n .points ≡ ps → (place ≡ length (countsText n gs)) × (out ≡ over (countsText n gs) o)
         all n same =
-            part-done (countsText n gs) o out at
-            (part-left (countsText n gs) (restOf n gs d) o out at (c .part n same) [] (rest-end n gs d (rw same h)))
+            part-done (countsText n gs) o out place
+            (part-left (countsText n gs) (restOf n gs d) o out place (c .part gs y n same) []
+            (rest-end n gs d (rw same h)))
+
+  pub count-skip : d < length ps → (at ps d ≡ DO → ⊥) → Counting ps counts o out place (d + 1)
+  count-skip h e =
+      record {
+        low = omega arith;
+        part = λ gs y n same.
+            part-left (countsText n gs) (restOf n gs d) o out place (c .part gs y n same) (restOf n gs (d + 1))
+            (rest-skip n gs d (rw same h) (rw same e));
+      }
+
+  -- the line of the loop whose DO is d
+  pub count-on
+      : (q : List ℕ) (r : ℕ)
+      → d < length ps
+      → at ps d ≡ DO
+      → r ≡ length (lineText (COUNT ∷ (d % 256 ∷ (at counts d % 256 ∷ []))))
+      → q ≡ over (lineText (COUNT ∷ (d % 256 ∷ (at counts d % 256 ∷ [])))) (midOf place (length out - place) out)
+      → Counting ps counts o (putMid place (length out - place) out q) (place + r) (d + 1)
+  count-on q r h e l w = record { low = omega arith; part = next }
+    where
+      next
+          : (gs : List ℕ) → Given ps gs counts o → (n : Nest) → n .points ≡ ps
+          → Partly (countsText n gs) (restOf n gs (d + 1)) o (putMid place (length out - place) out q) (place + r)
+      next gs y n same =
+          let loop : d % 256 ≡ d = omega (arith, y .few) in
+          let byte = count-byte n gs d (rw same (y .few)) (rw same (y .gaps)) in
+          let count : at counts d % 256 ≡ loopCount n gs d =
+          omega (arith, y .counts-are n same d (omega (arith, y .few)), byte) in
+          part-on (countsText n gs) (restOf n gs d) o out place (c .part gs y n same)
+          (lineText (COUNT ∷ (d % 256 ∷ (at counts d % 256 ∷ [])))) (restOf n gs (d + 1)) q r (y .room n same)
+          (rw (loop, count) (rest-do n gs d (rw same h) (rw same e))) l w

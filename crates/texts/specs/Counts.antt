@@ -1,8 +1,8 @@
 -- The counts of a placement as text: for each loop in order of its DO a line.
--- Main definitions: `countsText`, `CountsSay`.
+-- Main definitions: `countsText`, `CountsFit`, `CountsSay`.
 use mathlib.Core.Path.{_≡_}
 use mathlib.Core.List.{List, [], _∷_, _++_}
-use Prim.Native.Nat.{ℕ, suc}
+use Prim.Native.Nat.{ℕ, suc, _≤_}
 use lib.Dec.{eqb}
 use lib.ListN.{length}
 use Rattle.laws.specs.Choice.{pick}
@@ -25,6 +25,10 @@ countsFrom n key i (p ∷ ps) =
 -- 01, "The program": for each loop in order of its DO a line 22, DO, count
 abbrev pub countsText : Nest → List ℕ → List ℕ
 countsText n key = countsFrom n key 0 (n .points)
+
+-- those of each nest with points ps have room
+abbrev pub CountsFit : List ℕ → List ℕ → ℕ → Type 0
+CountsFit ps gs room = (n : Nest) → n .points ≡ ps → length (countsText n gs) ≤ room
 
 -- the counts of the loops in each nest with points ps, over the start of the buffer, and their length
 pub record CountsSay (ps gs out out′ : List ℕ) (r : ℕ) : Type 0 where

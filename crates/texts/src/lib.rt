@@ -2,7 +2,7 @@
 ghost use mathlib.Core.Path.{_≡_};
 ghost use mathlib.Core.Bool.{true};
 ghost use mathlib.Core.List.{[]};
-ghost use Prim.Native.Nat.{_*_, _≤_};
+ghost use Prim.Native.Nat.{_≤_};
 ghost use lib.ListN.{length, take};
 ghost use Rattle.nests.specs.Kinds.{POINTS};
 ghost use Rattle.nests.specs.Loops.{HasEnds};
@@ -15,7 +15,7 @@ ghost use Rattle.lines.specs.Writing.{over};
 ghost use Rattle.placements.specs.Placements.{areGapsFrom};
 ghost use Rattle.placements.specs.Words.{GAPS, gapsIn};
 ghost use Rattle.texts.specs.PlacementTexts.{keyText};
-ghost use Rattle.texts.specs.Counts.{CountsSay};
+ghost use Rattle.texts.specs.Counts.{CountsFit, CountsSay};
 ghost use Rattle.texts.specs.Reads.{IsPlaced, UnplacedAs, BarrierFault};
 use lines::Frame;
 use lines::Read;
@@ -35,8 +35,8 @@ use nests::deeper;
 use nests::dep_fault;
 use nests::ends_of;
 use nests::is_one_loop;
+use owners::counts_of;
 use placements::Placement;
-use placements::count_of;
 
 // A nest text's reading: the number and the line of its refusal, 0 and 0 for none, and the nest.
 pub struct Reading {
@@ -449,19 +449,20 @@ pub fn write_text(p: Placement, out: &mut [u8]) -> usize
     at
 }
 
-// Writes for each loop in order of its DO a line with its count; gives the length.
+// Writes for each loop in order of its DO a line with its count, from the start of a buffer that has room for them;
+// gives the length.
 pub fn write_counts(points: &[u8], key: Placement, out: &mut [u8]) -> usize
     requires { ⌜ (isShape (now points) ≡ true) × (length (now points) ≤ GAPS) ⌝ }
     requires { ⌜ areGapsFrom 0 (length (now points)) (gapsIn (key .words)) ≡ true ⌝ }
-    requires { ⌜ 7 * length (now points) ≤ length (now out) ⌝ }
+    requires { ⌜ CountsFit (now points) (gapsIn (key .words)) (length (now out)) ⌝ }
     ensures { λ r. ⌜ CountsSay (now (points .entry)) (gapsIn (key .words)) (now (out .entry)) (now (out .exit)) r ⌝ }
 {
+    let counts = counts_of(points, key);
     let mut at: usize = 0;
     let mut d: usize = 0;
     while d < points.len() {
         if points[d] == DO {
-            let ones = count_of(points, d, key);
-            let frame = [COUNT, (d % 256) as u8, (ones % 256) as u8];
+            let frame = [COUNT, (d % 256) as u8, (counts[d] % 256) as u8];
             at += put_frame(&mut out[at..], &frame);
             d += 1;
         } else {

@@ -1,15 +1,18 @@
 -- `write_slip` meets its contract: the first line, then the counts in the rest of the buffer (`last-part`).
-use mathlib.Core.Path.{subst}
+use mathlib.Core.Path.{refl, subst}
 use Prim.Native.Nat.{ℕ, _+_, _-_, _≤_}
 use native.Mathlib.Omega.{arith}
 use lib.ListN.{length}
 use borrow.Author.Needs.{needs}
 use borrow.Rule.Slice.PartMut.{putMid}
 use Rattle.nests.specs.Stored.{nestIn}
+use Rattle.nests.proofs.Deps.{valid-is}
+use Rattle.nests.proofs.Stored.{counted-points}
 use Rattle.lines.proofs.Parts.{Partly}
 use Rattle.placements.specs.Placements.{uncut}
 use Rattle.placements.specs.Words.{gapsIn}
 use Rattle.texts.specs.Counts.{countsText}
+use Rattle.texts.proofs.Counting.{counts-fit}
 use Rattle.slips.specs.Texts.{firstText, slipText}
 use Rattle.slips.specs.Writers.{Wrote}
 use Rattle.slips.proofs.Bytes.{uncut-most}
@@ -58,12 +61,20 @@ begun c =
 within : (c : tie.After-write-first) → c .write-first .result ≤ length (c .write-first .last .1 .0)
 within c = part-within _ _ _ _ _ (begun c) (called c .pre .1 .1 .1)
 
+array-share-prefix-points : tie.Need-array-share-prefix-points
+array-share-prefix-points c =
+    let s = called (c .before .before .before) in
+    counted-points (s .args .nest) (s .pre .0)
+
+slice-aggregate-write-counts : tie.Need-slice-aggregate-write-counts
+slice-aggregate-write-counts c = called (c .before .before .before .before) .pre .0 .count-is
+
 sub-write-counts : tie.Need-sub-write-counts
-sub-write-counts c = within (c .before .before)
+sub-write-counts c = within (c .before .before .before .before)
 
 part-write-counts-start : tie.Need-part-write-counts-start
 part-write-counts-start c =
-    let z = within (c .before .before) in
+    let z = within (c .before .before .before .before) in
     search needs
 
 part-write-counts-end : tie.Need-part-write-counts-end
@@ -71,14 +82,18 @@ part-write-counts-end c = search needs
 
 write-counts-requires : tie.Need-write-counts-requires
 write-counts-requires c κs =
-    let b = c .before .before .before in
+    let b = c .before .before .before .before .before in
     let p = called b .pre in
-    (p .0, (p .1 .0, (p .1 .1 .0, rest-fits _ _ _ _ _ (begun b) (p .1 .1 .1))))
+    let n = nestIn (called b .args .nest) in
+    let v = valid-is n (p .1 .0) in (
+      (v .shape, v .few-points),
+      (p .1 .1 .0, counts-fit n (gapsIn (called b .args .placement .words)) _ (rest-fits _ _ _ _ _ (begun b) (p .1 .1 .1))),
+    )
 
 -- the whole slip
 written :
     (c : tie.After-slice-known3) →
-    let b = c .before .before .before .before .before .before in
+    let b = c .before .before .before .before .before .before .before .before in
     let a = called b .args in
     let w = b .write-first in
     let k = c .before .before .write-counts in
@@ -88,12 +103,15 @@ written :
     (putMid (w .result) (length (w .last .1 .0) - w .result) (w .last .1 .0) (k .last .1 .1 .0))
     (w .result + k .result)
 written c =
-    let b = c .before .before .before .before .before .before in
-    last-part _ _ _ _ _ (begun b) (called b .pre .1 .1 .1) _ _ (c .before .before .write-counts .ensures)
+    let b = c .before .before .before .before .before .before .before .before in
+    let k = c .before .before .write-counts in
+    let n = nestIn (called b .args .nest) in
+    last-part _ _ _ _ _ (begun b) (called b .pre .1 .1 .1) _ _
+    (record { length-is = k .ensures .length-is n refl; out-is = k .ensures .out-is n refl })
 
 add-result : tie.Need-add-result
 add-result c =
-    let fits = called (c .before .before .before .before .before .before) .pre .1 .1 .1 in
+    let fits = called (c .before .before .before .before .before .before .before .before) .pre .1 .1 .1 in
     omega (arith, written c .length-is)
 
 same-length : tie.Need-same-length
@@ -108,6 +126,8 @@ write-slip-spec =
     (tie.spec
     uncut-requires
     write-first-requires
+    array-share-prefix-points
+    slice-aggregate-write-counts
     sub-write-counts
     part-write-counts-start
     part-write-counts-end
