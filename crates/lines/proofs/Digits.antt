@@ -1,18 +1,18 @@
 -- Digits of a line and the bytes that they spell.
--- Main statements: `hex-at`, `frame-length`, `frame-at`, `frame-past`, `digits-are`, `digits-parts`.
+-- Main statements: `hex-bit`, `hex-at`, `frame-length`, `frame-at`, `frame-past`, `digits-are`, `digits-parts`.
 use mathlib.Core.Path.{_≡_, refl, sym}
-use mathlib.Core.Bool.{Bool, true, false, _&&_}
+use mathlib.Core.Bool.{Bool, true, false, _&&_, not}
 use mathlib.Core.List.{List, [], _∷_}
 use mathlib.Core.Logic.{⊎-elim}
-use Prim.Native.Nat.{ℕ, zero, suc, _+_, _-_, _*_, _/_, _%_, _≤_, _<_}
-use native.Mathlib.Numerals.{add-one}
+use Prim.Native.Nat.{ℕ, zero, suc, _+_, _-_, _*_, _/_, _%_, _^_, _≤_, _<_}
 use native.Mathlib.Omega.{arith}
 use lib.Dec.{eqb, leb}
-use lib.ListN.{length, getD, drop, drop-of-length-le, List·getD-eq-default}
-use lib.Seq.{drop-cons}
-use borrow.Author.Tests.{le-leb, lt-leb, leb-true, eq-eqb, ne-eqb, eqb-true}
-use Rattle.laws.specs.Choice.{between}
-use Rattle.laws.proofs.Tests.{and-true, or-true}
+use lib.ListN.{length, getD, List·getD-eq-default}
+use borrow.Author.Tests.{le-leb, lt-leb, leb-true, eqb-true}
+use Rattle.laws.specs.Choice.{pick, between}
+use Rattle.laws.proofs.Connectives.{and-off}
+use Rattle.laws.proofs.Members.{every-below}
+use Rattle.laws.proofs.Tests.{and-true, or-true, never}
 use Rattle.lines.specs.Lines.{isHex, valueOf, allHex, isDigits, frameOf}
 
 -- a digit by its byte
@@ -21,19 +21,25 @@ hex-low b h =
     let z : b < 97 = omega arith in
     rw (lt-leb 48 b h, lt-leb 97 b z)
 
-pub hex-number : (b : ℕ) → 48 ≤ b → b ≤ 57 → isHex b ≡ true
-hex-number b h k = rw (le-leb 48 b h, le-leb b 57 k)
+pub hex-high : (b : ℕ) → 102 < b → isHex b ≡ false
+hex-high b h =
+    let z : 57 < b = omega arith in
+    rw (lt-leb b 57 z, and-off (leb 48 b), lt-leb b 102 h) (and-off (leb 97 b))
 
-pub hex-gap : (b : ℕ) → 57 < b → b < 97 → isHex b ≡ false
-hex-gap b h k =
-    let z : 48 ≤ b = omega arith in
-    rw (le-leb 48 b z, lt-leb b 57 h, lt-leb 97 b k)
+-- the digits as bits of a word: each of the 64 is looked at
+abbrev pub DIGITS : ℕ
+DIGITS = 35465847065543679
 
-pub hex-letter : (b : ℕ) → 97 ≤ b → isHex b ≡ leb b 102
-hex-letter b h =
-    let z : 48 ≤ b = omega arith in
-    let y : 57 < b = omega arith in
-    rw (le-leb 48 b z, lt-leb b 57 y, le-leb 97 b h)
+abbrev agrees : ℕ → Bool
+agrees k = pick (eqb (DIGITS / 2 ^ k % 2) 1) (isHex (48 + k)) (not (isHex (48 + k)))
+
+pub hex-bit : (k : ℕ) → k < 64 → eqb (DIGITS / 2 ^ k % 2) 1 ≡ isHex (48 + k)
+hex-bit k l = go (eqb (DIGITS / 2 ^ k % 2) 1) (isHex (48 + k)) (every-below agrees 64 refl k l)
+  where
+    go : (t u : Bool) → pick t u (not u) ≡ true → t ≡ u
+    go true u h = sym h
+    go false true h = never h
+    go false false h = refl
 
 -- the byte of a digit: a number or a letter
 pub number-from : (b : ℕ) → isHex b ≡ true → 48 ≤ b
@@ -66,19 +72,6 @@ hex-at [] i h k = absurd (omega arith)
 hex-at (b ∷ l) zero h k = and-true (isHex b) (allHex l) h .0
 hex-at (b ∷ l) (suc i) h k = hex-at l i (and-true (isHex b) (allHex l) h .1) (omega arith)
 
-pub hex-on
-    : (l : List ℕ) (i : ℕ)
-    → i < length l
-    → isHex (getD l i 0) ≡ true
-    → allHex (drop i l) ≡ allHex (drop (i + 1) l)
-hex-on l i h k = rw (add-one, drop-cons l i 0 h) (rw (k, allHex))
-
-pub hex-stop : (l : List ℕ) (i : ℕ) → i < length l → isHex (getD l i 0) ≡ false → allHex (drop i l) ≡ false
-hex-stop l i h k = rw (drop-cons l i 0 h) (rw (k, allHex))
-
-pub hex-past : (l : List ℕ) (i : ℕ) → length l ≤ i → allHex (drop i l) ≡ true
-hex-past l i h = rw (drop-of-length-le l h)
-
 -- the frame that a line spells
 pub frame-length : (l : List ℕ) → length (frameOf l) ≡ length l / 2
 unfolding frameOf
@@ -108,17 +101,14 @@ pub digits-none : (l : List ℕ) → length l ≡ 0 → isDigits l ≡ false
 digits-none [] h = refl
 digits-none (b ∷ l) h = absurd (omega arith)
 
-pub digits-odd : (l : List ℕ) → (length l % 2 ≡ 0 → ⊥) → isDigits l ≡ false
-digits-odd l h = go (leb 1 (length l))
-  where
-    go : (t : Bool) → (t && (eqb (length l % 2) 0 && allHex l)) ≡ false
-    go true = rw (ne-eqb (length l % 2) 0 h)
-    go false = refl
-
-pub digits-are : (l : List ℕ) → (length l ≡ 0 → ⊥) → length l % 2 ≡ 0 → isDigits l ≡ allHex l
+pub digits-are : (l : List ℕ) → (length l ≡ 0 → ⊥) → allHex l ≡ true → eqb (length l % 2) 0 ≡ isDigits l
 digits-are l h k =
     let z : 1 ≤ length l = omega arith in
-    rw (le-leb 1 (length l) z, eq-eqb (length l % 2) 0 k)
+    rw (le-leb 1 (length l) z, k) (go (eqb (length l % 2) 0))
+  where
+    go : (t : Bool) → t ≡ (t && true)
+    go true = refl
+    go false = refl
 
 -- the parts of the test
 pub record Digits (l : List ℕ) : Type 0 where

@@ -4,20 +4,20 @@ use mathlib.Core.Path.{_≡_, refl, sym, _∙_, ap}
 use mathlib.Core.Bool.{Bool, true, false, _||_}
 use mathlib.Core.List.{List, [], _∷_}
 use mathlib.Core.Logic.{⊎-elim}
-use Prim.Native.Nat.{ℕ, suc, _+_, _-_, _/_, _≤_, _<_}
+use Prim.Native.Nat.{ℕ, suc, _+_, _-_, _/_, _%_, _≤_, _<_}
 use native.Mathlib.Numerals.{add-one}
 use native.Mathlib.Omega.{arith}
-use lib.Dec.{eqb, ltb, leb·suc-suc}
+use lib.Dec.{eqb, leb, ltb, leb·suc-suc}
 use lib.ListN.{length, getD, take, drop, length-drop, drop-of-length-le}
-use lib.Seq.{drop-cons, drop-drop}
+use lib.Seq.{drop-cons, drop-drop, getD-drop}
 use borrow.Author.Tests.{eq-eqb, ne-eqb, lt-ltb, le-ltb, ltb-true}
 use Rattle.laws.specs.Choice.{pick}
 use Rattle.laws.proofs.Tests.{le-or, and-true}
 use Rattle.laws.proofs.Connectives.{and-off}
 use Rattle.lines.specs.declared.Frame.{Frame}
 use Rattle.lines.specs.declared.Read.the-variants as RV
-use Rattle.lines.specs.Lines.{FEED, Line, line, push, linesOf, isGood, isDigits, frameOf}
-use Rattle.lines.specs.Reading.{takeLine, hasFeed, frame, IsFrame, answerOf, lineAt}
+use Rattle.lines.specs.Lines.{FEED, Line, line, push, linesOf, isHex, allHex, isGood, isDigits, frameOf}
+use Rattle.lines.specs.Reading.{takeLine, takeDigits, hasFeed, frame, IsFrame, answerOf, lineAt}
 use Rattle.lines.proofs.Digits.{digits-parts, frame-length}
 
 -- the lines of a text without its first
@@ -56,25 +56,16 @@ lines-first (b ∷ s) h = go (eqb b FEED) (push-first b s)
     go true e = refl
     go false e = e
 
--- the first line is a front of the text, whole if no 0a ends it
-pub line-front : (s : List ℕ) → takeLine s ≡ take (length (takeLine s)) s
-unfolding takeLine
-line-front [] = refl
-line-front (b ∷ s) = go (eqb b FEED) (line-front s)
+-- the digits are a front of the text
+digits-front : (s : List ℕ) → takeDigits s ≡ take (length (takeDigits s)) s
+unfolding takeDigits
+digits-front [] = refl
+digits-front (b ∷ s) = go (isHex b) (digits-front s)
   where
-    go : (t : Bool) → takeLine s ≡ take (length (takeLine s)) s
-        → pick t [] (b ∷ takeLine s) ≡ take (length (pick t [] (b ∷ takeLine s))) (b ∷ s)
-    go true e = refl
-    go false e = ap (λ (l : List ℕ). b ∷ l) e
-
-pub line-inside : (s : List ℕ) → length (takeLine s) ≤ length s
-unfolding takeLine
-line-inside [] = omega arith
-line-inside (b ∷ s) = go (eqb b FEED) (line-inside s)
-  where
-    go : (t : Bool) → length (takeLine s) ≤ length s → length (pick t [] (b ∷ takeLine s)) ≤ suc (length s)
-    go true e = omega arith
-    go false e = omega arith
+    go : (t : Bool) → takeDigits s ≡ take (length (takeDigits s)) s
+        → pick t (b ∷ takeDigits s) [] ≡ take (length (pick t (b ∷ takeDigits s) [])) (b ∷ s)
+    go true e = ap (λ (l : List ℕ). b ∷ l) e
+    go false e = refl
 
 pub feed-inside : (s : List ℕ) → hasFeed s ≡ ltb (length (takeLine s)) (length s)
 unfolding takeLine hasFeed
@@ -88,65 +79,144 @@ feed-inside (b ∷ s) = go (eqb b FEED) (feed-inside s)
     go true e = sym (lt-ltb 0 (suc (length s)) (omega arith))
     go false e = e ∙ sym (leb·suc-suc (suc (length (takeLine s))) (length s))
 
--- the end of a line, looked for byte by byte
+-- the end of the digits, looked for byte by byte
 pub end-on
     : (s : List ℕ) (i : ℕ)
     → i < length s
-    → (getD s i 0 ≡ FEED → ⊥)
-    → i + 1 + length (takeLine (drop (i + 1) s)) ≡ i + length (takeLine (drop i s))
-unfolding takeLine
-end-on s i h e = rw (add-one, drop-cons s i 0 h) (rw (ne-eqb (getD s i 0) FEED e, takeLine) (omega arith))
+    → isHex (getD s i 0) ≡ true
+    → i + 1 + length (takeDigits (drop (i + 1) s)) ≡ i + length (takeDigits (drop i s))
+unfolding takeDigits
+end-on s i h e = rw (add-one, drop-cons s i 0 h) (rw (e, takeDigits) (omega arith))
 
-pub end-here : (s : List ℕ) (i : ℕ) → i < length s → getD s i 0 ≡ FEED → length (takeLine (drop i s)) ≡ 0
-unfolding takeLine
-end-here s i h e = rw (drop-cons s i 0 h) (rw (eq-eqb (getD s i 0) FEED e, takeLine))
+pub end-here
+    : (s : List ℕ) (i : ℕ) → i < length s → isHex (getD s i 0) ≡ false → length (takeDigits (drop i s)) ≡ 0
+unfolding takeDigits
+end-here s i h e = rw (drop-cons s i 0 h) (rw (e, takeDigits))
 
-pub end-past : (s : List ℕ) (i : ℕ) → length s ≤ i → length (takeLine (drop i s)) ≡ 0
-unfolding takeLine
+pub end-past : (s : List ℕ) (i : ℕ) → length s ≤ i → length (takeDigits (drop i s)) ≡ 0
+unfolding takeDigits
 end-past s i h = rw (drop-of-length-le s h)
+
+-- an 0a is no digit
+digit-on : (b : ℕ) → isHex b ≡ true → b ≡ FEED → ⊥
+digit-on b h e = let z : _≡_ {A = ℕ} 0 1 = cc (ap isHex e, h) in absurd (omega arith)
+
+all-digits : (s : List ℕ) → allHex (takeDigits s) ≡ true
+unfolding takeDigits
+all-digits [] = refl
+all-digits (b ∷ s) = go (isHex b) refl (all-digits s)
+  where
+    go : (t : Bool) → isHex b ≡ t → allHex (takeDigits s) ≡ true → allHex (pick t (b ∷ takeDigits s) []) ≡ true
+    go true h e = rw (h, e)
+    go false h e = refl
+
+-- where the digits run up to an 0a or to the end of the text, they are the first line
+digits-line
+    : (s : List ℕ)
+    → (length (takeDigits s) < length s → getD s (length (takeDigits s)) 0 ≡ FEED)
+    → takeLine s ≡ takeDigits s
+unfolding takeLine takeDigits
+digits-line [] f = refl
+digits-line (b ∷ s) f = go (isHex b) refl f (digits-line s)
+  where
+    go
+        : (t : Bool)
+        → isHex b ≡ t
+        → (length (pick t (b ∷ takeDigits s) []) < suc (length s)
+        → getD (b ∷ s) (length (pick t (b ∷ takeDigits s) [])) 0 ≡ FEED)
+        → ((length (takeDigits s) < length s → getD s (length (takeDigits s)) 0 ≡ FEED) → takeLine s ≡ takeDigits s)
+        → pick (eqb b FEED) [] (b ∷ takeLine s) ≡ pick t (b ∷ takeDigits s) []
+    go true h g e = rw (ne-eqb b FEED (digit-on b h), e (λ l. g (omega arith)))
+    go false h g e = rw (eq-eqb b FEED (g (omega arith)))
+
+-- where they run up to another byte, that byte is part of the line
+other-byte
+    : (s : List ℕ)
+    → length (takeDigits s) < length s
+    → (getD s (length (takeDigits s)) 0 ≡ FEED → ⊥)
+    → allHex (takeLine s) ≡ false
+unfolding takeLine takeDigits
+other-byte [] l f = absurd (omega arith)
+other-byte (b ∷ s) l f = go (isHex b) refl l f (other-byte s)
+  where
+    go
+        : (t : Bool)
+        → isHex b ≡ t
+        → length (pick t (b ∷ takeDigits s) []) < suc (length s)
+        → (getD (b ∷ s) (length (pick t (b ∷ takeDigits s) [])) 0 ≡ FEED → ⊥)
+        → (length (takeDigits s) < length s → (getD s (length (takeDigits s)) 0 ≡ FEED → ⊥)
+        → allHex (takeLine s) ≡ false)
+        → allHex (pick (eqb b FEED) [] (b ∷ takeLine s)) ≡ false
+    go true h l g e = rw (ne-eqb b FEED (digit-on b h)) (rw (h, e (omega arith) g))
+    go false h l g e = rw (ne-eqb b FEED g) (rw h)
 
 -- the reader's answer past the end of the text
 pub past-end : (s : List ℕ) (at : ℕ) → length s ≤ at → RV.End ≡ lineAt s at
 unfolding lineAt linesOf
 past-end s at h = rw (drop-of-length-le s h)
 
--- the reader's answer at a place in the text, for a line that ends at e
-module _ (s : List ℕ) (at e : ℕ) (inside : at < length s) (ends : e ≡ at + length (takeLine (drop at s))) where
-  line-is : takeLine (drop at s) ≡ take (e - at) (drop at s)
-  line-is =
-      let z : e - at ≡ length (takeLine (drop at s)) = omega arith in
-      rw z (line-front (drop at s))
+-- the reader's answer at a place in the text
+answer-is
+    : (s : List ℕ) (at : ℕ)
+    → at < length s
+    → lineAt s at ≡ answerOf at (line (takeLine (drop at s)) (hasFeed (drop at s)) ∷ restOf (drop at s))
+unfolding lineAt restOf
+answer-is s at inside = ap (answerOf at) (lines-first (drop at s) (omega (arith, length-drop at s)))
 
+-- where its digits end at e
+module _ (s : List ℕ) (at e : ℕ) (inside : at < length s) (ends : e ≡ at + length (takeDigits (drop at s))) where
   abbrev rest : List ℕ
   rest = drop at s
 
-  answer-is : lineAt s at ≡ answerOf at (line (takeLine rest) (hasFeed rest) ∷ restOf rest)
-  unfolding lineAt restOf
-  answer-is = ap (answerOf at) (lines-first (drop at s) (omega (arith, length-drop at s)))
+  front-is : takeDigits (drop at s) ≡ take (e - at) (drop at s)
+  front-is =
+      let z : e - at ≡ length (takeDigits (drop at s)) = omega arith in
+      rw z (digits-front (drop at s))
+
+  pub front-hex : allHex (take (e - at) (drop at s)) ≡ true
+  front-hex = rw (← front-is) (all-digits (drop at s))
 
   pub unended : length s ≤ e → RV.Refused 1 ≡ lineAt s at
   unended h =
-      let short : length rest ≤ length (takeLine rest) = omega (arith, length-drop at s) in
+      let whole = digits-line rest (λ l. absurd (omega (arith, length-drop at s))) in
+      let short : length rest ≤ length (takeLine rest) = omega (arith, ap length whole, length-drop at s) in
       let none : hasFeed rest ≡ false = feed-inside rest ∙ le-ltb (length (takeLine rest)) (length rest) short in
-      rw (answer-is, none, and-off (isDigits (takeLine rest)))
+      rw (answer-is s at inside, none, and-off (isDigits (takeLine rest)))
 
-  pub not-digits : isDigits (take (e - at) rest) ≡ false → RV.Refused 1 ≡ lineAt s at
-  not-digits h = rw (answer-is, line-is, h)
+  module _ (more : e < length s) where
+    byte-is : getD (drop at s) (length (takeDigits (drop at s))) 0 ≡ getD s e 0
+    byte-is = getD-drop at s (length (takeDigits (drop at s))) 0 ∙ ap (λ (i : ℕ). getD s i 0) (sym ends)
 
-  pub is-frame
-      : (k a b c : ℕ)
-      → e < length s
-      → isDigits (take (e - at) (drop at s)) ≡ true
-      → k ≡ getD (frameOf (take (e - at) (drop at s))) 0 0
-      → a ≡ getD (frameOf (take (e - at) (drop at s))) 1 0
-      → b ≡ getD (frameOf (take (e - at) (drop at s))) 2 0
-      → c ≡ getD (frameOf (take (e - at) (drop at s))) 3 0
-      → RV.Frame (record { kind = k; len = length (take (e - at) (drop at s)) / 2; a = a; b = b; c = c; next = e + 1 })
-      ≡ lineAt s at
-  is-frame k a b c h d ek ea eb ec =
-      let long : length (takeLine rest) < length rest = omega (arith, length-drop at s) in
-      let fed : hasFeed rest ≡ true = feed-inside rest ∙ lt-ltb (length (takeLine rest)) (length rest) long in
-      rw (answer-is, fed, ← ends, line-is, d, ← frame-length (take (e - at) rest), ek, ea, eb, ec)
+    -- another byte behind the digits
+    pub other-behind : (getD s e 0 ≡ FEED → ⊥) → RV.Refused 1 ≡ lineAt s at
+    other-behind f =
+        let bad : allHex (takeLine rest) ≡ false =
+        other-byte rest (omega (arith, length-drop at s)) (λ z. f (sym byte-is ∙ z)) in
+        let off : isDigits (takeLine rest) ≡ false =
+        rw (bad, and-off (eqb (length (takeLine rest) % 2) 0)) (and-off (leb 1 (length (takeLine rest)))) in
+        rw (answer-is s at inside, off)
+
+    module _ (feed : getD s e 0 ≡ FEED) where
+      line-is : takeLine (drop at s) ≡ take (e - at) (drop at s)
+      line-is = digits-line (drop at s) (λ l. byte-is ∙ feed) ∙ front-is
+
+      pub not-digits : isDigits (take (e - at) (drop at s)) ≡ false → RV.Refused 1 ≡ lineAt s at
+      not-digits h = rw (answer-is s at inside, line-is, h)
+
+      pub is-frame
+          : (k a b c : ℕ)
+          → isDigits (take (e - at) (drop at s)) ≡ true
+          → k ≡ getD (frameOf (take (e - at) (drop at s))) 0 0
+          → a ≡ getD (frameOf (take (e - at) (drop at s))) 1 0
+          → b ≡ getD (frameOf (take (e - at) (drop at s))) 2 0
+          → c ≡ getD (frameOf (take (e - at) (drop at s))) 3 0
+          → RV.Frame (record { kind = k; len = length (take (e - at) (drop at s)) / 2; a = a; b = b; c = c; next = e + 1 })
+          ≡ lineAt s at
+      is-frame k a b c d ek ea eb ec =
+          let ended : e ≡ at + length (takeLine rest) = omega (arith, ap length line-is, ap length front-is) in
+          let long : length (takeLine rest) < length rest = omega (arith, length-drop at s) in
+          let fed : hasFeed rest ≡ true = feed-inside rest ∙ lt-ltb (length (takeLine rest)) (length rest) long in
+          rw (answer-is s at inside, fed, ← ended, line-is, d, ← frame-length (take (e - at) rest), ek, ea, eb, ec)
 
 -- what a refusal tells a caller: the line at the place is not good
 pub record Bad-line (s : List ℕ) (at n : ℕ) : Type 0 where
@@ -240,7 +310,7 @@ good-line s at f h = ⊎-elim (λ (z : length s ≤ at). past z) (λ (z : at < l
         absurd (omega arith)
 
     here : at < length s → Good-line s at f
-    here z = at-test (isGood first) refl (sym (answer-is s at (at + length (takeLine (drop at s))) z refl) ∙ h)
+    here z = at-test (isGood first) refl (sym (answer-is s at z) ∙ h)
       where
         first : Line
         first = line (takeLine (drop at s)) (hasFeed (drop at s))

@@ -1,5 +1,5 @@
 -- One line at a place of a text: what the line reader answers.
--- Main definitions: `takeLine`, `hasFeed`, `frame`, `IsFrame`, `lineAt`.
+-- Main definitions: `takeLine`, `takeDigits`, `hasFeed`, `frame`, `IsFrame`, `lineAt`.
 use mathlib.Core.Path.{_≡_}
 use mathlib.Core.Bool.{Bool, false, _||_}
 use mathlib.Core.List.{List, [], _∷_}
@@ -10,12 +10,17 @@ use Rattle.laws.specs.Choice.{pick}
 use Rattle.lines.specs.declared.Frame.{Frame}
 use Rattle.lines.specs.declared.Read.{Read}
 use Rattle.lines.specs.declared.Read.the-variants as RV
-use Rattle.lines.specs.Lines.{FEED, Line, linesOf, isGood, frameOf}
+use Rattle.lines.specs.Lines.{FEED, Line, linesOf, isHex, isGood, frameOf}
 
 -- the bytes of a text before its first 0a
 unfoldable pub takeLine : List ℕ → List ℕ
 takeLine [] = []
 takeLine (b ∷ s) = pick (eqb b FEED) [] (b ∷ takeLine s)
+
+-- the digits at the start of a text
+unfoldable pub takeDigits : List ℕ → List ℕ
+takeDigits [] = []
+takeDigits (b ∷ s) = pick (isHex b) (b ∷ takeDigits s) []
 
 -- a text has an 0a
 unfoldable pub hasFeed : List ℕ → Bool

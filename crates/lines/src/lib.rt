@@ -4,7 +4,7 @@ ghost use mathlib.Core.Bool.{true};
 ghost use Prim.Native.Nat.{_+_, _≤_, _<_};
 ghost use lib.ListN.{length, getD, drop};
 ghost use Rattle.lines.specs.Lines.{isHex, valueOf, allHex, isDigits, frameOf, digitOf, lineText};
-ghost use Rattle.lines.specs.Reading.{takeLine, lineAt};
+ghost use Rattle.lines.specs.Reading.{takeDigits, lineAt};
 ghost use Rattle.lines.specs.Writing.{over};
 
 // A frame's first bytes, how many it has, and where the next line starts.
@@ -32,6 +32,9 @@ const NUMBERS: u8 = b'0';
 
 const LETTERS: u8 = 87;
 
+// The digits among the 64 bytes from the numbers on, as bits: 0 to 9, and 49 to 54 for the letters.
+const DIGITS: u64 = 35465847065543679;
+
 // Reads the line that starts at a place of a text.
 pub fn read_line(text: &[u8], at: usize) -> Read
     ensures { λ r. ⌜ r ≡ lineAt (now (text .entry)) at ⌝ }
@@ -39,12 +42,15 @@ pub fn read_line(text: &[u8], at: usize) -> Read
     if at >= text.len() {
         return Read::End;
     }
-    let end = line_end(text, at);
+    let end = digits_end(text, at);
     if end >= text.len() {
         return Read::Refused(1);
     }
+    if text[end] != FEED {
+        return Read::Refused(1);
+    }
     let line = &text[at..end];
-    if is_digits(line) {
+    if is_whole(line) {
         Read::Frame(Frame {
             kind: byte_at(line, 0),
             len: line.len() / 2,
@@ -75,47 +81,31 @@ pub fn put_frame(out: &mut [u8], frame: &[u8]) -> usize
     2 * i + 1
 }
 
-// Where the line that starts at a place ends: at its 0a, or at the end of the text.
-fn line_end(text: &[u8], at: usize) -> usize
+// Where the digits that start at a place end: at the first other byte, or at the end of the text.
+fn digits_end(text: &[u8], at: usize) -> usize
     requires { ⌜ at ≤ length (now text) ⌝ }
-    ensures { λ r. ⌜ r ≡ at + length (takeLine (drop at (now (text .entry)))) ⌝ }
+    ensures { λ r. ⌜ r ≡ at + length (takeDigits (drop at (now (text .entry)))) ⌝ }
 {
     let mut i = at;
     while i < text.len() {
-        if text[i] == FEED {
+        if is_hex(text[i]) {
+            i += 1;
+        } else {
             return i;
         }
-        i += 1;
     }
     i
 }
 
-// A line is an even, nonzero number of digits.
-fn is_digits(line: &[u8]) -> bool
+// The digits are those of whole bytes, and there are some.
+fn is_whole(line: &[u8]) -> bool
+    requires { ⌜ allHex (now line) ≡ true ⌝ }
     ensures { λ r. ⌜ r ≡ isDigits (now (line .entry)) ⌝ }
 {
     if line.len() == 0 {
         return false;
     }
-    if line.len() % 2 != 0 {
-        return false;
-    }
-    all_hex(line)
-}
-
-// Each byte of a line is a digit.
-fn all_hex(line: &[u8]) -> bool
-    ensures { λ r. ⌜ r ≡ allHex (now (line .entry)) ⌝ }
-{
-    let mut i = 0;
-    while i < line.len() {
-        if is_hex(line[i]) {
-            i += 1;
-        } else {
-            return false;
-        }
-    }
-    true
+    line.len() % 2 == 0
 }
 
 // A byte is one of the digits 0-9 a-f.
@@ -125,13 +115,10 @@ fn is_hex(b: u8) -> bool
     if b < b'0' {
         return false;
     }
-    if b <= b'9' {
-        return true;
+    if b <= b'o' {
+        return (DIGITS >> (b - b'0')) & 1 == 1;
     }
-    if b < b'a' {
-        return false;
-    }
-    b <= b'f'
+    false
 }
 
 // The byte of a frame at an index, 0 past its end.

@@ -1,7 +1,7 @@
 -- The pass over the dependences, from the last to the first: those passed are in the tables.
 -- Main definition: `Collecting`, what a turn keeps. Main statements: `collect-none`, `collect-start`, `collect-on`,
 -- `collect-done`.
-use mathlib.Core.Path.{_≡_, refl}
+use mathlib.Core.Path.{_≡_}
 use mathlib.Core.Bool.{true}
 use mathlib.Core.List.{List, [], _∷_}
 use Prim.Native.Nat.{ℕ, zero, suc, _-_, _≤_, _<_}

@@ -2,7 +2,7 @@
 use nests::Dependence;
 use nests::Nest;
 ghost use mathlib.Core.Path.{_≡_};
-ghost use Prim.Native.Nat.{ℕ, suc, _+_, _<_, _≤_, min};
+ghost use Prim.Native.Nat.{suc, _+_, _<_, _≤_, min};
 ghost use lib.ListN.{length, set};
 ghost use Rattle.laws.specs.Entries.{at};
 ghost use Rattle.nests.specs.Kinds.{POINTS};
