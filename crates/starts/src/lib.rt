@@ -116,7 +116,7 @@ fn events(
             a = events_child(need, left, kids, d, l, before, a, cs, fs, link);
             p = l;
         } else {
-            a = sweeps::last_near(need, p, d, sweeps::smaller(a, before));
+            a = sweeps::last_need(need, p, d, sweeps::smaller(a, before));
             cs[p] = 1;
             fs[p] = p;
             link[p] = a;
@@ -147,7 +147,7 @@ fn events_child(
     let mut x = p + 1;
     while l < x {
         let v = event(left, kids, p, x, outer);
-        a = sweeps::last_near(need, x, d, a);
+        a = sweeps::last_need(need, x, d, a);
         cs[x] = v.c;
         fs[x] = v.f;
         link[x] = a;

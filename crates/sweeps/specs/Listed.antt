@@ -1,19 +1,15 @@
 -- The planner's definitions at loops and tables that are lists: what the code's arrays mean.
--- Main definitions: `Passes`, `listed`, `tabled`, `Stepped`, `sweepOf`, `SweepRoom`.
+-- Main definitions: `listed`, `tabled`, `Stepped`, `sweepOf`, `SweepRoom`.
 use mathlib.Core.Path.{_≡_}
-use mathlib.Core.Bool.{Bool, true}
+use mathlib.Core.Bool.{Bool}
 use mathlib.Core.List.{List}
-use Prim.Native.Nat.{ℕ, suc, _+_, _-_, _≤_, _<_}
+use Prim.Native.Nat.{ℕ, suc, _+_, _≤_, _<_}
 use lib.Dec.{ltb}
 use lib.ListN.{length, getD}
 use Rattle.laws.specs.Choice.{pick}
 use Rattle.laws.specs.Entries.{at}
 use Rattle.nests.specs.Loops.{isDo, isEnd}
-use Rattle.planner.specs.Sweep.{Loops, Tables, State, st, only, also, seek, stepChild, sweep}
-
--- where r is true, no line that starts at the k gaps up to a ends before f: a search from a passes them
-abbrev pub Passes : List ℕ → ℕ → ℕ → ℕ → Bool → Type 0
-Passes need f k a r = r ≡ true → (low : ℕ) → low + k ≤ a → seek (at need) f low (a - k) ≡ seek (at need) f low a
+use Rattle.planner.specs.Sweep.{Loops, Tables, State, st, only, also, stepChild, sweep}
 
 -- one loop that ends at e: points, and the loop of each ENDDO
 abbrev pub listed : List ℕ → List ℕ → ℕ → Loops

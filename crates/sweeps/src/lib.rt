@@ -5,7 +5,7 @@ ghost use lib.ListN.{length};
 ghost use Rattle.laws.specs.Choice.{firstOf};
 ghost use Rattle.laws.specs.Entries.{at};
 ghost use Rattle.planner.specs.Sweep.{seek};
-ghost use Rattle.sweeps.specs.Listed.{Passes, Stepped};
+ghost use Rattle.sweeps.specs.Listed.{Stepped};
 
 // The front after a step over a child, and the bound that the child was asked with.
 pub struct Step {
@@ -72,25 +72,8 @@ pub fn smaller(a: usize, b: usize) -> usize
     if b < a { b } else { a }
 }
 
-// The last gap of low + 1 to p at which a line starts that ends before f, 0 for none. Eight gaps at a time.
+// The last gap of low + 1 to p at which a line starts that ends before f, 0 for none.
 pub fn last_need(need: &[usize], f: usize, low: usize, p: usize) -> usize
-    requires { ⌜ p < length (now need) ⌝ }
-    requires { ⌜ low ≤ p ⌝ }
-    ensures { λ r. ⌜ r ≡ seek (at (now (need .entry))) f low p ⌝ }
-{
-    let mut a = p;
-    while low + 7 < a {
-        if late_8(need, f, a) {
-            a -= 8;
-        } else {
-            return last_near(need, f, low, a);
-        }
-    }
-    last_near(need, f, low, a)
-}
-
-// The same, one gap at a time.
-pub fn last_near(need: &[usize], f: usize, low: usize, p: usize) -> usize
     requires { ⌜ p < length (now need) ⌝ }
     ensures { λ r. ⌜ r ≡ seek (at (now (need .entry))) f low p ⌝ }
 {
@@ -102,40 +85,4 @@ pub fn last_near(need: &[usize], f: usize, low: usize, p: usize) -> usize
         a -= 1;
     }
     0
-}
-
-// Whether the lines that start at the 8 gaps up to a all end at f or later.
-fn late_8(need: &[usize], f: usize, a: usize) -> bool
-    requires { ⌜ a < length (now need) ⌝ }
-    requires { ⌜ 8 ≤ a ⌝ }
-    ensures { λ r. ⌜ Passes (now (need .entry)) f 8 a r ⌝ }
-{
-    if late_4(need, f, a) {
-        return late_4(need, f, a - 4);
-    }
-    false
-}
-
-// Whether those at the 4 gaps up to a do.
-fn late_4(need: &[usize], f: usize, a: usize) -> bool
-    requires { ⌜ a < length (now need) ⌝ }
-    requires { ⌜ 4 ≤ a ⌝ }
-    ensures { λ r. ⌜ Passes (now (need .entry)) f 4 a r ⌝ }
-{
-    if late_2(need, f, a) {
-        return late_2(need, f, a - 2);
-    }
-    false
-}
-
-// Whether those at a and the gap before it do.
-fn late_2(need: &[usize], f: usize, a: usize) -> bool
-    requires { ⌜ a < length (now need) ⌝ }
-    requires { ⌜ 2 ≤ a ⌝ }
-    ensures { λ r. ⌜ Passes (now (need .entry)) f 2 a r ⌝ }
-{
-    if f <= need[a] {
-        return f <= need[a - 1];
-    }
-    false
 }

@@ -83,8 +83,8 @@ loop-again c =
 smaller-requires : tie.Need-smaller-requires Inv-loop μ-loop
 smaller-requires c κs = search needs
 
-last-near-requires : tie.Need-last-near-requires Inv-loop μ-loop
-last-near-requires c κs =
+last-need-requires : tie.Need-last-need-requires Inv-loop μ-loop
+last-need-requires c κs =
     let b4 = c .before .before .before .before in
     let b12 = b4 .before .before .before .before .before .before .before .before in
     omega (arith, c .smaller .ensures, b12 .pre .0 .sweep-room .need-room, b4 .loop .inv .bound)
@@ -121,10 +121,10 @@ loop-again-2 c =
     let l = b5 .loop in
     eventing-plain (i .points .now) (i .own .now) (i .need .now) (i .left .now) (i .kids) (i .d) (i .e) (r .1 .0)
     (r .0 .sweep-room .own-low)
-    (i .cs .now) (i .fs .now) (i .link .now) (l .cs) (l .fs) (l .link) (l .a) (l .p) (c .last-near .result)
+    (i .cs .now) (i .fs .now) (i .link .now) (l .cs) (l .fs) (l .link) (l .a) (l .p) (c .last-need .result)
     (omega (arith, b4 .loop-test)) (omega (arith, r .0 .cs-room)) (omega (arith, r .0 .fs-room))
     (omega (arith, r .0 .link-room))
-    (c .before .before .if1 .left) (rw (c .before .smaller .ensures) at (c .last-near .ensures)) (l .inv)
+    (c .before .before .if1 .left) (rw (c .before .smaller .ensures) at (c .last-need .ensures)) (l .inv)
 
 same-length : tie.Need-same-length Inv-loop μ-loop
 same-length c = c .before .loop .inv .cs-length
@@ -159,7 +159,7 @@ events-spec =
     loop-less
     loop-again
     smaller-requires
-    last-near-requires
+    last-need-requires
     mul-cs
     slice-write-cs
     mul-fs

@@ -57,8 +57,8 @@ loop-holds c =
 event-requires : tie.Need-event-requires Inv-loop μ-loop
 event-requires c κs = omega arith
 
-last-near-requires : tie.Need-last-near-requires Inv-loop μ-loop
-last-near-requires c κs =
+last-need-requires : tie.Need-last-need-requires Inv-loop μ-loop
+last-need-requires c κs =
     let b11 = c .before .before .before .before .before .before .before .before .before .before .before in
     let b11 = b11 in
     omega (arith, c .before .before .loop .inv .1 .last-high, b11 .pre)
@@ -98,8 +98,8 @@ loop-again c =
       l .inv .0,
       filling-more (i .need .now) (i .left .now) (i .kids) (i .d) (i .l) (i .p) (i .cs .now) (i .fs .now) (i .link .now)
           (i .last) (b12 .pre) (l .cs) (l .fs) (l .link) (l .a) (l .x) (l .inv .1) (v .result .c) (v .result .f)
-          (c .last-near .result) (omega arith) (v .ensures .0) (rw (l .inv .0) at (v .ensures .1))
-          (c .last-near .ensures),
+          (c .last-need .result) (omega arith) (v .ensures .0) (rw (l .inv .0) at (v .ensures .1))
+          (c .last-need .ensures),
     )
 
 same-length : tie.Need-same-length Inv-loop μ-loop
@@ -136,7 +136,7 @@ events-child-spec =
     add-x
     loop-holds
     event-requires
-    last-near-requires
+    last-need-requires
     mul-cs
     slice-write-cs
     mul-fs

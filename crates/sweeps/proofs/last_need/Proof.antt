@@ -1,27 +1,34 @@
 -- `last_need` meets its contract. The invariant: what is sought from p is still sought from a.
-use mathlib.Core.Path.{_≡_, refl, _∙_}
+use mathlib.Core.Path.{_≡_, refl, sym, _∙_}
 use Prim.Native.Nat.{_≤_}
 use native.Mathlib.Omega.{arith}
 use borrow.Author.Needs.{needs}
 use Rattle.laws.specs.Entries.{at}
 use Rattle.planner.specs.Sweep.{seek}
+use Rattle.sweeps.proofs.Seek.{seek-here, seek-on, seek-none}
 use Rattle.sweeps.proofs.last_need.Statement.{statement}
 use Rattle.sweeps.proofs.last_need.Tie as tie
 
 abbrev Inv-loop : tie.InvT-loop
-Inv-loop need f low p a₀ a = (a ≤ p) × (low ≤ a) × (seek (at need) f low a ≡ seek (at need) f low p)
+Inv-loop need f low p a₀ a = (a ≤ p) × (seek (at need) f low a ≡ seek (at need) f low p)
 
 abbrev μ-loop : tie.MeasureT-loop
 μ-loop need f low p a₀ a = a
 
 loop-holds : tie.Need-loop-holds Inv-loop μ-loop
-loop-holds c = (search needs, search needs, refl)
+loop-holds c = (search needs, refl)
 
-add-loop : tie.Need-add-loop Inv-loop μ-loop
-add-loop c = search needs
+mul-if1 : tie.Need-mul-if1 Inv-loop μ-loop
+mul-if1 c = search needs
 
-late-8-requires : tie.Need-late-8-requires Inv-loop μ-loop
-late-8-requires c κs = search needs
+shared-slice-read-if1 : tie.Need-shared-slice-read-if1 Inv-loop μ-loop
+shared-slice-read-if1 c = search needs
+
+returns : tie.Need-returns Inv-loop μ-loop
+returns c =
+    let i = c .before .before .before .before .args in
+    let l = c .before .before .before .loop in
+    sym (seek-here (at (i .need .now)) (i .f) (i .low) (l .a) (omega arith) (c .if1 .taken)) ∙ l .inv .1
 
 sub-a : tie.Need-sub-a Inv-loop μ-loop
 sub-a c = search needs
@@ -31,21 +38,15 @@ loop-less c = search needs
 
 loop-again : tie.Need-loop-again Inv-loop μ-loop
 loop-again c =
-    let i = c .before .before .before .before .before .args in
+    let i = c .before .before .before .before .args in
     let l = c .before .before .before .loop in
-    (omega arith, omega arith, c .before .late-8 .ensures (c .if1 .taken) (i .low) (omega arith) ∙ l .inv .2)
-
-last-near-requires : tie.Need-last-near-requires Inv-loop μ-loop
-last-near-requires c κs = search needs
-
-returns : tie.Need-returns Inv-loop μ-loop
-returns c = c .last-near .ensures ∙ c .before .before .before .before .loop .inv .2
-
-last-near-requires-2 : tie.Need-last-near-requires-2 Inv-loop μ-loop
-last-near-requires-2 c κs = search needs
+    (omega arith, seek-on (at (i .need .now)) (i .f) (i .low) (l .a) (omega arith) (c .if1 .left) ∙ l .inv .1)
 
 returns-2 : tie.Need-returns-2 Inv-loop μ-loop
-returns-2 c = c .last-near2 .ensures ∙ c .before .before .loop .inv .2
+returns-2 c =
+    let i = c .before .before .args in
+    let l = c .before .loop in
+    sym (seek-none (at (i .need .now)) (i .f) (i .low) (l .a) (omega arith)) ∙ l .inv .1
 
 pub last-need-spec : {M : Type 1} → statement M
 last-need-spec =
@@ -54,12 +55,10 @@ last-need-spec =
     Inv-loop
     μ-loop
     loop-holds
-    add-loop
-    late-8-requires
+    mul-if1
+    shared-slice-read-if1
+    returns
     sub-a
     loop-less
     loop-again
-    last-near-requires
-    returns
-    last-near-requires-2
     returns-2)
