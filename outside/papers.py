@@ -1,5 +1,6 @@
 #!/usr/bin/env python3
-"""Full-size papers for measuring: papers.py KIND POINTS writes a nest text, the same each time.
+"""Full-size papers for measuring: papers.py KIND POINTS [SEED] writes a nest text, the same each time, another for
+each SEED.
 
 KIND: deep (8 loops, one in the other), one (one loop), many (small loops side by side), mixed (a random tree), carried
 (empty loops side by side, 8 deep), tails (deep, with a statement at the end of each loop), pairs (tails 7 deep, with
@@ -62,7 +63,7 @@ def short_lines(ps, end):
 
 def main():
     kind, n = sys.argv[1], int(sys.argv[2])
-    rng = random.Random(kind + str(n))
+    rng = random.Random(kind + str(n) + ''.join(sys.argv[3:]))
     ps = points(kind, n, rng)
     end = ends(ps)
     out = ['%02x' % p for p in ps]
