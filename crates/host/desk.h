@@ -191,6 +191,16 @@ typedef struct DeskJoined {
     size_t value;
 } DeskJoined;
 
+/* `text` is 1 or 2, the text at fault, or 0 for neither; `first`: the first placement is as good or better than the second,
+   `second`: the second than the first. */
+typedef struct DeskCompared {
+    uint8_t number;
+    uint8_t text;
+    size_t line;
+    bool first;
+    bool second;
+} DeskCompared;
+
 /* DESK_UNCUT: dependence a, from 0, is the first that is uncut. DESK_DEARER: loop a has b barriers, and c in the key.
    All that is not named is 0. */
 typedef struct DeskMark {
@@ -265,6 +275,10 @@ DeskImproved desk_improve(Desk desk, const uint8_t *turns, size_t length, size_t
    processor waits, itself among them. Numbers 19, 20. */
 DeskRunEnds desk_sheet(size_t processors, size_t phases, const uint16_t *durations, size_t works, const uint16_t *waits,
                        size_t sets);
+
+/* Holds two placement texts beside each other, on any nest, with a key or without. Numbers 10, then 1, 2, 8, 16 of the
+   first text with their line, then those of the second. */
+DeskCompared desk_compare(Desk desk, const uint8_t *a, size_t first, const uint8_t *b, size_t second);
 
 /* A desk in use goes over from the kind before sittings: the nest is kept, the sitting is empty, and where there was a
    key it is worked out anew, unless Plan would refuse. `old` has a nest that desk_load accepted, or none (count, many,

@@ -1,5 +1,6 @@
 // The desk for programs in other languages: each call under its C name, over structs laid out as C lays them out. Most
 // only forward. desk.h beside this folder declares them all.
+ghost use Rattle.comparing.specs.Says.{CompareSays};
 ghost use Rattle.counting.specs.Says.{CallsSays};
 ghost use Rattle.desk.specs.Desks.{IsMade, IsMadePlain};
 ghost use Rattle.desk.specs.Says.{EmptySays, LoadSays, PlanSays, CountSays, WriteSays, ListSays, OverSays};
@@ -16,6 +17,7 @@ ghost use Rattle.host.specs.Says.{MarkSays, SittingSays};
 ghost use Rattle.host.specs.Marks.{coded, markOut, verdictOut};
 ghost use Rattle.host.specs.Records.{recordsOf};
 ghost use mathlib.Core.Path.{_≡_};
+use comparing::Compared;
 use counting::Calls;
 use desk::Answer;
 use desk::Chosen;
@@ -194,6 +196,14 @@ pub extern "C" fn desk_examiner_slip(desk: Desk, text: &[u8], out: &mut [u8]) ->
     ensures { λ r. ⌜ ExaminerSays desk (now (text .entry)) (now (out .entry)) (now (out .exit)) r ⌝ }
 {
     slips::examiner_slip(desk, text, out)
+}
+
+#[no_mangle]
+pub extern "C" fn desk_compare(desk: Desk, a: &[u8], b: &[u8]) -> Compared
+    requires { ⌜ IsMade desk ⌝ }
+    ensures { λ r. ⌜ CompareSays desk (now (a .entry)) (now (b .entry)) r ⌝ }
+{
+    comparing::compare(desk, a, b)
 }
 
 #[no_mangle]

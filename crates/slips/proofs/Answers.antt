@@ -20,8 +20,8 @@ use Rattle.desk.specs.declared.Answer as DA
 use Rattle.desk.specs.Desks.{Desk, deskIn, stateFault, Fault, fault}
 use Rattle.desk.specs.Says.{RefusedAs, readIn}
 use Rattle.desk.proofs.Ready.{read-rising}
-use Rattle.slips.specs.Says.{slipFault, SlipSays}
-use Rattle.slips.specs.Writers.{Wrote, ReadOn, Unread}
+use Rattle.slips.specs.Says.{slipFault, SlipSays, ReadOn}
+use Rattle.slips.specs.Writers.{Wrote, Unread}
 
 -- no number without a key: there is a nest
 pub has-nest : (d : DD.Desk) → stateFault false (deskIn d) ≡ 0 → d .loaded ≡ true

@@ -1,5 +1,5 @@
 -- What the two calls promise: reply and every lent byte. Neither changes the desk.
--- Main definitions: `candidateFault`, `CandidateSays`, `examinerFault`, `ExaminerSays`.
+-- Main definitions: `ReadOn`, `candidateFault`, `CandidateSays`, `examinerFault`, `ExaminerSays`.
 use mathlib.Core.Path.{_≡_}
 use mathlib.Core.Bool.{Bool, true, false}
 use mathlib.Core.List.{List}
@@ -8,11 +8,18 @@ use lib.Dec.{eqb, ltb}
 use lib.ListN.{length}
 use Rattle.laws.specs.Choice.{pick, when}
 use Rattle.lines.specs.Writing.{over}
+use Rattle.placements.specs.Words.{gapsIn}
+use Rattle.texts.specs.declared.PlacementReading.{PlacementReading}
+use Rattle.texts.specs.PlacementTexts.{placed}
 use Rattle.desk.specs.declared.Desk as DD
 use Rattle.desk.specs.declared.Answer as DA
 use Rattle.desk.specs.Desks.{Desk, deskIn, stateFault, Fault, fault}
 use Rattle.desk.specs.Says.{readIn}
 use Rattle.slips.specs.Texts.{slipText, examinerText}
+
+-- the reading of a placement text for the desk's nest, as by Mark
+pub record ReadOn (d : DD.Desk) (s : List ℕ) (r : PlacementReading) : Type 0 where
+  pub read-is : placed (r .number) (r .line) (gapsIn (r .placement .words)) ≡ readIn (deskIn d) s
 
 -- 02, job 9: 10, and 11 where a key is wanted; then the faults of the text s, with their line, as by Mark; then 9 where
 -- the buffer's length, here `room`, is less than the slip's

@@ -1,5 +1,5 @@
 -- What the functions below the two calls promise.
--- Main definitions: `Wrote`, `ReadOn`, `SlipLength`, `ExaminerLength`, `InBytes`.
+-- Main definitions: `Wrote`, `SlipLength`, `ExaminerLength`, `InBytes`.
 use mathlib.Core.Path.{_≡_}
 use mathlib.Core.List.{List}
 use Prim.Native.Nat.{ℕ, _<_}
@@ -7,23 +7,13 @@ use lib.ListN.{length}
 use Rattle.nests.specs.Nests.{Nest}
 use Rattle.lines.specs.Writing.{over}
 use Rattle.placements.specs.Verdicts.{Verdict, Dearer}
-use Rattle.placements.specs.Words.{gapsIn}
-use Rattle.texts.specs.declared.PlacementReading.{PlacementReading}
-use Rattle.texts.specs.PlacementTexts.{placed}
-use Rattle.desk.specs.declared.Desk as DD
 use Rattle.desk.specs.declared.Answer as DA
-use Rattle.desk.specs.Desks.{deskIn}
-use Rattle.desk.specs.Says.{readIn}
 use Rattle.slips.specs.Texts.{slipText, examinerText}
 
 -- the text stands over the start of the buffer, and this is its length
 pub record Wrote (t out out′ : List ℕ) (r : ℕ) : Type 0 where
   pub length-is : r ≡ length t
   pub out-is : out′ ≡ over t out
-
--- the reading of a placement text for the desk's nest
-pub record ReadOn (d : DD.Desk) (s : List ℕ) (r : PlacementReading) : Type 0 where
-  pub read-is : placed (r .number) (r .line) (gapsIn (r .placement .words)) ≡ readIn (deskIn d) s
 
 -- the answer to a text that is refused
 pub record Unread (number line : ℕ) (r : DA.Answer) : Type 0 where

@@ -13,8 +13,8 @@ ghost use Rattle.placements.specs.Words.{gapsIn};
 ghost use Rattle.desk.specs.Desks.{IsMade};
 ghost use Rattle.desk.specs.Says.{verdictIn};
 ghost use Rattle.slips.specs.Texts.{shown, firstText, slipText, verdictLine, verdictText, cutsText, examinerText};
-ghost use Rattle.slips.specs.Says.{CandidateSays, ExaminerSays};
-ghost use Rattle.slips.specs.Writers.{Wrote, ReadOn, Unread, SlipLength, ExaminerLength, InBytes};
+ghost use Rattle.slips.specs.Says.{CandidateSays, ExaminerSays, ReadOn};
+ghost use Rattle.slips.specs.Writers.{Wrote, Unread, SlipLength, ExaminerLength, InBytes};
 use desk::Answer;
 use desk::Desk;
 use desk::Verdict;
@@ -110,7 +110,7 @@ pub fn examiner_slip(desk: Desk, text: &[u8], out: &mut [u8]) -> Answer
 }
 
 // Reads a placement text for the desk's nest, as Mark does.
-fn read_on(desk: Desk, text: &[u8]) -> PlacementReading
+pub fn read_on(desk: Desk, text: &[u8]) -> PlacementReading
     requires { ⌜ IsMade desk ⌝ }
     requires { ⌜ desk .loaded ≡ true ⌝ }
     ensures { λ r. ⌜ ReadOn desk (now (text .entry)) r ⌝ }

@@ -1,0 +1,2 @@
+-- Two placement texts held beside each other: what the call promises.
+pub mod Says

@@ -1,0 +1,39 @@
+-- What holding two placement texts beside each other promises. It changes nothing.
+-- Main definitions: `compareOf`, `CompareSays`.
+use mathlib.Core.Path.{_≡_}
+use mathlib.Core.Bool.{Bool, false}
+use mathlib.Core.List.{List}
+use Prim.Native.Nat.{ℕ}
+use lib.Dec.{eqb}
+use Rattle.laws.specs.Choice.{pick}
+use Rattle.nests.specs.Nests.{Nest}
+use Rattle.placements.specs.Placements.{asGood}
+use Rattle.desk.specs.declared.Desk as DD
+use Rattle.desk.specs.Desks.{Desk, deskIn, stateFault}
+use Rattle.desk.specs.Says.{readIn}
+use Rattle.comparing.specs.declared.Compared as DC
+
+-- a refusal: the number, the text at fault, 0 for neither, and its line
+abbrev pub refusal : ℕ → ℕ → ℕ → DC.Compared
+refusal n t l = record { number = n; text = t; line = l; first = false; second = false }
+
+-- whether each of two placements is as good or better than the other (01, "Which placement is better")
+abbrev pub weighed : Nest → List ℕ → List ℕ → DC.Compared
+weighed n a b = record { number = 0; text = 0; line = 0; first = asGood n a b; second = asGood n b a }
+
+-- 10; then the faults of the first text with their line, as by Mark; then those of the second
+abbrev pub compareOf : Desk → List ℕ → List ℕ → DC.Compared
+compareOf x s t =
+    pick
+    (eqb (stateFault false x) 0)
+    (pick
+    (eqb (readIn x s .number) 0)
+    (pick
+    (eqb (readIn x t .number) 0)
+    (weighed (x .nest-is) (readIn x s .gaps) (readIn x t .gaps))
+    (refusal (readIn x t .number) 2 (readIn x t .place)))
+    (refusal (readIn x s .number) 1 (readIn x s .place)))
+    (refusal (stateFault false x) 0 0)
+
+abbrev pub CompareSays : DD.Desk → List ℕ → List ℕ → DC.Compared → Type 0
+CompareSays d s t r = r ≡ compareOf (deskIn d) s t

@@ -1,0 +1,89 @@
+// Which of two placements is better, loop by loop.
+ghost use mathlib.Core.Path.{_≡_};
+ghost use mathlib.Core.Bool.{true};
+ghost use Prim.Native.Nat.{_≤_};
+ghost use lib.ListN.{length};
+ghost use Rattle.nests.specs.Loops.{isDo};
+ghost use Rattle.nests.specs.Valid.{isShape};
+ghost use Rattle.placements.specs.Placements.{areGapsFrom};
+ghost use Rattle.placements.specs.Words.{GAPS, gapsIn};
+ghost use Rattle.weighing.specs.Weighed.{AgreesSays, SameInsideSays, NoMoreSays, AsGoodSays};
+use placements::Placement;
+use placements::count_of;
+
+// The first is as good or better than the second: at each loop where both have the same counts in all the loops inside
+// it, the first's count is at most the second's.
+pub fn as_good(points: &[u8], a: Placement, b: Placement) -> bool
+    requires { ⌜ (isShape (now points) ≡ true) × (length (now points) ≤ GAPS) ⌝ }
+    requires { ⌜ areGapsFrom 0 (length (now points)) (gapsIn (a .words)) ≡ true ⌝ }
+    requires { ⌜ areGapsFrom 0 (length (now points)) (gapsIn (b .words)) ≡ true ⌝ }
+    ensures { λ r. ⌜ AsGoodSays (now (points .entry)) (a .words) (b .words) r ⌝ }
+{
+    let mut e = 0;
+    while e < points.len() {
+        if points[e] == nests::ENDDO {
+            let d = nests::loop_of(points, e);
+            let holds = no_more(points, a, b, d);
+            if holds {
+                e += 1;
+            } else {
+                return false;
+            }
+        } else {
+            e += 1;
+        }
+    }
+    true
+}
+
+// Some loop inside d has different counts, or the first's count at d is at most the second's.
+fn no_more(points: &[u8], a: Placement, b: Placement, d: usize) -> bool
+    requires { ⌜ (isShape (now points) ≡ true) × (length (now points) ≤ GAPS) ⌝ }
+    requires { ⌜ areGapsFrom 0 (length (now points)) (gapsIn (a .words)) ≡ true ⌝ }
+    requires { ⌜ areGapsFrom 0 (length (now points)) (gapsIn (b .words)) ≡ true ⌝ }
+    requires { ⌜ isDo (now points) d ≡ true ⌝ }
+    ensures { λ r. ⌜ NoMoreSays (now (points .entry)) (a .words) (b .words) d r ⌝ }
+{
+    if same_inside(points, a, b, d) {
+        return count_of(points, d, a) <= count_of(points, d, b);
+    }
+    true
+}
+
+// The same counts in all the loops inside d.
+fn same_inside(points: &[u8], a: Placement, b: Placement, d: usize) -> bool
+    requires { ⌜ (isShape (now points) ≡ true) × (length (now points) ≤ GAPS) ⌝ }
+    requires { ⌜ areGapsFrom 0 (length (now points)) (gapsIn (a .words)) ≡ true ⌝ }
+    requires { ⌜ areGapsFrom 0 (length (now points)) (gapsIn (b .words)) ≡ true ⌝ }
+    ensures { λ r. ⌜ SameInsideSays (now (points .entry)) (a .words) (b .words) d r ⌝ }
+{
+    let mut e = 0;
+    while e < points.len() {
+        if points[e] == nests::ENDDO {
+            let x = nests::loop_of(points, e);
+            let holds = agrees(points, a, b, d, x);
+            if holds {
+                e += 1;
+            } else {
+                return false;
+            }
+        } else {
+            e += 1;
+        }
+    }
+    true
+}
+
+// Loop x is not inside d, or both have the same count there.
+fn agrees(points: &[u8], a: Placement, b: Placement, d: usize, x: usize) -> bool
+    requires { ⌜ (isShape (now points) ≡ true) × (length (now points) ≤ GAPS) ⌝ }
+    requires { ⌜ areGapsFrom 0 (length (now points)) (gapsIn (a .words)) ≡ true ⌝ }
+    requires { ⌜ areGapsFrom 0 (length (now points)) (gapsIn (b .words)) ≡ true ⌝ }
+    requires { ⌜ isDo (now points) x ≡ true ⌝ }
+    ensures { λ r. ⌜ AgreesSays (now (points .entry)) (a .words) (b .words) d x r ⌝ }
+{
+    if nests::is_inside(d, nests::end_of(points, d), x) {
+        return count_of(points, x, a) == count_of(points, x, b);
+    }
+    true
+}
