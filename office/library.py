@@ -108,6 +108,11 @@ class Desk:
         found = given(library().desk_improve(self.held, turns, len(turns), budget))
         return Improved(gaps_in(found.placement), found.calls, found.tries, found.ended, found.floor)
 
+    def compare(self, first: bytes, second: bytes) -> tuple[bool, bool]:
+        """Whether each of two placement texts is as good or better than the other."""
+        told = given(library().desk_compare(self.held, first, len(first), second, len(second)))
+        return told.first, told.second
+
     def candidate_slip(self, text: bytes) -> bytes:
         return self.written(library().desk_candidate_slip, SLIP, text, len(text))
 

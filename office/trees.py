@@ -1,10 +1,8 @@
-"""Cost trees: drawn, and two of them held beside each other as docs/WHY.md does.
+"""Cost trees: drawn, and the loops that decide between two of them marked, as docs/WHY.md does.
 
-The counts are the calls'. Which of two trees is as good or better, and how many calls a placement makes, is read off
-the counts here, since no call of the desk tells it of two placements.
+The counts are the calls'. How many calls a placement makes is read off the counts here, since no call of the desk tells
+it of a placement that is not the key.
 """
-from dataclasses import dataclass
-
 from office.paper import Paper
 
 Counts = dict[int, int]
@@ -33,21 +31,10 @@ def beside(left: list[str], right: list[str], apart: int = 4) -> list[str]:
     return [f'{a:{wide}}{b}'.rstrip() for a, b in zip(left, right)]
 
 
-@dataclass(frozen=True)
-class Balance:
-    """Two trees: the loops where they differ while all loops inside agree, in the order of their ENDDOs, those where
-    the first has less and those where the second has."""
-    deciding: list[int]
-    first: list[int]
-    second: list[int]
-
-
-def balance(paper: Paper, first: Counts, second: Counts) -> Balance:
-    """001, definition 1, for two trees: the first is as good or better if it has less at all deciding loops."""
+def deciding(paper: Paper, first: Counts, second: Counts) -> list[int]:
+    """The loops where two trees differ while all loops inside agree, in the order of their ENDDOs."""
     differ = {d for d in paper.end if first[d] != second[d]}
-    deciding = sorted((d for d in differ if not differ.intersection(paper.inside(d))), key=paper.end.get)
-    return Balance(deciding, [d for d in deciding if first[d] < second[d]],
-                   [d for d in deciding if second[d] < first[d]])
+    return sorted((d for d in differ if not differ.intersection(paper.inside(d))), key=paper.end.get)
 
 
 def calls(paper: Paper, counts: Counts, turns: bytes) -> int:

@@ -10,7 +10,7 @@ from office.library import DEARER, UNCUT, Desk, Mark
 from office.page import Shown, page
 from office.paper import Paper, Placed, paper_on, placed
 from office.refusal import Refused
-from office.trees import Balance, balance, beside, calls, drawn
+from office.trees import beside, calls, deciding, drawn
 from office.words import VERDICTS, counted, gaps_named, ranges, runs_of
 
 HELP = 'tells how one placement beats another on a paper, or how it stands beside the key'
@@ -28,9 +28,10 @@ FEWEST = ('Of the key alone it is true that no correct placement makes fewer cal
 
 @dataclass(frozen=True)
 class Side:
-    """A placement in the comparison: what a sentence calls it if its gaps are many, what the slip tells of it, the
-    desk's verdict where there is a key, and how many dependences it leaves uncut."""
+    """A placement in the comparison: what a sentence calls it if its gaps are many, its text, what the slip tells of
+    it, the desk's verdict where there is a key, and how many dependences it leaves uncut."""
     called: str
+    text: bytes
     placed: Placed
     mark: Mark | None
     uncut: int
@@ -57,7 +58,15 @@ def side_of(desk: Desk, called: str, text: bytes) -> Side:
         uncut = desk.put(gap)
     for gap in told.gaps:
         desk.lift(gap)
-    return Side(called, told, mark, uncut)
+    return Side(called, text, told, mark, uncut)
+
+
+@dataclass(frozen=True)
+class Balance:
+    """Two placements: whether each is as good or better than the other, by the desk; the loops that decide."""
+    first: bool
+    second: bool
+    deciding: list[int]
 
 
 def verdict(side: Side) -> str:
@@ -99,7 +108,7 @@ def cost_words(paper: Paper, held: Balance, first: Side, second: Side) -> list[s
     """How the costs of two correct placements compare."""
     if not held.deciding:
         return ['Every loop has the same count in both, so they cost the same, wherever their barriers stand.']
-    if held.first and held.second:
+    if not held.first and not held.second:
         each = [f'at loop {d} it is {first.placed.counts[d]} against {second.placed.counts[d]}' for d in held.deciding]
         return [INSIDE_OUT, f'Neither is as good or better than the other: {", ".join(each)}, and inside these loops '
                 'the counts agree.']
@@ -129,7 +138,7 @@ def calls_words(paper: Paper, held: Balance, turns: bytes, first: Side, second: 
         when = 'If the turns are ' + ', '.join(f'{many} of loop {d}' for d, many in zip(paper.end, turns))
     told = (f'{when}, each thread calls barriers {counted(made[0], "time")} with {first.name} and {made[1]:,} with '
             f'{second.name}.')
-    if held.first and not held.second and made[0] > made[1] or held.second and not held.first and made[0] < made[1]:
+    if held.first and made[0] > made[1] or held.second and made[0] < made[1]:
         told += f' {FEWEST}'
     return told
 
@@ -155,7 +164,7 @@ def main(asked: argparse.Namespace) -> None:
     turns = turns_asked(asked.turns, len(paper.end))
     if len(turns) != len(paper.end) or not all(1 <= many <= TURNS for many in turns):
         raise Fault(f'this paper wants {counted(len(paper.end), "number")} of turns from 1 to {TURNS}: {asked.turns}')
-    held = balance(paper, first.placed.counts, second.placed.counts)
+    held = Balance(*desk.compare(first.text, second.text), deciding(paper, first.placed.counts, second.placed.counts))
     correct = first.placed.uncut is None and second.placed.uncut is None
     trees = [drawn(paper, side.placed.counts, held.deciding if correct else []) for side in (first, second)]
     told = [reasons(paper, held, first, second)]

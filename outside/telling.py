@@ -17,11 +17,12 @@ sys.path.insert(0, str(ROOT))
 from office.day import COMMANDS
 from office.header import DECLARED, HEADER
 from office.library import Desk
-from office.paper import nest_text, paper_on
+from office.frames import placement_text
+from office.paper import nest_text, paper_on, placed
 from office.refusal import Refused
 from office.show import listing_of
 from office.spell import spelled
-from office.trees import balance, calls
+from office.trees import calls, deciding
 from office.words import RULES
 
 FULL = '"$@" > /dev/full'
@@ -207,7 +208,7 @@ def as_good(paper, first: dict[int, int], second: dict[int, int], d: int = 0) ->
 
 
 def trees(tally: Tally) -> None:
-    """Which of two trees is better, and calls, on random counts over random nests."""
+    """Which of two placements is better, which loops decide, and calls, on random nests."""
     rng = random.Random(1)
     for turn in range(300):
         points, opened = [1], 1
@@ -218,11 +219,13 @@ def trees(tally: Tally) -> None:
         desk = Desk()
         desk.load(''.join(f'{kind:02x}\n' for kind in points).encode())
         paper = paper_on(desk)
-        first, second = ({d: rng.choice([0, 0, 1]) for d in paper.end} for _ in range(2))
-        held = balance(paper, first, second)
-        better = not held.second, not held.first
+        texts = [placement_text(g for g in range(1, len(points)) if rng.random() < 0.3) for _ in range(2)]
+        first, second = (placed(desk, text).counts for text in texts)
         wanted = as_good(paper, first, second), as_good(paper, second, first)
-        tally.check(f'trees, turn {turn}', better == wanted, (points, first, second))
+        tally.check(f'trees, turn {turn}', desk.compare(*texts) == wanted, (points, texts))
+        loops = deciding(paper, first, second)
+        held = all(first[d] <= second[d] for d in loops), all(second[d] <= first[d] for d in loops)
+        tally.check(f'deciding loops, turn {turn}', held == wanted, (points, texts))
         turns = bytes(rng.randrange(1, 17) for _ in paper.end)
         made, by_hand = calls(paper, first, turns), 0
         for d in paper.end:
