@@ -131,6 +131,11 @@ class Desk:
         """How many barriers of the sitting cut each dependence."""
         return bytes(self.held.sitting.counts)[:self.held.nest.many]
 
+    @property
+    def uncut(self) -> int:
+        """How many dependences no barrier of the sitting cuts."""
+        return self.held.sitting.uncut
+
     def moved(self, reply: ctypes.Structure) -> int:
         self.held = given(reply).desk
         return reply.uncut

@@ -7,7 +7,7 @@ and the box of a loop that may not run is dashed.
 import html
 import textwrap
 
-from office.frames import DO, STATEMENT
+from office.frames import ENDDO, STATEMENT
 from office.lanes import packed
 from office.paper import Dependence, Paper, Placed
 from office.words import ranges
@@ -114,38 +114,53 @@ class Picture:
             kind = 'box flagged' if d in self.paper.flagged else 'box'
             self.add('rect', cls=kind, x=left, y=self.y(d) - 15, width=right - left,
                      height=ROW * (self.paper.end[d] - d) + 30, rx=6, fill=SHADES[min(self.paper.depth[d], 7)])
-            self.label(right - 8, self.y(d), f'count {self.counts[d]}', 'word end', 12)
+            self.count(d, right - 8)
+
+    def count(self, d: int, x: float) -> None:
+        self.label(x, self.y(d), f'count {self.counts[d]}', 'word end', 12)
 
     def rows(self) -> None:
         self.label(LEFT - 12, self.y(0) - 28, 'point', 'pale end', 11)
-        starts = {e: d for d, e in self.paper.end.items()}
         for point, kind in enumerate(self.paper.points):
             y, (left, right) = self.y(point), self.edges(point)
             self.label(LEFT - 12, y, point, 'pale end', 11)
             if kind == STATEMENT:
                 self.add('rect', cls='box white', x=left, y=y - 12, width=right - left, height=24, rx=3)
-                self.label(left + 10, y, f'statement {point}')
+                self.label(left + 10, y, self.called(point))
             else:
-                word = 'DO' if kind == DO else 'ENDDO'
-                skipped = ', may not run' if point in self.paper.flagged else ''
-                self.label(left + 10, y, f'{word} loop {starts.get(point, point)}{skipped}', 'bold')
+                self.label(left + 10, y, self.called(point), 'bold')
+
+    def called(self, point: int) -> str:
+        """A point in words."""
+        if self.paper.points[point] == STATEMENT:
+            return f'statement {point}'
+        if self.paper.points[point] == ENDDO:
+            return f'ENDDO loop {self.paper.owner[point]}'
+        return f'DO loop {point}{", may not run" if point in self.paper.flagged else ""}'
 
     def gaps(self) -> None:
         for gap in range(1, len(self.paper.points)):
-            left, right = self.edges(self.paper.owner[gap])
-            y, middle = self.gap_y(gap), left + INDENT / 2
-            if gap not in self.barriers:
-                is_barred = gap in self.paper.barred
-                self.add('path', cls='barred' if is_barred else 'gap', d=f'M{left + INDENT:g} {y:g}H{right - 8:g}')
-                self.label(middle, y, gap, 'word middle bold red' if is_barred else 'pale middle', 11)
-                continue
-            cut = sorted(self.x(i, gap) for i, x in enumerate(self.paper.dependences) if gap in x.gaps)
-            self.add('path', cls='on', d=f'M{right:g} {y:g}H{max(cut, default=right):g}')
-            self.add('path', cls='bar', d=f'M{left + 4:g} {y:g}H{right - 4:g}')
-            self.add('rect', x=middle - 14, y=y - 9, width=28, height=18, rx=9, fill=INK)
-            self.label(middle, y, gap, 'word middle bold white', 12)
-            if cut:
-                self.dots(cut, y)
+            if gap in self.barriers:
+                self.barrier(gap)
+            else:
+                self.free_gap(gap)
+
+    def free_gap(self, gap: int) -> None:
+        left, right = self.edges(self.paper.owner[gap])
+        y, is_barred = self.gap_y(gap), gap in self.paper.barred
+        self.add('path', cls='barred' if is_barred else 'gap', d=f'M{left + INDENT:g} {y:g}H{right - 8:g}')
+        self.label(left + INDENT / 2, y, gap, 'word middle bold red' if is_barred else 'pale middle', 11)
+
+    def barrier(self, gap: int) -> None:
+        left, right = self.edges(self.paper.owner[gap])
+        y, middle = self.gap_y(gap), left + INDENT / 2
+        cut = sorted(self.x(i, gap) for i, x in enumerate(self.paper.dependences) if gap in x.gaps)
+        self.add('path', cls='on', d=f'M{right:g} {y:g}H{max(cut, default=right):g}')
+        self.add('path', cls='bar', d=f'M{left + 4:g} {y:g}H{right - 4:g}')
+        self.add('rect', x=middle - 14, y=y - 9, width=28, height=18, rx=9, fill=INK)
+        self.label(middle, y, gap, 'word middle bold white', 12)
+        if cut:
+            self.dots(cut, y)
 
     def dots(self, places: list[float], y: float) -> None:
         """A dot at each place: a line of dots where one stands in each lane."""
@@ -190,11 +205,14 @@ class Picture:
         """A dependence's number in some places; hollow if no barrier cuts it."""
         dependence = self.paper.dependences[number]
         is_cut = bool(self.cutting(dependence))
-        self.out.append(f'<g class="{"i" if dependence.d is None else "c"}{"" if is_cut else " u"}">')
+        self.open_badges(number, ('i' if dependence.d is None else 'c') + ('' if is_cut else ' u'))
         for x, y in places:
             self.add('circle', cls='b', cx=x, cy=y, r=self.radius)
             self.label(x, y, number, 'n', self.digits)
         self.out.append('</g>')
+
+    def open_badges(self, _: int, cls: str) -> None:
+        self.out.append(f'<g class="{cls}">')
 
     def words(self, y: float) -> float:
         """The dependences in words, in as many columns as have room, and the signs; gives the height below them."""
@@ -223,8 +241,8 @@ class Picture:
         words = f'{self.paper.told(dependence)}; {f"cut by {cutting}" if cutting else "UNCUT"}'
         return max(self.wrapped(x + 21, y, words, wide - 40, 'word', 12), y + 18)
 
-    def svg(self) -> str:
-        self.top = self.wrapped(LEFT - 32, 18, self.title, min(self.width - 40, TITLE), 'title', 15) + 45
+    def drawing(self) -> None:
+        """All but the title and the words."""
         self.loops()
         self.rows()
         for number in range(len(self.paper.dependences)):
@@ -232,11 +250,17 @@ class Picture:
         self.gaps()
         for number in range(len(self.paper.dependences)):
             self.badges(number, [(self.x(number), self.level(number, 1)), (self.x(number, 0), self.level(number, 2))])
-        height = self.words(self.y(len(self.paper.points)) + 8)
+
+    def style(self) -> str:
         style = STYLE + BARRED_STYLE * bool(self.paper.barred) + FLAGGED_STYLE * bool(self.paper.flagged)
+        return f'{style}.dots {{ stroke-dasharray: .1 {self.step - 0.1:g} }}\n.n {{ font-size: {self.digits}px }}\n'
+
+    def svg(self) -> str:
+        self.top = self.wrapped(LEFT - 32, 18, self.title, min(self.width - 40, TITLE), 'title', 15) + 45
+        self.drawing()
+        height = self.words(self.y(len(self.paper.points)) + 8)
         size = f'width="{self.width:g}" height="{height:g}" viewBox="0 0 {self.width:g} {height:g}"'
         return '\n'.join([f'<svg xmlns="http://www.w3.org/2000/svg" {size} role="img" '
                           'font-family="Helvetica, Arial, sans-serif">', f'<title>{html.escape(self.title)}</title>',
-                          f'<style>{style}.dots {{ stroke-dasharray: .1 {self.step - 0.1:g} }}\n'
-                          f'.n {{ font-size: {self.digits}px }}\n</style>',
+                          f'<style>{self.style()}</style>',
                           '<rect width="100%" height="100%" fill="white"/>', *self.out, '</svg>', ''])

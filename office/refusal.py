@@ -18,6 +18,10 @@ class Refusal:
     line: int
     text: int = 0
 
+    @property
+    def rule(self) -> str:
+        return f'number {self.number}: {RULES[self.number]}'
+
     def words(self, text: bytes) -> list[str]:
         """What the refusal of a text means, a sentence a line."""
         line = line_at(text, self.line)
@@ -28,7 +32,7 @@ class Refusal:
         else:
             where = 'the text is refused as a whole'
         slips = line.slips() if line is not None and self.number == DIGITS_RULE else []
-        return [where, f'number {self.number}: {RULES[self.number]}', *slips]
+        return [where, self.rule, *slips]
 
 
 class Refused(Exception):

@@ -1,0 +1,105 @@
+"""The log of a hall: a line for each move, on the disk before anybody is told of it, and read again at the next start.
+
+  paper SHA-256
+  TIME <tab> CANDIDATE <tab> MOVE
+
+Lines that come in while others are being written wait and go together, so that a hundred candidates do not wait for a
+hundred disks.
+"""
+import contextlib
+import datetime
+import fcntl
+import os
+import threading
+
+from office.command import Fault, printable
+
+FIRST, FIELDS = 'paper ', 3
+
+
+class Batch:
+    """Lines that go to the disk together, and what became of them."""
+
+    def __init__(self) -> None:
+        self.lines: list[bytes] = []
+        self.fault: OSError | None = None
+        self.done = threading.Event()
+
+
+class Logbook:
+    """A log that is open for one desk alone."""
+
+    def __init__(self, file: str, paper: str):
+        self.file, self.paper = file, paper
+        self.filling, self.writing = threading.Lock(), threading.Lock()
+        self.batch = Batch()
+        try:
+            self.opened = os.open(file, os.O_RDWR | os.O_CREAT, 0o600)
+            fcntl.flock(self.opened, fcntl.LOCK_EX | fcntl.LOCK_NB)
+            with open(os.dup(self.opened), 'rb') as opened:
+                text = opened.read()
+        except BlockingIOError as fault:
+            raise Fault(f'{printable(file)} is in use: another ./desk sit serves these answers') from fault
+        except OSError as fault:
+            raise Fault(f'cannot keep {printable(file)}: {fault.strerror}') from fault
+        self.length = text.rfind(b'\n') + 1  # of a line that was cut off nobody was told
+        self.kept = text[:self.length].decode('utf-8', 'replace').split('\n')[:-1]
+        try:
+            os.ftruncate(self.opened, self.length)
+            if not self.kept:
+                self.write(f'{FIRST}{paper}\n'.encode())
+        except OSError as fault:
+            raise Fault(f'cannot keep {printable(file)}: {fault.strerror}') from fault
+        if self.kept and self.kept[0] != f'{FIRST}{paper}':
+            raise Fault(f'{printable(file)} is the log of another paper: give another folder for the answers')
+
+    def moves(self) -> list[tuple[int, str, str]]:
+        """The moves of a time before: the line, the candidate, the move."""
+        found = []
+        for number, line in enumerate(self.kept[1:], 2):
+            fields = line.split('\t')
+            if len(fields) != FIELDS:
+                raise self.damaged(number)
+            found.append((number, *fields[1:]))
+        return found
+
+    def damaged(self, number: int) -> Fault:
+        return Fault(f'{printable(self.file)} is damaged: line {number} is no move that can be made')
+
+    def add(self, candidate: str, move: str) -> None:
+        """Keeps a move: when this is done it is on the disk. An OSError says that it is not kept."""
+        now = datetime.datetime.now(datetime.timezone.utc).isoformat(timespec='milliseconds')
+        with self.filling:
+            batch = self.batch
+            first = not batch.lines
+            batch.lines.append(f'{now}\t{candidate}\t{move}\n'.encode())
+        if first:
+            with self.writing:
+                self.settle(batch)
+        batch.done.wait()
+        if batch.fault is not None:
+            raise batch.fault
+
+    def settle(self, batch: Batch) -> None:
+        """Writes the lines of a batch, whoever they are from. Who comes now fills the next one."""
+        with self.filling:
+            self.batch = Batch()
+        try:
+            self.write(b''.join(batch.lines))
+        except OSError as fault:
+            batch.fault = fault
+        finally:
+            batch.done.set()
+
+    def write(self, data: bytes) -> None:
+        """Writes behind what is kept. A write that fails leaves nothing there."""
+        done = 0
+        try:
+            while done < len(data):
+                done += os.pwrite(self.opened, data[done:], self.length + done)
+            os.fsync(self.opened)
+        except OSError:
+            with contextlib.suppress(OSError):
+                os.ftruncate(self.opened, self.length)
+            raise
+        self.length += done
