@@ -100,6 +100,16 @@ class Browser:
         """Whether the keyboard is at an element."""
         return self.script('return document.activeElement === document.querySelector(arguments[0])', selector)
 
+    def heard(self) -> dict[str, tuple[str, str]]:
+        """What a screen reader is told of each thing with a name: what it is, and whether it is pressed."""
+        tree = self.ask('/goog/cdp/execute', cmd='Accessibility.getFullAXTree', params={})['nodes']
+        told = {}
+        for node in tree:
+            pressed = [given['value']['value'] for given in node.get('properties', []) if given['name'] == 'pressed']
+            if not node['ignored'] and node.get('name', {}).get('value'):
+                told[node['name']['value']] = node['role']['value'], ''.join(pressed)
+        return told
+
     def screen(self, wide: int, high: int, zoom: int) -> None:
         """A window of so many points, each as large as the zoom says."""
         self.ask('/goog/cdp/execute', cmd='Emulation.setDeviceMetricsOverride', params={

@@ -35,6 +35,7 @@ class Hall:
     folder: pathlib.Path
     paper: bytes
     names: list[str]
+    file: str = 'paper.hex'
     more: list[str] = field(default_factory=list)
     process: subprocess.Popen | None = None
     port: int = 0
@@ -43,13 +44,13 @@ class Hall:
     def __post_init__(self) -> None:
         self.folder.mkdir(exist_ok=True)
         self.answers = self.folder / 'answers'
-        (self.folder / 'paper.hex').write_bytes(self.paper)
+        (self.folder / self.file).write_bytes(self.paper)
         (self.folder / 'names.txt').write_text(''.join(f'{name}\n' for name in self.names))
         (self.folder / 'sitecustomize.py').write_text(GUARD)
 
     @property
     def command(self) -> list[str]:
-        return [str(DESK), 'sit', str(self.folder / 'paper.hex'), '--candidates', str(self.folder / 'names.txt'),
+        return [str(DESK), 'sit', str(self.folder / self.file), '--candidates', str(self.folder / 'names.txt'),
                 '--answers', str(self.answers), '--port', str(self.port), *self.more]
 
     def start(self, limit: str = '') -> 'Hall':

@@ -14,101 +14,18 @@ import re
 import subprocess
 import sys
 import tempfile
-import urllib.error
 import urllib.request
 
 import browser
-from browser import DOWN, END, ENTER, ESCAPE, HOME, SHIFT, TAB, UP, Browser, Driver, until
+from browser import DOWN, END, ENTER, ESCAPE, HOME, SHIFT, TAB, UP, Driver, until
 from halls import Candidate, Hall
+from pages import GAP, SHOWN, Page
 from trying import DESK, EXAMPLES, ROOT, Tally, run
 
 sys.path.insert(0, str(ROOT))
-from office.library import Desk
-from office.paper import placed
-from office.refusal import Refused
 from office.words import RULES
 
-# What a person sees: bars and empty gaps that are drawn, buttons that are pressed, hollow numbers, words and counts.
-SHOWN = """
-const all = (selector) => [...document.querySelectorAll(selector)];
-const drawn = (place, selector) => [...place.querySelectorAll(selector)].some((piece) => piece.getClientRects().length);
-const places = all('[data-barrier]');
-const number = (place) => Number(Object.values(place.dataset)[0]);
-return {
-    bars: places.filter((place) => drawn(place, '.bar')).map(number),
-    empty: places.filter((place) => drawn(place, '.gap, .barred')).map(number),
-    pressed: all('button[data-gap][aria-pressed="true"]').map(number),
-    hollow: all('g[data-cut]').filter((place) => getComputedStyle(place.querySelector('circle')).fill ===
-        'rgb(255, 255, 255)').map(number),
-    words: all('li[data-cut] span').map((words) => words.textContent),
-    counts: all('[data-count]').map((place) => [number(place), place.textContent.trim()]),
-    state: document.getElementById('state')?.textContent,
-    said: document.getElementById('said')?.textContent,
-};
-"""
-GAP = 'button[data-gap="{}"]'.format
 MANY = 66
-
-
-class Page:
-    """A candidate's page, and beside it a desk of the library on which the same moves are made."""
-
-    def __init__(self, tally: Tally, driver: Driver, hall: Hall, name: str):
-        self.tally, self.hall, self.name = tally, hall, name
-        self.browser, self.desk, self.handed_in = Browser(driver), Desk(), ''
-        self.desk.load(hall.paper)
-
-    def enter(self, ticket: str = '') -> None:
-        self.browser.open(self.hall.address)
-        until(lambda: self.browser.at('#ticket'), True)
-        self.browser.press(*(ticket or self.hall.tickets[self.name]), ENTER)
-
-    def wanted(self, said: str) -> dict[str, object]:
-        """What the page must show of the library's sitting."""
-        now, cuts = placed(self.desk, self.desk.sitting()), self.desk.cuts
-        return {'bars': now.gaps, 'pressed': now.gaps, 'said': said,
-                'empty': [gap for gap in range(1, len(self.desk.nest.points)) if gap not in now.gaps],
-                'hollow': [number for number, many in enumerate(cuts) if not many],
-                'words': [f'; cut, barriers: {many}' if many else '; UNCUT' for many in cuts],
-                'counts': [[d, f'count {count}'] for d, count in now.counts.items()],
-                'state': f'{self.handed_in}Barriers: {len(now.gaps)}. Dependences uncut: {self.desk.uncut} of '
-                         f'{len(cuts)}.'}
-
-    def shows(self, step: str, said: str = '') -> None:
-        wanted = self.wanted(said)
-        found = until(lambda: self.browser.script(SHOWN), wanted)
-        differ = {key: (found[key], wanted[key]) for key in wanted if found[key] != wanted[key]}
-        self.tally.check(f'{self.name}: {step}', not differ, differ)
-
-    def turn(self, gap: int, by: str = 'mouse') -> None:
-        """Puts or lifts, as the library's sitting says, and looks."""
-        there = gap in placed(self.desk, self.desk.sitting()).gaps
-        if by == 'mouse':
-            self.browser.click(GAP(gap))
-        else:
-            self.browser.press(by)
-        try:
-            (self.desk.lift if there else self.desk.put)(gap)
-            said = f'The barrier in gap {gap} is lifted.' if there else f'A barrier stands in gap {gap}.'
-        except Refused as refused:
-            said = self.refused(refused)
-        self.shows(f'gap {gap} {"lifted" if there else "put"}', said)
-
-    def take_back(self, by: str = 'mouse') -> None:
-        if by == 'mouse':
-            self.browser.click('#back')
-        else:
-            self.browser.press(by)
-        try:
-            self.desk.take_back()
-            said = 'The latest move is taken back.'
-        except Refused as refused:
-            said = self.refused(refused)
-        self.shows('take back', said)
-
-    @staticmethod
-    def refused(refused: Refused) -> str:
-        return f'Refused, number {refused.refusal.number}: {RULES[refused.refusal.number]}.'
 
 
 def entered(tally: Tally, page: Page) -> None:
@@ -122,8 +39,7 @@ def entered(tally: Tally, page: Page) -> None:
     page.enter()
     page.shows('nothing put')
     tally.check('no cookie for scripts', seen.script('return document.cookie') == '')
-    tally.check('labels', seen.script('return document.querySelector(arguments[0]).getAttribute("aria-label")', GAP(6))
-                == 'gap 6 of loop 1, before ENDDO loop 1')
+    tally.check('what a screen reader hears', seen.heard()['gap 6 of loop 1, before ENDDO loop 1'] == ('button', 'false'))
 
 
 def day(tally: Tally, page: Page) -> None:
@@ -164,7 +80,7 @@ def keyboard(tally: Tally, page: Page) -> None:
     seen = page.browser
     seen.open(page.hall.address)
     page.shows('by keyboard')
-    for place in ('#back', '#hand', 'header form button', GAP(1)):
+    for place in ('#back', '#hand', 'header a', 'header form button', GAP(1)):
         seen.press(TAB)
         tally.check(f'Tab goes to {place}', seen.at(place))
     seen.press(DOWN, DOWN, DOWN, DOWN, DOWN, UP)
@@ -173,7 +89,7 @@ def keyboard(tally: Tally, page: Page) -> None:
     page.turn(11, by=ENTER)
     seen.press(HOME)
     page.turn(1, by=' ')
-    seen.press(TAB, TAB, TAB, held=SHIFT)
+    seen.press(TAB, TAB, TAB, TAB, held=SHIFT)
     tally.check('back at Take back', seen.at('#back'))
     page.take_back(by=ENTER)
     seen.press(TAB, ENTER)
@@ -256,8 +172,9 @@ def barred(tally: Tally, driver: Driver, folder: pathlib.Path) -> None:
     page.shows('nothing put')
     for gap in (1, 3, 4):
         page.turn(gap)
-    label = page.browser.script('return document.querySelector(arguments[0]).getAttribute("aria-label")', GAP(1))
-    tally.check('a barred gap is called so', label == 'gap 1 of loop 0, before statement 1, barred', label)
+    heard = page.browser.heard()
+    tally.check('a barred gap is called so', heard.get('gap 1 of loop 0, before statement 1, barred') == (
+        'button', 'false') and heard.get('gap 3 of loop 0, before statement 3') == ('button', 'true'), heard)
     hall.end()
 
 
@@ -296,15 +213,16 @@ def trial(tally: Tally, driver: Driver, folder: pathlib.Path) -> None:
 
 
 def screenshot(file: str, folder: pathlib.Path) -> None:
-    """P with three barriers, while gap 9 is pointed at by the keyboard."""
-    hall = Hall(folder / 'hall', EXAMPLES['p'], ['anna']).start()
+    """P with two barriers."""
+    hall = Hall(folder / 'p', EXAMPLES['p'], ['anna'], 'p.hex').start()
     driver = Driver()
     page = Page(Tally(), driver, hall, 'anna')
-    page.browser.screen(760, 640, 1)
+    page.browser.screen(640, 826, 1)
     page.enter()
     page.shows('nothing put')
-    for gap in (5, 9, 13):
+    for gap in (5, 9):
         page.turn(gap)
+    page.browser.script('document.querySelector("main").scrollTo(0, 0)')
     pathlib.Path(file).write_bytes(page.browser.picture())
     driver.close()
 
