@@ -7,10 +7,11 @@ import secrets
 
 from office.command import Fault, printable, read_in, write_over
 
-NAME = re.compile(r"\w[\w .'-]{0,63}")
-FORM = "a name has at most 64 letters, digits, spaces and . ' - _, and begins with a letter or a digit"
+NAME = re.compile(r"\w[\w .'-]{0,39}")
+FORM = "a name has at most 40 letters, digits, spaces and . ' - _, and begins with a letter or a digit"
 # Letters that nobody takes for one another. Sixteen of them are too many to be guessed.
 LETTERS, GROUPS, GROUP = 'abcdefghjkmnpqrstuvwxyz23456789', 4, 4
+TICKET = re.compile('[a-z0-9]{4}(?:-[a-z0-9]{4}){3}')
 COLUMNS = ['candidate', 'ticket']
 
 
@@ -44,8 +45,9 @@ def tickets_in(file: str) -> dict[str, str]:
     if not os.path.exists(file):
         return {}
     columns, *rows = [*csv.reader(io.StringIO(read_in(file).decode('utf-8', 'replace')))] or [[]]
-    if columns != COLUMNS or any(len(row) != len(COLUMNS) for row in rows):
-        raise Fault(f'{printable(file)} has no tickets: move it away, and each candidate gets a new one')
+    tickets = [row[1] for row in rows if len(row) == len(COLUMNS) and TICKET.fullmatch(row[1])]
+    if columns != COLUMNS or len(set(tickets)) < len(rows):
+        raise Fault(f'{printable(file)} has not a ticket for each: move it away, and all get new ones')
     return dict(rows)
 
 

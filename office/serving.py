@@ -16,6 +16,7 @@ from dataclasses import dataclass
 from http import HTTPStatus
 
 from office.board import Board
+from office.candidates import TICKET
 from office.command import ROOT
 from office.hall import HAND_IN, MOVE, Declined, Hall, Sitting
 from office.paper import Paper
@@ -24,7 +25,6 @@ from office.show import listing_of
 SERVED = ROOT / 'office' / 'served'
 COOKIE, LONGEST, IDLE, WAITING = 'ticket', 64, 60, 512
 HANDS_IN = re.compile(f'{HAND_IN} ([0-9]{{1,9}})')
-TICKET = re.compile('ticket=([a-z0-9-]{1,40})')
 HTML, CSS, SCRIPT, DATA = ('text/html; charset=utf-8', 'text/css; charset=utf-8', 'text/javascript; charset=utf-8',
                            'application/json')
 HEADERS = {
@@ -109,7 +109,7 @@ class Handler(http.server.BaseHTTPRequestHandler):
             self.send(routes[self.path](self, body))
 
     def body(self) -> str | None:
-        """The body of a request. One that is long, or of no length or no ASCII, is refused and not read."""
+        """The body of a request, which is short and whole."""
         lengths = self.headers.get_all('Content-Length', ['0'] if self.command == 'GET' else [])
         if self.request_version == 'HTTP/0.9' or 'Transfer-Encoding' in self.headers or len(lengths) != 1:
             self.send_error(HTTPStatus.LENGTH_REQUIRED)
@@ -117,7 +117,7 @@ class Handler(http.server.BaseHTTPRequestHandler):
             self.send_error(HTTPStatus.REQUEST_ENTITY_TOO_LARGE)
         else:
             body = self.rfile.read(int(lengths[0]))
-            if body.isascii():
+            if body.isascii() and len(body) == int(lengths[0]):
                 return body.decode()
             self.send_error(HTTPStatus.BAD_REQUEST)
         return None
@@ -175,10 +175,10 @@ class Handler(http.server.BaseHTTPRequestHandler):
         return Reply(HTTPStatus.OK, SCRIPT, self.server.pages.script)
 
     def enter(self, body: str) -> Reply:
-        asked = TICKET.fullmatch(body.lower().replace('+', ''))
-        if not asked or digest(asked[1]) not in self.server.tickets:
+        field, _, ticket = body.lower().replace('+', '').partition('=')
+        if field != COOKIE or not TICKET.fullmatch(ticket) or digest(ticket) not in self.server.tickets:
             return self.asks_ticket(NO_TICKET)
-        return self.with_cookie(asked[1])
+        return self.with_cookie(ticket)
 
     def leave(self, _: str) -> Reply:
         return self.with_cookie('')

@@ -14,6 +14,15 @@ from kills import killed
 from refusing import raw, request, status, unmoved
 from trying import DESK, EXAMPLES, Tally, run
 
+# Lets nothing reach the disk while a file is there.
+BROKEN = """
+whole = os.fsync
+def fsync(file):
+    if os.path.exists({!r}):
+        raise OSError(5, 'Input/output error')
+    whole(file)
+os.fsync = fsync
+"""
 
 def full_disk(tally: Tally, folder: pathlib.Path) -> None:
     """What cannot be kept is not done and is told; a line that was cut off was never told; a file is written later."""
@@ -46,6 +55,26 @@ def full_disk(tally: Tally, folder: pathlib.Path) -> None:
     hall.end()
 
 
+def broken_disk(tally: Tally, folder: pathlib.Path) -> None:
+    """A move is told when the disk has it, and not before."""
+    hall = Hall(folder / 'broken', EXAMPLES['p'], ['anna'])
+    broken, log = folder / 'broken' / 'is broken', hall.answers / 'sitting.log'
+    with open(hall.folder / 'sitecustomize.py', 'a') as opened:
+        opened.write(BROKEN.format(str(broken)))
+    hall.start()
+    anna = Candidate(hall, 'anna')
+    tally.check('a good disk', anna.move('put 5')[0] == 200)
+    whole = log.read_bytes()
+    broken.touch()
+    for ask in (('/move', 'put 6'), ('/move', 'take back'), ('/hand-in', 'hand in 1')):
+        status, told = anna.ask(*ask)
+        tally.check(f'a broken disk: {ask[1]}', status == 409 and (told['gaps'], told['moves']) == ([5], 1), told)
+    tally.check('nothing is kept', log.read_bytes() == whole and not [*hall.answers.glob('*.hex')])
+    broken.unlink()
+    tally.check('mended', anna.move('take back')[1]['gaps'] == [] and hall.moves('anna') == ['put 5', 'take back'])
+    hall.end()
+
+
 def starts(tally: Tally, folder: pathlib.Path) -> None:
     """What is wrong is told before anybody sits down."""
     hall = Hall(folder / 'starts', EXAMPLES['p'], ['anna', 'bert']).start()
@@ -64,7 +93,10 @@ def starts(tally: Tally, folder: pathlib.Path) -> None:
             ('another paper', log, b'paper 00\n', 'another paper'), ('damaged', log, whole + b'anna put 6\n', 'line 3'),
             ('put again', log, whole + b't\tanna\tput 5\n', 'line 3'), ('no move', log, whole + b't\tanna\tplan\n', 'line 3'),
             ('after the end', log, whole + b't\tanna\thand in\nt\tanna\tput 6\n', 'line 4'),
-            ('no tickets', hall.answers / 'tickets.csv', b'anna\n', 'has no tickets'),
+            ('no tickets', hall.answers / 'tickets.csv', b'anna\n', 'not a ticket for each'),
+            ('one ticket for two', hall.answers / 'tickets.csv', tickets.splitlines()[0] + b'\n' + b''.join(
+                b'%s,aaaa-aaaa-aaaa-aaaa\n' % name for name in (b'anna', b'bert')), 'not a ticket for each'),
+            ('a ticket left out', hall.answers / 'tickets.csv', b'candidate,ticket\nanna,\n', 'not a ticket for each'),
             ('an answer of before', hall.answers / 'bert.hex', b'', 'did not hand it in'),
             ('a paper that is none', hall.folder / 'paper.hex', b'03\n', 'number 4')]:
         file.write_bytes(data)
@@ -114,6 +146,7 @@ def main() -> None:
         starts(tally, folder)
         to_the_register(tally, folder)
         full_disk(tally, folder)
+        broken_disk(tally, folder)
         unmoved(tally, folder)
         killed(tally, folder)
     tally.close()

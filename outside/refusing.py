@@ -63,6 +63,7 @@ def bad_requests(tally: Tally, hall: Hall) -> None:
              (413, 'a length that is none', *move, {'Content_Length': '-5'}),
              (411, 'no length', *move, {'Content_Length': ''}), (411, 'two lengths', *move, {'content-length': '5'}),
              (411, 'in chunks', *move, {'Transfer-Encoding': 'chunked'}),
+             (400, 'a body cut off', *move, {'Content_Length': '6'}),
              (400, 'no ASCII', 'POST', '/move', b'put \xb2', {}),
              (431, 'many headers', *move, {f'X{i}': 'y' for i in range(200)}),
              (414, 'a long path', 'GET', '/' + 'a' * 70_000, b'', {})]
