@@ -27,21 +27,24 @@ COOKIE, LONGEST, IDLE, WAITING = 'ticket', 64, 60, 512
 HANDS_IN = re.compile(f'{HAND_IN} ([0-9]{{1,9}})')
 HTML, CSS, SCRIPT, DATA = ('text/html; charset=utf-8', 'text/css; charset=utf-8', 'text/javascript; charset=utf-8',
                            'application/json')
-HEADERS = {
-    'Content-Security-Policy': "default-src 'none'; script-src 'self'; style-src 'self'; connect-src 'self'; "
-                               "form-action 'self'; base-uri 'none'; frame-ancestors 'none'",
-    'X-Content-Type-Options': 'nosniff', 'Referrer-Policy': 'same-origin', 'Cache-Control': 'no-store',
-    'Cross-Origin-Resource-Policy': 'same-origin'}
+HEADERS = '''Server: desk
+Content-Security-Policy: default-src 'none'; script-src 'self'; style-src 'self'; connect-src 'self'; \
+form-action 'self'; base-uri 'none'; frame-ancestors 'none'
+X-Content-Type-Options: nosniff
+Referrer-Policy: same-origin
+Cache-Control: no-store
+Cross-Origin-Resource-Policy: same-origin
+'''
 NO_TICKET = 'This ticket is not known here. Look whether it is typed as it was handed out.'
 
 
 @dataclass(frozen=True)
 class Reply:
-    """What goes back: a status, the kind of the body, the body, and further headers."""
+    """What goes back: a status, the kind of the body, the body, and further headers, a line each."""
     status: HTTPStatus
     kind: str
     body: bytes
-    more: tuple[tuple[str, str], ...] = ()
+    more: str = ''
 
 
 def template(name: str) -> string.Template:
@@ -123,22 +126,16 @@ class Handler(http.server.BaseHTTPRequestHandler):
         return None
 
     def send(self, reply: Reply) -> None:
-        self.send_response(reply.status)
-        for name, value in (*HEADERS.items(), *reply.more, ('Content-Type', reply.kind),
-                            ('Content-Length', str(len(reply.body)))):
-            self.send_header(name, value)
-        self.end_headers()
-        self.wfile.write(reply.body)
+        head = (f'{self.protocol_version} {reply.status.value} {reply.status.phrase}\nDate: {self.date_time_string()}\n'
+                f'{HEADERS}{reply.more}Content-Type: {reply.kind}\nContent-Length: {len(reply.body)}\n\n')
+        self.wfile.write(head.replace('\n', '\r\n').encode() + reply.body)
 
     def send_error(self, code: int, message: str | None = None, explain: str | None = None) -> None:
         """A refusal. It says nothing of what was asked, and ends the connection."""
         self.close_connection = True
         status = HTTPStatus(code)
         body = f'{status.value} {status.phrase}\n'.encode()
-        self.send(Reply(status, 'text/plain; charset=utf-8', body, (('Connection', 'close'),)))
-
-    def version_string(self) -> str:
-        return 'desk'
+        self.send(Reply(status, 'text/plain; charset=utf-8', body, 'Connection: close\n'))
 
     def log_message(self, *_: object) -> None:
         """What candidates do is in the log of moves."""
@@ -153,7 +150,7 @@ class Handler(http.server.BaseHTTPRequestHandler):
         """Sends the browser to the page with a ticket, or with none."""
         ends = '' if value else '; Max-Age=0'
         cookie = f'{COOKIE}={value}; HttpOnly; SameSite=Strict; Path=/{ends}'
-        return Reply(HTTPStatus.SEE_OTHER, HTML, b'', (('Location', '/'), ('Set-Cookie', cookie)))
+        return Reply(HTTPStatus.SEE_OTHER, HTML, b'', f'Location: /\nSet-Cookie: {cookie}\n')
 
     def asks_ticket(self, said: str = '') -> Reply:
         body = self.server.pages.ticket.substitute(said=html.escape(said)).encode()

@@ -58,7 +58,7 @@ class Clicker:
 
     def same(self, told: dict) -> bool:
         """Whether what is told is the library's sitting."""
-        return (told['gaps'], told['moves'], bytes(told['cuts'])) == (
+        return (told['gaps'], told['moves'], bytes.fromhex(told['cuts'])) == (
             placed(self.desk, self.desk.sitting()).gaps, self.moves, self.desk.cuts)
 
     def after(self, told: dict) -> bool:

@@ -197,6 +197,7 @@ def trial(tally: Tally, driver: Driver, folder: pathlib.Path) -> None:
     day(tally, anna)
     ring(anna)
     other.enter()
+    other.shows('nothing put')
     for gap in (3, 9):
         other.turn(gap)
         anna.turn(gap)
