@@ -81,7 +81,7 @@ pub fn at_limit(random: &mut Random) -> (Vec<u8>, Vec<u8>) {
     };
     match random.below(3) {
         0 => {
-            let (first, depth) = (2 + random.below(POINTS - 5), 1 + random.below(DEPTH - 1));
+            let (first, depth) = (2 + random.below(POINTS - 6), 1 + random.below(DEPTH - 1));
             let (n, m) = (random_points(random, first, depth), random_points(random, POINTS - 3 + more - first, depth));
             (n.text(), m.text())
         }
