@@ -147,6 +147,7 @@ typedef void *OnText(void *, Desk, const uint8_t *, size_t);
 typedef void *OnNumber(void *, Desk, size_t);
 typedef void *OnPlain(void *, DeskPlain);
 typedef void *OnTurns(void *, Desk, const uint8_t *, size_t, size_t);
+typedef void *OnTwo(void *, Desk, const uint8_t *, size_t, const uint8_t *, size_t);
 typedef void *OnSheet(void *, size_t, size_t, const uint16_t *, size_t, const uint16_t *, size_t);
 typedef void *OnTexts(void *, const uint8_t *, size_t, const uint8_t *, size_t, uint8_t *, size_t);
 typedef void *OnBoth(void *, Desk, const uint8_t *, size_t, uint8_t *, size_t);
@@ -166,6 +167,7 @@ static void sizes(Desk desk, DeskPlain plain) {
     GIVES(OnDesk, desk_textbook, sizeof(DeskChosen), room, desk);
     GIVES(OnDesk, desk_missing_runs, sizeof(DeskChosen), room, desk);
     GIVES(OnText, desk_count_calls, sizeof(DeskCalls), room, desk, P, 0);
+    GIVES(OnTwo, desk_placement_calls, sizeof(DeskCalls), room, desk, P, 0, P, 0);
     GIVES(OnTurns, desk_improve, sizeof(DeskImproved), room, desk, P, 0, 10);
     GIVES(OnSheet, desk_sheet, sizeof(DeskRunEnds), room, 2, 2, WORK, 4, WAITS, 2);
     GIVES(OnTexts, desk_join, sizeof(DeskJoined), room, P, 0, P, 0, lent, sizeof lent);
@@ -201,6 +203,10 @@ static void fields(Desk desk) {
     DeskCalls calls = desk_count_calls(desk, (const uint8_t[]){2, 3, 5}, 3);
     that("calls", calls.number == 0 && calls.line == 0 && calls.calls == 16);
     that("calls refused", desk_count_calls(desk, (const uint8_t[]){2, 3, 1}, 3).number == 17);
+    calls = desk_placement_calls(desk, (const uint8_t *)"2103\n210d\n", 10, (const uint8_t[]){2, 3, 1}, 3);
+    that("a placement's calls", calls.number == 0 && calls.line == 0 && calls.calls == 8);
+    calls = desk_placement_calls(desk, (const uint8_t *)"2103\n210e\n", 10, (const uint8_t[]){2, 3, 1}, 3);
+    that("no placement", calls.number == 8 && calls.line == 2 && calls.calls == 0);
     DeskReply refused = desk_load(desk, (const uint8_t *)"01\n", 3);
     that("refused", refused.number == 4 && refused.line == 2);
     that("nest kept", memcmp(&refused.desk.nest, &desk.nest, sizeof desk.nest) == 0);

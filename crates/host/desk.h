@@ -261,6 +261,10 @@ DeskChosen desk_missing_runs(Desk desk);
    2 to 16 for the others. A barrier counts the product of the turns of the loops around it. Numbers 10, 11, 17. */
 DeskCalls desk_count_calls(Desk desk, const uint8_t *turns, size_t length);
 
+/* The barrier calls of the placement that a text spells, correct or not; no key is wanted. A byte of turns for each loop
+   in order of its DO, from 1 to 16. Numbers 10, then 1, 2, 8, 16 with their line, then 17. */
+DeskCalls desk_placement_calls(Desk desk, const uint8_t *text, size_t length, const uint8_t *turns, size_t loops);
+
 /* Joins two nest texts and writes a third, as desk_write writes the key: a new outermost loop, in it the first nest and
    then the second. Numbers 1 to 8 and 14 of the first text, then of the second, with their line; then 14, 18, 9. */
 DeskJoined desk_join(const uint8_t *a, size_t first, const uint8_t *b, size_t second, uint8_t *out, size_t room);

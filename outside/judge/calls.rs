@@ -33,6 +33,8 @@ pub enum Call {
     MissingRuns,
     /// With the turns of the loops.
     CountCalls(Vec<u8>),
+    /// Of a placement text, with the turns of the loops.
+    PlacementCalls(Vec<u8>, Vec<u8>),
     /// Of two texts, into a buffer; the desk has no part in it.
     Join(Vec<u8>, Vec<u8>, Vec<u8>),
     /// With the turns of the loops, and a budget of tries.
@@ -62,6 +64,7 @@ impl Call {
             Call::Slip(true, ..) => "examiner's slip",
             Call::MissingRuns => "missing runs",
             Call::CountCalls(_) => "count calls",
+            Call::PlacementCalls(..) => "placement calls",
             Call::Join(..) => "join",
             Call::Improve(..) => "improve",
             Call::Sheet(_) => "sheet",
@@ -76,6 +79,7 @@ impl Call {
             Call::Count(n) | Call::Put(n) | Call::Lift(n) => n.to_string(),
             Call::Over(planned, key) => format!("with a key: {planned}, words {key:?}"),
             Call::Slip(_, text, out) => format!("{}, a buffer of {} bytes", shown(text), out.len()),
+            Call::PlacementCalls(text, turns) => format!("{}, {turns:?}", shown(text)),
             Call::Improve(turns, budget) => format!("{turns:?}, {budget} tries"),
             Call::Sheet(sheet) => format!("{sheet:?}"),
             Call::Join(a, b, out) => format!("{}, {}, a buffer of {} bytes", shown(a), shown(b), out.len()),
@@ -156,6 +160,7 @@ pub fn play(desk: &mut Desk, call: &Call) -> Reply {
             Call::Slip(examiner, text, out) => slips::play(*desk, *examiner, text, out),
             Call::MissingRuns => skipping::play(*desk),
             Call::CountCalls(turns) => runs::play(*desk, turns),
+            Call::PlacementCalls(text, turns) => runs::play_placement(*desk, text, turns),
             Call::Join(a, b, out) => joining::play(a, b, out),
             Call::Improve(turns, budget) => improving::play(*desk, turns, *budget),
             Call::Sheet(sheet) => sheets::play(sheet),

@@ -98,6 +98,7 @@ impl Desk {
             Call::Slip(examiner, text, out) => return slips::answer(self, *examiner, text, out),
             Call::MissingRuns => (number, values) = skipping::answer(self),
             Call::CountCalls(turns) => return runs::answer(self, turns),
+            Call::PlacementCalls(text, turns) => return runs::answer_placement(self, text, turns),
             Call::Join(a, b, out) => return joining::answer(a, b, out),
             Call::Improve(turns, budget) => return improving::answer(self, turns, *budget),
             Call::Sheet(sheet) => return sheets::answer(sheet),

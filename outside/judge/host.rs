@@ -106,6 +106,7 @@ extern "C" {
     pub fn desk_examiner_slip(desk: Desk, text: *const u8, length: usize, out: *mut u8, room: usize) -> Answer;
     pub fn desk_missing_runs(desk: Desk) -> Chosen;
     pub fn desk_count_calls(desk: Desk, turns: *const u8, length: usize) -> Calls;
+    pub fn desk_placement_calls(desk: Desk, text: *const u8, length: usize, turns: *const u8, loops: usize) -> Calls;
     pub fn desk_improve(desk: Desk, turns: *const u8, length: usize, budget: usize) -> Improved;
     pub fn desk_sheet(
         processors: usize, phases: usize, durations: *const u16, works: usize, waits: *const u16, sets: usize,

@@ -8,7 +8,7 @@ use crate::nests::*;
 use crate::order::{correct_placements, first_key, gap_list, search};
 use crate::papers::*;
 use crate::self_check::Checks;
-use crate::texts::{read_nest, shown};
+use crate::texts::{read_nest, read_placement, shown};
 
 /// The most turns of a loop.
 pub const TURNS: u8 = 16;
@@ -41,11 +41,32 @@ pub fn answer(desk: &Desk, turns: &[u8]) -> Reply {
     if turns_fit(nest, turns, INNER) { reply(0, calls(nest, turns, desk.key()) as usize) } else { reply(17, 0) }
 }
 
+/// What the call answers for a placement text: 10, then the faults of the text, then 17, or its calls; turns from 1.
+pub fn answer_placement(desk: &Desk, text: &[u8], turns: &[u8]) -> Reply {
+    let reply = |number, line, calls| {
+        Reply { number, line, values: vec![calls], lent: [guarded(text), guarded(turns)].concat() }
+    };
+    let fault = desk.fault(false);
+    let Some(nest) = desk.nest.as_ref().filter(|_| fault == 0) else { return reply(fault, 0, 0) };
+    match read_placement(nest, text) {
+        Err(r) => reply(r.number, r.line, 0),
+        Ok(_) if !turns_fit(nest, turns, 1) => reply(17, 0, 0),
+        Ok(gaps) => reply(0, 0, calls(nest, turns, &gaps) as usize),
+    }
+}
+
 /// The library's own answer.
 pub fn play(desk: host::Desk, turns: &[u8]) -> Reply {
     let (lent, length) = lend(turns);
     let c = unsafe { host::desk_count_calls(desk, lent[GUARD.len()..].as_ptr(), length) };
     Reply { number: c.number, line: c.line, values: vec![c.calls as usize], lent }
+}
+
+pub fn play_placement(desk: host::Desk, text: &[u8], turns: &[u8]) -> Reply {
+    let ((spelled, length), (lent, loops)) = (lend(text), lend(turns));
+    let at = GUARD.len();
+    let c = unsafe { host::desk_placement_calls(desk, spelled[at..].as_ptr(), length, lent[at..].as_ptr(), loops) };
+    Reply { number: c.number, line: c.line, values: vec![c.calls as usize], lent: [spelled, lent].concat() }
 }
 
 /// Turns for the loops of a paper, mostly such that fit; from 1 on in part, since other calls take these.
@@ -111,8 +132,35 @@ pub fn check_runs(checks: &mut Checks) {
     let beginning = [load(Q), call(&[2, 2, 2]), Call::Plan, call(&[2, 2, 2])];
     check_altered(checks, &[&beginning[..], &[call(&[1, 16, 16]), call(&[1, 1, 2])]].concat());
     check_altered(checks, &[load("01 04 03 02 02 110102"), Call::Plan, call(&[2, 2]), call(&[])]);
+    check_placements(checks);
     (0..120).for_each(|case| check_random(checks, &mut Random::new(15, case)));
     (0..6).for_each(|case| check_full(checks, &mut Random::new(16, case)));
+}
+
+/// Calls of any placement: with a key or without, correct or not, turns from 1; each number before those behind it.
+fn check_placements(checks: &mut Checks) {
+    let call = |gaps: &str, turns: &[u8]| Call::PlacementCalls(words(gaps), turns.to_vec());
+    let asked = |paper: &str, gaps: &str, turns: &[u8]| replies(&[load(paper), call(gaps, turns)], 1)[0].clone();
+    let all: [(&str, &str, &[u8], usize); 6] = [
+        (ONCE, "2104", &[3, 2], 6), (ONCE, "2104", &[3, 1], 3), (ONCE, "2102 2107", &[3, 1], 6), (ONCE, "", &[1, 1], 0),
+        (Q, "2104 2107", &[4, 2, 3], 32), (DEEP, "2108", &[16; 8], 1 << 32),
+    ];
+    for (paper, gaps, turns, wanted) in all {
+        checks.that(&format!("{wanted} calls of {gaps}"), asked(paper, gaps, turns) == (0, 0, vec![wanted]));
+    }
+    let barred = "01 03 03 02 1301";
+    let refused: [(&str, &str, &[u8], u8, usize); 10] = [
+        ("02", "zz", &[0], 10, 0), (ONCE, "2104 zz", &[0], 1, 2), (ONCE, "1104", &[0], 2, 1),
+        (ONCE, "2104 2109", &[0], 8, 2), (barred, "2101", &[0], 16, 1), (barred, "2102", &[2], 17, 0),
+        ("04 03 02", "", &[2], 17, 0), (ONCE, "2104", &[3, 0], 17, 0), (ONCE, "2104", &[17, 3], 17, 0),
+        (ONCE, "2104", &[3], 17, 0),
+    ];
+    for (paper, gaps, turns, number, line) in refused {
+        let shows = format!("{number} for {gaps:?}, turns {turns:?}: {paper}");
+        checks.that(&shows, asked(paper, gaps, turns) == (number, line, vec![0]));
+    }
+    let beginning = [load(Q), call("2102 2106", &[4, 2, 3]), Call::Plan, call("2104", &[1, 1, 1])];
+    check_altered(checks, &[&beginning[..], &[call("2104 2102", &[1, 1, 1]), call("2104", &[1, 0, 1])]].concat());
 }
 
 /// On a small paper, under all turns from 2 to 4, the outermost loop from 1: no correct placement has fewer calls than

@@ -108,7 +108,7 @@ fn random_call(random: &mut Random, desk: &Desk, mix: Mix, edges: &[Vec<u8>]) ->
 }
 
 fn random_ask(random: &mut Random, desk: &Desk, edges: &[Vec<u8>]) -> Call {
-    match random.below(24) {
+    match random.below(26) {
         0 => Call::Count(random_point(random, desk)),
         1 | 2 => Call::Write(buffer(random, 5 * desk.key().len())),
         3 => Call::Sitting(buffer(random, 5 * desk.sitting.len())),
@@ -127,6 +127,7 @@ fn random_ask(random: &mut Random, desk: &Desk, edges: &[Vec<u8>]) -> Call {
             Call::Improve(turns, random_budget(random, desk.points()))
         }
         19 | 20 => Call::Sheet(random_sheet(random)),
+        21 | 22 => Call::PlacementCalls(placement_text(random, desk), random_turns(random, desk.nest.as_ref())),
         _ => Call::Mark(placement_text(random, desk)),
     }
 }

@@ -1,8 +1,8 @@
 -- What is counted is the fewest: the key of a desk made by calls is a key of its nest, and no correct placement has
 -- fewer calls than a key (`fewest-of-keys`).
--- Main statements: `no-fewer`, `calls-alike`.
+-- Main statements: `no-fewer`, `calls-alike`, `placement-alike`.
 use mathlib.Core.Path.{_≡_, sym, _∙_}
-use mathlib.Core.Bool.{Bool, true, not}
+use mathlib.Core.Bool.{Bool, true, false, not}
 use mathlib.Core.List.{List, []}
 use Prim.Native.Nat.{ℕ}
 use native.Mathlib.Omega.{arith}
@@ -14,12 +14,13 @@ use Rattle.nests.specs.Nests.{Nest}
 use Rattle.calls.specs.Calls.{INNER, callsOf}
 use Rattle.calls.proofs.FewestCalls.{fewest-of-keys}
 use Rattle.desk.specs.Desks.{Desk, desk, deskIn, stateFault}
+use Rattle.desk.specs.Says.{readIn}
 use Rattle.desk.proofs.Ready.{ready, ready-has}
 use Rattle.desk.proofs.TwoDesks.{made-first, two-desks}
 use Rattle.counting.specs.declared.Calls as CC
-use Rattle.counting.specs.Says.{canCount, callsFault}
+use Rattle.counting.specs.Says.{canCount, callsFault, placementFault}
 use Rattle.counting.proofs.Countable.{countable}
-use Rattle.counting.specs.Fewest.{NoFewer, CallsAlike}
+use Rattle.counting.specs.Fewest.{NoFewer, CallsAlike, PlacementAlike}
 
 -- the calls where nothing is refused, else 0
 abbrev callsValue : List ℕ → Desk → ℕ
@@ -57,3 +58,19 @@ calls-alike d e ts a b m n loaded nest planned h k =
         → f (d .loaded) (deskIn d .nest-is) (d .planned) (deskIn d .key) ≡
         f (e .loaded) (deskIn e .nest-is) (e .planned) (deskIn e .key)
     alike f = cc (loaded, nest, planned, key)
+
+-- the same of a placement text
+abbrev placementValue : List ℕ → List ℕ → Desk → ℕ
+placementValue s ts x =
+    pick (eqb (placementFault x s ts .number) 0) (callsOf (x .nest-is) ts (readIn x s .gaps)) 0
+
+pub placement-alike : PlacementAlike
+placement-alike d e s ts a b loaded nest h k =
+    same-reply (a .number) (a .line) (a .calls) (b .number) (b .line) (b .calls)
+    (h .number-is ∙ alike (λ l x. placementFault (desk l x false [] [] []) s ts .number) ∙ sym (k .number-is))
+    (h .line-is ∙ alike (λ l x. placementFault (desk l x false [] [] []) s ts .place) ∙ sym (k .line-is))
+    (h .calls-are ∙ alike (λ l x. placementValue s ts (desk l x false [] [] [])) ∙ sym (k .calls-are))
+  where
+    alike :
+        (f : Bool → Nest → ℕ) → f (d .loaded) (deskIn d .nest-is) ≡ f (e .loaded) (deskIn e .nest-is)
+    alike f = cc (loaded, nest)

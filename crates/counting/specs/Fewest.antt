@@ -1,5 +1,5 @@
 -- What is counted is the fewest: no correct placement has fewer calls; and two desks with the same nest count alike.
--- Main definitions: `NoFewer`, `CallsAlike`.
+-- Main definitions: `NoFewer`, `CallsAlike`, `PlacementAlike`.
 use mathlib.Core.Path.{_≡_}
 use mathlib.Core.Bool.{true}
 use mathlib.Core.List.{List}
@@ -9,7 +9,7 @@ use Rattle.calls.specs.Calls.{callsOf}
 use Rattle.desk.specs.declared.Desk as DD
 use Rattle.desk.specs.Desks.{deskIn, IsMade}
 use Rattle.counting.specs.declared.Calls as CC
-use Rattle.counting.specs.Says.{CallsSays}
+use Rattle.counting.specs.Says.{CallsSays, PlacementSays}
 
 -- 001, lemma 2: of whatever desk has a key, under the turns for which it answers
 abbrev pub NoFewer : Type 0
@@ -30,3 +30,11 @@ CallsAlike =
     deskIn d .nest-is ≡ deskIn e .nest-is →
     d .planned ≡ e .planned →
     CallsSays d ts a → CallsSays e ts b → a ≡ b
+
+-- of a placement's calls the same, with a key or without
+abbrev pub PlacementAlike : Type 0
+PlacementAlike =
+    (d e : DD.Desk) (s ts : List ℕ) (a b : CC.Calls) →
+    d .loaded ≡ e .loaded →
+    deskIn d .nest-is ≡ deskIn e .nest-is →
+    PlacementSays d s ts a → PlacementSays e s ts b → a ≡ b

@@ -1,3 +1,3 @@
--- What the call says that counts the key's barrier calls.
+-- What the calls say that count barrier calls in a run.
 pub mod Says
 pub mod Fewest

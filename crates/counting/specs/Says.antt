@@ -1,7 +1,7 @@
--- The key's barrier calls in a run: what the call promises. It does not change the desk.
--- Main definitions: `canCount`, `callsFault`, `CallsSays`.
+-- Barrier calls in a run: what the two calls promise. Neither changes the desk.
+-- Main definitions: `canCount`, `callsFault`, `CallsSays`, `placementFault`, `PlacementSays`.
 use mathlib.Core.Path.{_≡_}
-use mathlib.Core.Bool.{Bool, true, _&&_, not}
+use mathlib.Core.Bool.{Bool, true, false, _&&_, not}
 use mathlib.Core.List.{List}
 use Prim.Native.Nat.{ℕ}
 use lib.Dec.{eqb}
@@ -10,7 +10,8 @@ use Rattle.laws.specs.Choice.{pick, when, firstOf}
 use Rattle.nests.specs.Nests.{Nest}
 use Rattle.calls.specs.Calls.{INNER, OUTER, fitIn, callsOf}
 use Rattle.desk.specs.declared.Desk as DD
-use Rattle.desk.specs.Desks.{Desk, deskIn, stateFault}
+use Rattle.desk.specs.Desks.{Desk, deskIn, stateFault, Fault, fault}
+use Rattle.desk.specs.Says.{readIn}
 use Rattle.counting.specs.declared.Calls as CC
 
 -- nothing is barred, every loop runs, and the turns are as many as the loops and within their bounds, of the loops
@@ -23,13 +24,40 @@ canCount inner n ts =
 abbrev pub callsFault : ℕ → Desk → List ℕ → ℕ
 callsFault inner x ts = firstOf (stateFault true x) (when (not (canCount inner (x .nest-is) ts)) 17)
 
--- an answer that refuses
-abbrev pub refusal : ℕ → CC.Calls
-refusal number = record { number = number; line = 0; calls = 0 }
+-- a reply that refuses, and one that counts
+abbrev pub refusal : ℕ → ℕ → CC.Calls
+refusal number line = record { number = number; line = line; calls = 0 }
 
--- the key's calls, each barrier counting the product of the turns of the loops around it
-pub record CallsSays (d : DD.Desk) (ts : List ℕ) (r : CC.Calls) : Type 0 where
-  pub number-is : r .number ≡ callsFault INNER (deskIn d) ts
-  pub line-is : r .line ≡ 0
-  pub calls-are
-      : r .calls ≡ pick (eqb (callsFault INNER (deskIn d) ts) 0) (callsOf (deskIn d .nest-is) ts (deskIn d .key)) 0
+abbrev pub counted : ℕ → CC.Calls
+counted calls = record { number = 0; line = 0; calls = calls }
+
+-- the calls of the placement gs, each barrier counting the product of the turns of the loops around it; else 17
+abbrev pub callsUnder : ℕ → Nest → List ℕ → List ℕ → CC.Calls
+callsUnder inner n ts gs = pick (canCount inner n ts) (counted (callsOf n ts gs)) (refusal 17 0)
+
+-- a reply: the fault, and where there is none the calls
+pub record Says (f : Fault) (calls : ℕ) (r : CC.Calls) : Type 0 where
+  pub number-is : r .number ≡ f .number
+  pub line-is : r .line ≡ f .place
+  pub calls-are : r .calls ≡ pick (eqb (f .number) 0) calls 0
+
+-- the key's calls
+abbrev pub CallsSays : DD.Desk → List ℕ → CC.Calls → Type 0
+CallsSays d ts r =
+    Says (fault (callsFault INNER (deskIn d) ts) 0) (callsOf (deskIn d .nest-is) ts (deskIn d .key)) r
+
+-- 10; then the faults of the text s, with their line, as by Mark; then 17, where every loop may run once
+abbrev pub placementFault : Desk → List ℕ → List ℕ → Fault
+placementFault x s ts =
+    pick
+    (eqb (stateFault false x) 0)
+    (pick
+    (eqb (readIn x s .number) 0)
+    (fault (when (not (canCount OUTER (x .nest-is) ts)) 17) 0)
+    (fault (readIn x s .number) (readIn x s .place)))
+    (fault (stateFault false x) 0)
+
+-- the calls of the placement that s spells, with a key or without
+abbrev pub PlacementSays : DD.Desk → List ℕ → List ℕ → CC.Calls → Type 0
+PlacementSays d s ts r =
+    Says (placementFault (deskIn d) s ts) (callsOf (deskIn d .nest-is) ts (readIn (deskIn d) s .gaps)) r

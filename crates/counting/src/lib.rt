@@ -1,11 +1,16 @@
-// The key's barrier calls in a run.
+// Barrier calls in a run: the key's, and those of any placement.
 ghost use mathlib.Core.Path.{_≡_};
+ghost use mathlib.Core.Bool.{true};
 ghost use Rattle.desk.specs.Desks.{IsMade};
+ghost use Rattle.nests.specs.Valid.{isValid};
 ghost use Rattle.nests.specs.Stored.{nestIn, IsCounted};
-ghost use Rattle.counting.specs.Says.{canCount, CallsSays, refusal};
+ghost use Rattle.placements.specs.Placements.{areGaps};
+ghost use Rattle.placements.specs.Words.{gapsIn};
+ghost use Rattle.counting.specs.Says.{canCount, CallsSays, PlacementSays, refusal, callsUnder};
 use desk::Desk;
 use desk::key_fault;
 use nests::Nest;
+use placements::Placement;
 use turns::INNER;
 use turns::OUTER;
 use turns::calls_of;
@@ -26,20 +31,49 @@ pub fn count_calls(desk: Desk, turns: &[u8]) -> Calls
 {
     let number = key_fault(desk.loaded, desk.planned);
     if number != 0 {
-        return refused(number);
+        return refused(number, 0);
     }
     let nest = desk.nest;
-    if can_count(nest, turns, INNER) {
+    let key = desk.key;
+    calls_under(nest, key, turns, INNER)
+}
+
+// The barrier calls of the placement that the text spells, given a number of turns, from 1, for each loop in order of
+// its DO. Numbers 10, then 1, 2, 8, 16 with their line, then 17.
+pub fn placement_calls(desk: Desk, text: &[u8], turns: &[u8]) -> Calls
+    requires { ⌜ IsMade desk ⌝ }
+    ensures { λ r. ⌜ PlacementSays desk (now (text .entry)) (now (turns .entry)) r ⌝ }
+{
+    let number = key_fault(desk.loaded, true);
+    if number != 0 {
+        return refused(number, 0);
+    }
+    let nest = desk.nest;
+    let reading = texts::read_placement(nest.count, barred::barred_of(nest), text);
+    if reading.number != 0 {
+        return refused(reading.number, reading.line);
+    }
+    let placement = reading.placement;
+    calls_under(nest, placement, turns, OUTER)
+}
+
+// The placement's calls; 17 where they cannot be counted.
+fn calls_under(nest: Nest, p: Placement, turns: &[u8], inner: u8) -> Calls
+    requires { ⌜ IsCounted nest ⌝ }
+    requires { ⌜ isValid (nestIn nest) ≡ true ⌝ }
+    requires { ⌜ areGaps (nestIn nest) (gapsIn (p .words)) ≡ true ⌝ }
+    ensures { λ r. ⌜ r ≡ callsUnder inner (nestIn nest) (now (turns .entry)) (gapsIn (p .words)) ⌝ }
+{
+    if can_count(nest, turns, inner) {
         let count = nest.count;
         let points = nest.points;
-        let key = desk.key;
         return Calls {
             number: 0,
             line: 0,
-            calls: calls_of(&points[..count], key, turns),
+            calls: calls_of(&points[..count], p, turns),
         };
     }
-    refused(17)
+    refused(17, 0)
 }
 
 // Nothing is barred, every loop runs, and the turns fit the nest's loops, those of the loops inside from `inner`.
@@ -58,12 +92,12 @@ pub fn can_count(nest: Nest, turns: &[u8], inner: u8) -> bool
     turns_fit(&points[..count], turns, OUTER, inner)
 }
 
-fn refused(number: u8) -> Calls
-    ensures { λ r. ⌜ r ≡ refusal number ⌝ }
+fn refused(number: u8, line: usize) -> Calls
+    ensures { λ r. ⌜ r ≡ refusal number line ⌝ }
 {
     Calls {
         number: number,
-        line: 0,
+        line: line,
         calls: 0,
     }
 }

@@ -1,7 +1,7 @@
 // The desk for programs in other languages: each call under its C name, over structs laid out as C lays them out. Most
 // only forward. desk.h beside this folder declares them all.
 ghost use Rattle.comparing.specs.Says.{CompareSays};
-ghost use Rattle.counting.specs.Says.{CallsSays};
+ghost use Rattle.counting.specs.Says.{CallsSays, PlacementSays};
 ghost use Rattle.desk.specs.Desks.{IsMade, IsMadePlain};
 ghost use Rattle.desk.specs.Says.{EmptySays, LoadSays, PlanSays, CountSays, WriteSays, ListSays, OverSays};
 ghost use Rattle.desk.specs.Says.{markIn, verdictIn};
@@ -220,6 +220,14 @@ pub extern "C" fn desk_count_calls(desk: Desk, turns: &[u8]) -> Calls
     ensures { λ r. ⌜ CallsSays desk (now (turns .entry)) r ⌝ }
 {
     counting::count_calls(desk, turns)
+}
+
+#[no_mangle]
+pub extern "C" fn desk_placement_calls(desk: Desk, text: &[u8], turns: &[u8]) -> Calls
+    requires { ⌜ IsMade desk ⌝ }
+    ensures { λ r. ⌜ PlacementSays desk (now (text .entry)) (now (turns .entry)) r ⌝ }
+{
+    counting::placement_calls(desk, text, turns)
 }
 
 #[no_mangle]
