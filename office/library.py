@@ -103,6 +103,10 @@ class Desk:
         """The key's barrier calls, with a number of turns for each loop in order of its DO."""
         return given(library().desk_count_calls(self.held, turns, len(turns))).calls
 
+    def placement_calls(self, text: bytes, turns: bytes) -> int:
+        """The barrier calls of a placement text, with a number of turns for each loop in order of its DO."""
+        return given(library().desk_placement_calls(self.held, text, len(text), turns, len(turns))).calls
+
     def improve(self, turns: bytes, budget: int) -> Improved:
         """Tries from the key, within a budget."""
         found = given(library().desk_improve(self.held, turns, len(turns), budget))

@@ -1,7 +1,6 @@
 """Cost trees: drawn, and the loops that decide between two of them marked, as docs/WHY.md does.
 
-The counts are the calls'. How many calls a placement makes is read off the counts here, since no call of the desk tells
-it of a placement that is not the key.
+The counts are the calls', and which of two placements is better is the desk's word (Compare).
 """
 from office.paper import Paper
 
@@ -35,11 +34,3 @@ def deciding(paper: Paper, first: Counts, second: Counts) -> list[int]:
     """The loops where two trees differ while all loops inside agree, in the order of their ENDDOs."""
     differ = {d for d in paper.end if first[d] != second[d]}
     return sorted((d for d in differ if not differ.intersection(paper.inside(d))), key=paper.end.get)
-
-
-def calls(paper: Paper, counts: Counts, turns: bytes) -> int:
-    """How often a thread calls a barrier, if each loop makes as many turns as are given, in the order of the DOs."""
-    price: dict[int, int] = {}
-    for d, many in zip(paper.end, turns):
-        price[d] = many * price.get(paper.owner.get(d), 1)
-    return sum(counts[d] * price[d] for d in paper.end)

@@ -6,11 +6,12 @@ from dataclasses import dataclass
 
 from office.asked import GAPS_HELP, PAPER_HELP, TURNS, TURNS_HELP, loaded, placement_asked, planned, turns_asked
 from office.command import Fault, write_out, write_over
+from office.frames import DO
 from office.library import DEARER, UNCUT, Desk, Mark
 from office.page import Shown, page
 from office.paper import Paper, Placed, paper_on, placed
 from office.refusal import Refused
-from office.trees import beside, calls, deciding, drawn
+from office.trees import beside, deciding, drawn
 from office.words import VERDICTS, counted, gaps_named, ranges, runs_of
 
 HELP = 'tells how one placement beats another on a paper, or how it stands beside the key'
@@ -24,6 +25,7 @@ INSIDE_OUT = ('Barriers are not added up: they are counted loop by loop, and the
               'out.')
 FEWEST = ('Of the key alone it is true that no correct placement makes fewer calls, and only where each inner loop '
           'makes at least two turns.')
+UNCOUNTED = 'Calls are not counted on a paper with barred gaps or with loops that may not run.'
 
 
 @dataclass(frozen=True)
@@ -129,9 +131,21 @@ def reasons(paper: Paper, held: Balance, first: Side, second: Side) -> str:
     return ' '.join(told + [verdict(side) for side in (first, second) if side.mark and side.name != KEY])
 
 
-def calls_words(paper: Paper, held: Balance, turns: bytes, first: Side, second: Side) -> str:
+def calls_made(desk: Desk, argument: str, turns: bytes, sides: list[Side]) -> list[int]:
+    """How many calls each makes under the turns, by the desk; none of a paper whose calls it does not count."""
+    try:
+        return [desk.placement_calls(side.text, turns) for side in sides]
+    except Refused as refusal:
+        if desk.nest.barred or desk.nest.flagged:
+            return []
+        many = counted(desk.nest.points.count(DO), 'number')
+        raise Fault(f'this paper wants {many} of turns from 1 to {TURNS}: {argument}') from refusal
+
+
+def calls_words(paper: Paper, held: Balance, turns: bytes, made: list[int], first: Side, second: Side) -> str:
     """How many calls each makes under the turns."""
-    made = [calls(paper, side.placed.counts, turns) for side in (first, second)]
+    if not made:
+        return UNCOUNTED
     if len(set(turns)) == 1:
         when = f'If each loop makes {counted(turns[0], "turn")}'
     else:
@@ -162,14 +176,13 @@ def main(asked: argparse.Namespace) -> None:
     else:
         second = side_of(desk, 'the second placement', placement_asked(asked.other, desk))
     turns = turns_asked(asked.turns, len(paper.end))
-    if len(turns) != len(paper.end) or not all(1 <= many <= TURNS for many in turns):
-        raise Fault(f'this paper wants {counted(len(paper.end), "number")} of turns from 1 to {TURNS}: {asked.turns}')
+    made = calls_made(desk, asked.turns, turns, [first, second])
     held = Balance(*desk.compare(first.text, second.text), deciding(paper, first.placed.counts, second.placed.counts))
     correct = first.placed.uncut is None and second.placed.uncut is None
     trees = [drawn(paper, side.placed.counts, held.deciding if correct else []) for side in (first, second)]
     told = [reasons(paper, held, first, second)]
     if correct:
-        told.append(calls_words(paper, held, turns, first, second))
+        told.append(calls_words(paper, held, turns, made, first, second))
     if asked.html is not None:
         shown = [Shown(side.title, side.placed, tree) for side, tree in zip((first, second), trees)]
         write_over(asked.html, page(asked.paper, paper, shown, told).encode())

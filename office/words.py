@@ -20,8 +20,9 @@ RULES = {
         'barred gaps is to be joined',
     15: 'a dependence has all its gaps barred, so no placement is correct and there is no key',
     16: 'the gap is barred: no barrier may stand there',
-    17: 'the turns are not one number for each loop, from 2 to 16, for the outermost loop (and to improve a key, for '
-        'every loop) from 1; or the paper has barred gaps or loops that may not run, for which no calls are counted',
+    17: 'the turns are not one number for each loop, from 2 to 16, for the outermost loop (and to improve a key or to '
+        'count a placement, for every loop) from 1; or the paper has barred gaps or loops that may not run, for which '
+        'no calls are counted',
     18: 'the joint paper would have more than 256 points, more than 512 dependences or a loop 9 deep',
     19: 'a sheet has 1 to 16 processors and 1 to 64 phases, a duration for each processor in each phase, and a set of '
         'waits for each after the first phase',

@@ -4,6 +4,7 @@
 Needs gcc, target/bin/key and the library's archive (rt staticlib host).
 """
 import ctypes
+import math
 import pathlib
 import random
 import re
@@ -15,14 +16,14 @@ from trying import DESK, DRAW, EXAMPLES, PROGRAM, ROOT, VERSION, Seen, Tally, ru
 
 sys.path.insert(0, str(ROOT))
 from office.day import COMMANDS
+from office.frames import placement_text
 from office.header import DECLARED, HEADER
 from office.library import Desk
-from office.frames import placement_text
 from office.paper import nest_text, paper_on, placed
 from office.refusal import Refused
 from office.show import listing_of
 from office.spell import spelled
-from office.trees import calls, deciding
+from office.trees import deciding
 from office.words import RULES
 
 FULL = '"$@" > /dev/full'
@@ -208,7 +209,7 @@ def as_good(paper, first: dict[int, int], second: dict[int, int], d: int = 0) ->
 
 
 def trees(tally: Tally) -> None:
-    """Which of two placements is better, which loops decide, and calls, on random nests."""
+    """Which of two placements is better, which loops decide, and the calls of a placement, on random nests."""
     rng = random.Random(1)
     for turn in range(300):
         points, opened = [1], 1
@@ -227,13 +228,10 @@ def trees(tally: Tally) -> None:
         held = all(first[d] <= second[d] for d in loops), all(second[d] <= first[d] for d in loops)
         tally.check(f'deciding loops, turn {turn}', held == wanted, (points, texts))
         turns = bytes(rng.randrange(1, 17) for _ in paper.end)
-        made, by_hand = calls(paper, first, turns), 0
-        for d in paper.end:
-            product = first[d]
-            for k, many in zip(paper.end, turns):
-                product *= many if k <= d < paper.end[k] else 1
-            by_hand += product
-        tally.check(f'calls, turn {turn}', made == by_hand, (points, first, turns))
+        gaps = [gap for gap in range(1, len(points)) if rng.random() < 0.3]
+        by_hand = sum(math.prod(many for k, many in zip(paper.end, turns) if k < gap <= paper.end[k]) for gap in gaps)
+        made = desk.placement_calls(placement_text(gaps), turns)
+        tally.check(f'calls, turn {turn}', made == by_hand, (points, gaps, turns))
 
 
 def reasons(tally: Tally, folder: pathlib.Path) -> None:
@@ -262,6 +260,9 @@ def reasons(tally: Tally, folder: pathlib.Path) -> None:
     blocked = folder / 'blocked.hex'
     blocked.write_bytes(b'01\n03\n03\n02\n110001\n1301\n')
     tally.check('no key', 'number 15' in run(DESK, 'why', blocked, '2').err)
+    barred = folder / 'barred.hex'
+    barred.write_bytes(b'01\n03\n03\n02\n110102\n1301\n')
+    tally.check('no calls counted', told(run(DESK, 'why', barred, '2'), 'Calls are not counted'))
     tally.check('two without a key', told(run(DESK, 'why', blocked, '2', '3'), 'With gap 2 dependence 0 is not cut'))
     for asked, word in [(['14'], 'no gaps of this paper'), (['5', '--turns', '0'], '3 numbers of turns from 1 to 16'),
                         (['5', '--turns', '2,2'], '3 numbers of turns'), (['5', '--turns', 'x'], 'up to 16')]:
