@@ -12,7 +12,7 @@ from collections.abc import Callable
 
 PACKAGES = ['chromium', 'chromium-driver']
 INSTALL = ['apt-get', 'install', '-y', '-q', '--no-install-recommends', *PACKAGES]
-OPTIONS = ['--headless=new', '--no-sandbox', '--disable-dev-shm-usage', '--disable-gpu', '--hide-scrollbars',
+OPTIONS = ['--headless=new', '--no-sandbox', '--disable-dev-shm-usage', '--hide-scrollbars',
            '--disable-background-networking', '--no-first-run']
 ELEMENT = 'element-6066-11e4-a52e-4f735466cecf'
 ENTER, TAB, SHIFT, UP, DOWN, HOME, END, ESCAPE = (

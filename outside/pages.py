@@ -1,7 +1,7 @@
 """A candidate's page in a browser: what is done on it, and what it shows beside the library's sitting."""
 import sys
 
-from browser import ENTER, Browser, Driver, until
+from browser import ENTER, Browser, until
 from halls import Hall
 from trying import ROOT, Tally
 
@@ -35,9 +35,9 @@ GAP = 'button[data-gap="{}"]'.format
 class Page:
     """A candidate's page, and beside it a desk of the library on which the same moves are made."""
 
-    def __init__(self, tally: Tally, driver: Driver, hall: Hall, name: str):
+    def __init__(self, tally: Tally, browser: Browser, hall: Hall, name: str):
         self.tally, self.hall, self.name = tally, hall, name
-        self.browser, self.desk, self.handed_in = Browser(driver), Desk(), ''
+        self.browser, self.desk, self.handed_in = browser, Desk(), ''
         self.desk.load(hall.paper)
 
     def enter(self, ticket: str = '') -> None:

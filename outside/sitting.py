@@ -17,12 +17,13 @@ import tempfile
 import urllib.request
 
 import browser
-from browser import DOWN, END, ENTER, ESCAPE, HOME, SHIFT, TAB, UP, Driver, until
+from browser import DOWN, END, ENTER, ESCAPE, HOME, SHIFT, TAB, UP, Browser, Driver, until
 from halls import Candidate, Hall
 from pages import GAP, SHOWN, Page
 from trying import DESK, EXAMPLES, ROOT, Tally, run
 
 sys.path.insert(0, str(ROOT))
+from office.paper import placed
 from office.words import RULES
 
 MANY = 66
@@ -68,9 +69,15 @@ def day(tally: Tally, page: Page) -> None:
 
 
 def ring(page: Page) -> None:
-    """More moves than can be taken back."""
+    """More moves than can be taken back, made in another window."""
+    elsewhere, there = Candidate(page.hall, page.name), set(placed(page.desk, page.desk.sitting()).gaps)
     for turn in range(MANY):
-        page.turn(1 + turn % 13)
+        gap = 1 + turn % 13
+        elsewhere.move(f'lift {gap}' if gap in there else f'put {gap}')
+        (page.desk.lift if gap in there else page.desk.put)(gap)
+        there ^= {gap}
+    page.browser.open(page.hall.address)
+    page.shows(f'after {MANY} moves')
     for _ in range(65):
         page.take_back()
 
@@ -137,24 +144,24 @@ def away(tally: Tally, page: Page) -> None:
         page.turn(gap)
 
 
-def large(tally: Tally, driver: Driver, folder: pathlib.Path) -> None:
+def large(tally: Tally, seen: Browser, folder: pathlib.Path) -> None:
     """A full-size paper, at 200 percent: every gap can be reached and clicked, and the page fits its window."""
     paper = subprocess.run([sys.executable, ROOT / 'outside' / 'papers.py', 'mixed', '256'], capture_output=True,
                            check=True).stdout
     hall = Hall(folder / 'large', paper, ['gross']).start()
-    page = Page(tally, driver, hall, 'gross')
+    page = Page(tally, seen, hall, 'gross')
     for zoom in (1, 2):
-        page.browser.screen(1280, 800, zoom)
-        page.enter() if zoom == 1 else page.browser.open(hall.address)
+        seen.screen(1280, 800, zoom)
+        page.enter() if zoom == 1 else seen.open(hall.address)
         page.shows(f'zoom {zoom}')
-        missed = page.browser.script("""
+        missed = seen.script("""
             return [...document.querySelectorAll('button[data-gap]')].filter((button) => {
                 button.scrollIntoView({ block: 'nearest', inline: 'nearest' });
                 const at = button.getBoundingClientRect();
                 return document.elementFromPoint(at.left + Math.min(at.width, 100) / 2, at.top + at.height / 2) !== button;
             }).map((button) => button.dataset.gap);""")
         tally.check(f'zoom {zoom}: every gap can be clicked', missed == [], missed)
-        fits = page.browser.script("""
+        fits = seen.script("""
             const page = document.documentElement, at = document.getElementById('hand').getBoundingClientRect();
             return [page.scrollWidth <= innerWidth, page.scrollHeight <= innerHeight, at.right <= innerWidth,
                 document.querySelector('main').clientHeight > innerHeight / 2];""")
@@ -164,15 +171,15 @@ def large(tally: Tally, driver: Driver, folder: pathlib.Path) -> None:
     hall.end()
 
 
-def barred(tally: Tally, driver: Driver, folder: pathlib.Path) -> None:
+def barred(tally: Tally, seen: Browser, folder: pathlib.Path) -> None:
     """A barred gap says so and is refused."""
     hall = Hall(folder / 'barred', (ROOT / 'examples' / 'foundation.hex').read_bytes(), ['uta']).start()
-    page = Page(tally, driver, hall, 'uta')
+    page = Page(tally, seen, hall, 'uta')
     page.enter()
     page.shows('nothing put')
     for gap in (1, 3, 4):
         page.turn(gap)
-    heard = page.browser.heard()
+    heard = seen.heard()
     tally.check('a barred gap is called so', heard.get('gap 1 of loop 0, before statement 1, barred') == (
         'button', 'false') and heard.get('gap 3 of loop 0, before statement 3') == ('button', 'true'), heard)
     hall.end()
@@ -190,9 +197,10 @@ def nothing_inline(tally: Tally, page: Page) -> None:
     tally.check('no complaint of the browser', told == [], told)
 
 
-def trial(tally: Tally, driver: Driver, folder: pathlib.Path) -> None:
+def two(tally: Tally, seen: list[Browser], folder: pathlib.Path) -> None:
+    """A sitting of two candidates, each in a browser."""
     hall = Hall(folder / 'hall', EXAMPLES['p'], ['anna', 'Özge K.']).start()
-    anna, other = (Page(tally, driver, hall, name) for name in hall.names)
+    anna, other = (Page(tally, browser, hall, name) for browser, name in zip(seen, hall.names))
     entered(tally, anna)
     day(tally, anna)
     ring(anna)
@@ -202,7 +210,7 @@ def trial(tally: Tally, driver: Driver, folder: pathlib.Path) -> None:
         other.turn(gap)
         anna.turn(gap)
     other.take_back()
-    anna.shows('beside another', f'A barrier stands in gap 9.')
+    anna.shows('beside another', 'A barrier stands in gap 9.')
     away(tally, other)
     keyboard(tally, other)
     register(tally, hall, other.name)
@@ -217,7 +225,7 @@ def screenshot(file: str, folder: pathlib.Path) -> None:
     """P with two barriers."""
     hall = Hall(folder / 'p', EXAMPLES['p'], ['anna'], 'p.hex').start()
     driver = Driver()
-    page = Page(Tally(), driver, hall, 'anna')
+    page = Page(Tally(), Browser(driver), hall, 'anna')
     page.browser.screen(640, 826, 1)
     page.enter()
     page.shows('nothing put')
@@ -240,9 +248,10 @@ def main() -> None:
             screenshot(sys.argv[2], folder)
             return
         driver = Driver()
-        trial(tally, driver, folder)
-        barred(tally, driver, folder)
-        large(tally, driver, folder)
+        seen = [Browser(driver), Browser(driver)]
+        two(tally, seen, folder)
+        barred(tally, seen[0], folder)
+        large(tally, seen[0], folder)
         driver.close()
     tally.close()
 
