@@ -1,5 +1,6 @@
 //! The calls of the library: what each is given, and what the library does with it.
 
+use crate::comparing;
 use crate::host::{self, Desk, Placement, PlainDesk, WORDS};
 use crate::improving;
 use crate::joining;
@@ -30,6 +31,8 @@ pub enum Call {
     Textbook,
     /// The examiner's slip or the candidate's, of a text, into a buffer.
     Slip(bool, Vec<u8>, Vec<u8>),
+    /// Of two placement texts.
+    Compare(Vec<u8>, Vec<u8>),
     MissingRuns,
     /// With the turns of the loops.
     CountCalls(Vec<u8>),
@@ -62,6 +65,7 @@ impl Call {
             Call::Textbook => "textbook",
             Call::Slip(false, ..) => "candidate's slip",
             Call::Slip(true, ..) => "examiner's slip",
+            Call::Compare(..) => "compare",
             Call::MissingRuns => "missing runs",
             Call::CountCalls(_) => "count calls",
             Call::PlacementCalls(..) => "placement calls",
@@ -79,6 +83,7 @@ impl Call {
             Call::Count(n) | Call::Put(n) | Call::Lift(n) => n.to_string(),
             Call::Over(planned, key) => format!("with a key: {planned}, words {key:?}"),
             Call::Slip(_, text, out) => format!("{}, a buffer of {} bytes", shown(text), out.len()),
+            Call::Compare(a, b) => format!("{}, {}", shown(a), shown(b)),
             Call::PlacementCalls(text, turns) => format!("{}, {turns:?}", shown(text)),
             Call::Improve(turns, budget) => format!("{turns:?}, {budget} tries"),
             Call::Sheet(sheet) => format!("{sheet:?}"),
@@ -158,6 +163,7 @@ pub fn play(desk: &mut Desk, call: &Call) -> Reply {
             }
             Call::Textbook => textbook::play(*desk),
             Call::Slip(examiner, text, out) => slips::play(*desk, *examiner, text, out),
+            Call::Compare(a, b) => comparing::play(*desk, a, b),
             Call::MissingRuns => skipping::play(*desk),
             Call::CountCalls(turns) => runs::play(*desk, turns),
             Call::PlacementCalls(text, turns) => runs::play_placement(*desk, text, turns),

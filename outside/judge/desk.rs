@@ -2,6 +2,7 @@
 //! the sitting is a set of gaps, every count is made anew, and to take back it keeps every placement of before.
 
 use crate::calls::{guarded, Call, Reply};
+use crate::comparing;
 use crate::host::{self, gaps_of, KEPT};
 use crate::improving;
 use crate::joining;
@@ -12,7 +13,7 @@ use crate::sheets;
 use crate::skipping;
 use crate::slips;
 use crate::textbook;
-use crate::texts::{line, read_nest, read_placement};
+use crate::texts::{barrier_lines, read_nest, read_placement};
 use std::collections::{BTreeSet, VecDeque};
 
 /// A nest may have a key that this reading cannot find: on such a paper the library's own is held to what is known.
@@ -96,6 +97,7 @@ impl Desk {
             }
             Call::Textbook => (number, values) = textbook::answer(self.nest.as_ref()),
             Call::Slip(examiner, text, out) => return slips::answer(self, *examiner, text, out),
+            Call::Compare(a, b) => return comparing::answer(self, a, b),
             Call::MissingRuns => (number, values) = skipping::answer(self),
             Call::CountCalls(turns) => return runs::answer(self, turns),
             Call::PlacementCalls(text, turns) => return runs::answer_placement(self, text, turns),
@@ -203,7 +205,7 @@ impl Desk {
 }
 
 fn write(fault: u8, gaps: &[usize], out: &[u8]) -> (u8, Vec<usize>, Vec<u8>) {
-    write_text(fault, &gaps.iter().flat_map(|&g| line(&[BARRIER, g as u8])).collect::<Vec<u8>>(), out)
+    write_text(fault, &barrier_lines(gaps), out)
 }
 
 /// "Each frame is written from the place where the one before ended; later bytes stay; the length is given."

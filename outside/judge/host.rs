@@ -87,6 +87,9 @@ pub struct RunEnds { pub number: u8, pub line: usize, pub waiting: u32, pub barr
 #[repr(C)]
 pub struct Joined { pub number: u8, pub text: u8, pub line: usize, pub value: usize }
 
+#[repr(C)]
+pub struct Compared { pub number: u8, pub text: u8, pub line: usize, pub first: u8, pub second: u8 }
+
 extern "C" {
     pub fn desk_new() -> Desk;
     pub fn desk_reset(desk: Desk) -> Desk;
@@ -104,6 +107,7 @@ extern "C" {
     pub fn desk_textbook(desk: Desk) -> Chosen;
     pub fn desk_candidate_slip(desk: Desk, text: *const u8, length: usize, out: *mut u8, room: usize) -> Answer;
     pub fn desk_examiner_slip(desk: Desk, text: *const u8, length: usize, out: *mut u8, room: usize) -> Answer;
+    pub fn desk_compare(desk: Desk, a: *const u8, first: usize, b: *const u8, second: usize) -> Compared;
     pub fn desk_missing_runs(desk: Desk) -> Chosen;
     pub fn desk_count_calls(desk: Desk, turns: *const u8, length: usize) -> Calls;
     pub fn desk_placement_calls(desk: Desk, text: *const u8, length: usize, turns: *const u8, loops: usize) -> Calls;

@@ -15,13 +15,15 @@
 //! the gaps of its loop, and comes with the right counts.
 //! The library's calls are played in random scripts, in and out of turn; number, line, values, every lent byte and the
 //! whole desk are compared after each. Before them every two lines of a list are loaded, one behind the other, and
-//! every paper of at most 7 points and two dependences, whichever of its loops are flagged.
+//! every paper of at most 7 points and two dependences, whichever of its loops are flagged; and every two placements on
+//! nests of so many points are held beside each other.
 //! A difference is printed with the text or the script that shows it, and the judge ends with status 1.
 //!
 //! It links the library: rustc -O outside/judge/main.rs -L target/staticlib -l static=host -o target/judge
 
 mod barred_check;
 mod calls;
+mod comparing;
 mod desk;
 mod desk_check;
 mod edges;

@@ -8,6 +8,9 @@ use crate::texts::{line, take_point};
 pub const SEARCHED: usize = 15;
 const SMALL: usize = 12;
 
+/// Of papers with so many points or fewer, all are played.
+pub const SMALLEST: usize = 7;
+
 pub struct Random(u64);
 
 impl Random {
@@ -53,7 +56,7 @@ pub fn flag_loops(random: &mut Random, nest: &mut Nest) {
 }
 
 /// Every closed nest of so many points.
-fn every_shape(points: usize) -> Vec<Nest> {
+pub fn every_shape(points: usize) -> Vec<Nest> {
     let mut open = vec![Nest::default()];
     for left in (0..points).rev() {
         let with = |nest: &Nest, kind: u8| {

@@ -41,8 +41,8 @@ pub fn refusal_text(r: Refusal) -> Vec<u8> { line(&[REFUSAL, r.number, (r.line >
 /// "The key's frames, then for each loop in order of its DO a line 22, DO, count."
 pub fn answer_text(nest: &Nest, key: &[usize]) -> Vec<u8> {
     let counts = nest.counts(key);
-    let barriers = key.iter().flat_map(|&g| line(&[BARRIER, g as u8]));
-    barriers.chain(nest.loops().into_iter().flat_map(|d| line(&[COUNT, d as u8, counts[d] as u8]))).collect()
+    let loops = nest.loops().into_iter().flat_map(|d| line(&[COUNT, d as u8, counts[d] as u8]));
+    barrier_lines(key).into_iter().chain(loops).collect()
 }
 
 /// Says what is wrong with an answer. Where the first key is known it must be the text with this key.

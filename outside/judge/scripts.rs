@@ -1,6 +1,7 @@
 //! Random scripts of the library's calls, in and out of turn, each call held against the judge's own desk.
 
 use crate::calls::{play, Call, Reply};
+use crate::comparing::comparisons;
 use crate::desk::{Desk, Key};
 use crate::edges::{edges, pairs};
 use crate::host::{self, gaps_of, KEPT};
@@ -14,7 +15,7 @@ use crate::runs::{every_turns, random_turns};
 use crate::sheets::{every_sheet, random_sheet};
 use crate::skipping;
 use crate::slips::slip_length;
-use crate::texts::line;
+use crate::texts::barrier_lines;
 use std::collections::BTreeMap;
 use std::sync::atomic::{AtomicUsize, Ordering::SeqCst};
 use std::sync::Mutex;
@@ -108,7 +109,7 @@ fn random_call(random: &mut Random, desk: &Desk, mix: Mix, edges: &[Vec<u8>]) ->
 }
 
 fn random_ask(random: &mut Random, desk: &Desk, edges: &[Vec<u8>]) -> Call {
-    match random.below(26) {
+    match random.below(28) {
         0 => Call::Count(random_point(random, desk)),
         1 | 2 => Call::Write(buffer(random, 5 * desk.key().len())),
         3 => Call::Sitting(buffer(random, 5 * desk.sitting.len())),
@@ -128,6 +129,7 @@ fn random_ask(random: &mut Random, desk: &Desk, edges: &[Vec<u8>]) -> Call {
         }
         19 | 20 => Call::Sheet(random_sheet(random)),
         21 | 22 => Call::PlacementCalls(placement_text(random, desk), random_turns(random, desk.nest.as_ref())),
+        23 | 24 => Call::Compare(placement_text(random, desk), placement_text(random, desk)),
         _ => Call::Mark(placement_text(random, desk)),
     }
 }
@@ -205,7 +207,7 @@ fn placement_text(random: &mut Random, desk: &Desk) -> Vec<u8> {
             i => gaps.insert(i.unwrap_or(gaps.len()), gap),
         }
     }
-    let text: Vec<u8> = gaps.iter().flat_map(|&g| line(&[BARRIER, g as u8])).collect();
+    let text = barrier_lines(&gaps);
     if random.one_in(5) { damage(random, &text, n) } else { text }
 }
 
@@ -254,9 +256,6 @@ fn record(random: &mut Random, desk: &Desk, any: bool) -> [u8; 4] {
 
 type Numbers = BTreeMap<String, usize>;
 
-/// Of papers with so many points or fewer, all are played.
-const SMALLEST: usize = 7;
-
 /// How many random papers are made for a call.
 const FIXED: usize = 8000;
 
@@ -282,15 +281,16 @@ fn play_calls(calls: Vec<Call>, tally: &mut Numbers) -> Option<Vec<Call>> {
     if calls.iter().all(|call| make_counted(&mut pair, call, tally)) { None } else { Some(calls) }
 }
 
-/// What is asked of every two lines of a list, one behind the other, of every small paper, and of papers made for a
-/// call.
+/// What is asked of every two lines of a list, one behind the other, of every small paper and every two placements on
+/// it, and of papers made for a call.
 fn fixed_scripts() -> Vec<Vec<Call>> {
     let lines = pairs().into_iter().map(|text| vec![Call::Load(text), Call::Plan]);
     let flagged = (0..FIXED).map(|case| small_flagged(&mut Random::new(14, case)).text());
     let made = skipping::PAPERS.iter().map(|paper| words(paper.0)).chain(flagged);
     let asked = made.map(|text| vec![Call::Load(text), Call::Plan, Call::MissingRuns]);
+    let beside = (2..=SMALLEST).flat_map(every_shape).flat_map(|nest| comparisons(&nest));
     let every = (2..=SMALLEST).flat_map(every_paper).map(|nest| asks_of(&nest));
-    lines.chain(asked).chain(joins()).chain(every_sheet()).chain(every).collect()
+    lines.chain(asked).chain(joins()).chain(every_sheet()).chain(beside).chain(every).collect()
 }
 
 /// What is asked of a small paper: its missing runs; its calls under all turns from 2 to 4, under some if it is not one

@@ -2,6 +2,7 @@
 //! wrong answer put before it is noticed.
 
 use crate::barred_check::check_barred;
+use crate::comparing::check_comparing;
 use crate::desk_check::check_desk;
 use crate::edges::edges;
 use crate::improving::check_improving;
@@ -39,6 +40,7 @@ pub fn self_check() -> bool {
     check_barred(&mut checks);
     check_textbook(&mut checks);
     check_slips(&mut checks);
+    check_comparing(&mut checks);
     check_skipping(&mut checks);
     check_runs(&mut checks);
     check_joining(&mut checks);
@@ -197,6 +199,6 @@ fn check_random(checks: &mut Checks, random: &mut Random) {
 
 /// The same order in 01's other words: "at each loop where T and U have the same counts in all the loops inside it,
 /// at any depth, T's count is at most U's".
-fn as_good_loop_by_loop(nest: &Nest, t: &[usize], u: &[usize]) -> bool {
+pub fn as_good_loop_by_loop(nest: &Nest, t: &[usize], u: &[usize]) -> bool {
     nest.loops().iter().all(|&d| t[d + 1..nest.end[d]] != u[d + 1..nest.end[d]] || t[d] <= u[d])
 }

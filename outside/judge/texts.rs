@@ -108,6 +108,9 @@ pub fn read_placement(nest: &Nest, text: &[u8]) -> Result<Vec<usize>, Refusal> {
     Ok(gaps)
 }
 
+/// The text of a placement.
+pub fn barrier_lines(gaps: &[usize]) -> Vec<u8> { gaps.iter().flat_map(|&g| line(&[BARRIER, g as u8])).collect() }
+
 /// A text as the shell's printf takes it.
 pub fn shown(text: &[u8]) -> String {
     let byte = |&b: &u8| match b {
