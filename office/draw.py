@@ -15,9 +15,10 @@ MORE = """  ./desk draw paper.hex > paper.svg               the barriers of the 
 """
 
 
-def picture(desk: Desk, text: bytes, file: str) -> str:
-    """The picture of the paper on a desk with the barriers of a placement text."""
-    return Picture(paper_on(desk), placed(desk, text), printable(pathlib.Path(file).stem)).svg()
+def picture(desk: Desk, text: bytes, file: str, missing: list[int]) -> str:
+    """The picture of the paper on a desk with the barriers of a placement text, and the loops that need a barrier for
+    their missing run."""
+    return Picture(paper_on(desk), placed(desk, text), printable(pathlib.Path(file).stem), tuple(missing)).svg()
 
 
 def arguments(parser: argparse.ArgumentParser) -> None:
@@ -26,9 +27,13 @@ def arguments(parser: argparse.ArgumentParser) -> None:
 
 
 def main(asked: argparse.Namespace) -> None:
-    desk, _ = planned(asked.paper) if asked.gaps is None else loaded(asked.paper)
-    text = desk.key() if asked.gaps is None else placement_asked(asked.gaps, desk)
-    write_out(picture(desk, text, asked.paper).encode())
+    if asked.gaps is None:
+        desk, _ = planned(asked.paper)
+        text, missing = desk.key(), desk.missing_runs()
+    else:
+        desk, _ = loaded(asked.paper)
+        text, missing = placement_asked(asked.gaps, desk), []
+    write_out(picture(desk, text, asked.paper, missing).encode())
 
 
 def alone(given: list[str]) -> None:

@@ -60,8 +60,8 @@ def rows_of(paper: Paper, x: Dependence) -> tuple[int, int]:
 class Picture:
     """Drawn piece by piece into a list of elements."""
 
-    def __init__(self, paper: Paper, placed: Placed, name: str):
-        self.paper, self.barriers, self.counts, self.out = paper, placed.gaps, placed.counts, []
+    def __init__(self, paper: Paper, placed: Placed, name: str, missing: tuple[int, ...] = ()):
+        self.paper, self.barriers, self.counts, self.missing, self.out = paper, placed.gaps, placed.counts, missing, []
         self.title = f'{name}, barriers {ranges(placed.gaps) or "none"}'
         self.right = LEFT + (max(paper.depth[d] for d in paper.end) + 1) * (INDENT + MARGIN) + LABEL
         self.lane = packed([rows_of(paper, x) for x in paper.dependences])
@@ -227,8 +227,13 @@ class Picture:
         return y
 
     def signs(self) -> list[str]:
-        """What the signs mean that the picture has."""
-        return [*SIGNS, *[BARRED_SIGN] * bool(self.paper.barred), *[FLAGGED_SIGN] * bool(self.paper.flagged)]
+        """What the signs mean that the picture has, and the loops that need a barrier for their missing run."""
+        lines = [*SIGNS, *[BARRED_SIGN] * bool(self.paper.barred), *[FLAGGED_SIGN] * bool(self.paper.flagged)]
+        if self.missing:
+            many = len(self.missing) > 1
+            lines.append(f'{"Loops" if many else "Loop"} {ranges(list(self.missing))} '
+                         f'{"need a barrier for their" if many else "needs a barrier for its"} missing run.')
+        return lines
 
     def cutting(self, dependence: Dependence) -> list[int]:
         """The barriers that cut a dependence."""
