@@ -97,11 +97,12 @@ def crowd(tally: Tally, folder: pathlib.Path, paper: bytes = EXAMPLES['p']) -> N
     hall = Hall(folder / 'crowd', paper, [f'candidate {number:03}' for number in range(MANY)]).start()
     people, load = Crowd(hall), os.getloadavg()[0]
     people.together(1)
-    before, best = busy(hall), []
+    tries, used = [], []
     for _ in range(TRIES):
-        times = people.together(ROUNDS)
-        best = times if not best or at(99, times) < at(99, best) else best
-    each = (busy(hall) - before) / (TRIES * ROUNDS * MANY)
+        before = busy(hall)
+        tries.append(people.together(ROUNDS))
+        used.append((busy(hall) - before) / (ROUNDS * MANY))
+    best, each = min(tries, key=lambda times: at(99, times)), min(used)
     calm = people.as_people_do(SECONDS, EACH)
     print(f'{MANY} clicks in one moment: median {at(50, best) * 1000:.1f} ms, 99th percentile {at(99, best) * 1000:.1f} '
           f'ms; {each * 1000:.2f} ms of the processor a click; load {load:.1f}')
