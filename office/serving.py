@@ -57,7 +57,7 @@ class Pages:
     def __init__(self, board: Board, paper: Paper, name: str):
         self.ticket = template('ticket.html')
         self.sitting = string.Template(template('sitting.html').safe_substitute(
-            paper=html.escape(name), board=board.svg(), dependences=board.told(),
+            paper=html.escape(name).replace('$', '$$'), board=board.svg(), dependences=board.told(),
             signs=html.escape(' '.join(board.signs())), listing=html.escape(listing_of(paper))))
         self.style = (board.style() + (SERVED / 'hall.css').read_text()).encode()
         self.script = (SERVED / 'sitting.js').read_bytes()

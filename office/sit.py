@@ -29,7 +29,8 @@ def arguments(parser: argparse.ArgumentParser) -> None:
                         help='where answers (DIR/NAME.hex), tickets and the log of moves are kept')
     parser.add_argument('--bind', metavar='ADDRESS', default=HERE,
                         help=f'the address to listen at ({HERE}, which no other machine reaches)')
-    parser.add_argument('--port', metavar='N', type=int, default=PORT, help=f'the port ({PORT}); 0 for any that is free')
+    parser.add_argument('--port', metavar='N', type=int, default=PORT,
+                        help=f'the port ({PORT}); 0 for any that is free')
     parser.add_argument('--name', metavar='NAME', action='append', default=[],
                         help='a name or an address by which candidates call this machine; may be given again')
 

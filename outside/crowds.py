@@ -104,8 +104,8 @@ def crowd(tally: Tally, folder: pathlib.Path, paper: bytes = EXAMPLES['p']) -> N
         used.append((busy(hall) - before) / (ROUNDS * MANY))
     best, each = min(tries, key=lambda times: at(99, times)), min(used)
     calm = people.as_people_do(SECONDS, EACH)
-    print(f'{MANY} clicks in one moment: median {at(50, best) * 1000:.1f} ms, 99th percentile {at(99, best) * 1000:.1f} '
-          f'ms; {each * 1000:.2f} ms of the processor a click; load {load:.1f}')
+    print(f'{MANY} clicks in one moment: median {at(50, best) * 1000:.1f} ms, 99th percentile '
+          f'{at(99, best) * 1000:.1f} ms; {each * 1000:.2f} ms of the processor a click; load {load:.1f}')
     print(f'{MANY} candidates, a click a second each: median {at(50, calm) * 1000:.1f} ms, 99th percentile '
           f'{at(99, calm) * 1000:.1f} ms')
     others = load > os.cpu_count() / 2

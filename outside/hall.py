@@ -31,7 +31,8 @@ def full_disk(tally: Tally, folder: pathlib.Path) -> None:
     replies = [anna.move(f'{word} {gap}') for gap in range(1, 14) for word in ('put', 'lift')]
     good = [told for status, told in replies if status == 200]
     bad = [told for status, told in replies if status == 409 and told['said'].startswith('This was not done')]
-    tally.check('a full disk', 10 < len(good) < 26 and bool(bad) and anna.ask('/sitting')[1]['gaps'] == good[-1]['gaps'])
+    now = anna.ask('/sitting')[1]
+    tally.check('a full disk', 10 < len(good) < 26 and bool(bad) and now['gaps'] == good[-1]['gaps'], now)
     tally.check('the person in charge hears of it', 'cannot keep' in hall.complaints(), hall.complaints())
     status, told = anna.ask('/hand-in', f'hand in {good[-1]["moves"]}')
     tally.check('not handed in', status == 409 and not told['handed_in'] and not [*hall.answers.glob('*.hex')], told)
@@ -50,8 +51,9 @@ def full_disk(tally: Tally, folder: pathlib.Path) -> None:
     anna.leave()
     hall.start()
     text = b''.join(b'21%02x\n' % gap for gap in good[-1]['gaps'])
-    tally.check('a file at the next start', (hall.answers / 'anna.hex').read_bytes() == text and anna.ask('/sitting')[1][
-        'handed_in'] and 'open for 2 candidates, 1 answer handed in' in hall.said, hall.said)
+    tally.check('a file at the next start', (hall.answers / 'anna.hex').read_bytes() == text)
+    tally.check('handed in', anna.ask('/sitting')[1]['handed_in'] and '2 candidates, 1 answer handed in' in hall.said,
+                hall.said)
     hall.end()
 
 
@@ -91,7 +93,8 @@ def starts(tally: Tally, folder: pathlib.Path) -> None:
             ('hidden', names, b'.anna\n', 'no candidate'), ('twice', names, b'anna\nbert\nanna\n', 'a second time'),
             ('no UTF-8', names, b'\xff\n', 'not UTF-8'), ('one is missing', names, b'bert\n', 'add the name'),
             ('another paper', log, b'paper 00\n', 'another paper'), ('damaged', log, whole + b'anna put 6\n', 'line 3'),
-            ('put again', log, whole + b't\tanna\tput 5\n', 'line 3'), ('no move', log, whole + b't\tanna\tplan\n', 'line 3'),
+            ('put again', log, whole + b't\tanna\tput 5\n', 'line 3'),
+            ('no move', log, whole + b't\tanna\tplan\n', 'line 3'),
             ('after the end', log, whole + b't\tanna\thand in\nt\tanna\tput 6\n', 'line 4'),
             ('no tickets', hall.answers / 'tickets.csv', b'anna\n', 'not a ticket for each'),
             ('one ticket for two', hall.answers / 'tickets.csv', tickets.splitlines()[0] + b'\n' + b''.join(
@@ -123,7 +126,9 @@ def starts(tally: Tally, folder: pathlib.Path) -> None:
 
 def to_the_register(tally: Tally, folder: pathlib.Path) -> None:
     """Three sittings, handed in and marked."""
-    hall = Hall(folder / 'day', EXAMPLES['p'], ['anna', 'bert', 'carl']).start()
+    hall = Hall(folder / 'day', EXAMPLES['p'], ['anna', 'bert', 'carl'], 'a$b<.hex').start()
+    page = raw(hall.port, request(hall, 'GET', '/'))
+    tally.check('a strange name', status(page) == 200 and b'<h1>a$b&lt;, anna</h1>' in page, page)
     for name, gaps in (('anna', [5, 11]), ('bert', [3, 9]), ('carl', [3, 9, 13])):
         candidate = Candidate(hall, name)
         for gap in gaps:
@@ -131,7 +136,7 @@ def to_the_register(tally: Tally, folder: pathlib.Path) -> None:
         tally.check(f'{name} hands in', candidate.ask('/hand-in', f'hand in {len(gaps)}')[1]['handed_in'])
         tally.check(f'{name} is done', candidate.move('put 1')[0] == 409 == candidate.ask('/hand-in', 'hand in 2')[0])
     hall.end()
-    run(DESK, 'mark', hall.folder / 'paper.hex', *sorted(hall.answers.glob('*.hex')), '--register', folder / 'r.csv')
+    run(DESK, 'mark', hall.folder / hall.file, *sorted(hall.answers.glob('*.hex')), '--register', folder / 'r.csv')
     with open(folder / 'r.csv', newline='') as opened:
         rows = [row[:6] for row in csv.reader(opened)][1:]
     tally.check('the register', rows == [['anna', 'Best', '', '', '', ''], ['bert', 'Uncut', '4', '', '', ''],

@@ -46,7 +46,8 @@ def bad_requests(tally: Tally, hall: Hall) -> None:
     other = hall.tickets['bert']
     cases = [(421, 'another name', *move, {'Host': f'desk.example:{hall.port}'}),
              (421, 'no port', *move, {'Host': '127.0.0.1'}), (421, 'no name', *move, {'Host': ''}),
-             (421, 'two names', *move, {'host': here}), (421, 'from elsewhere', *move, {'Origin': 'http://desk.example'}),
+             (421, 'two names', *move, {'host': here}),
+             (421, 'from elsewhere', *move, {'Origin': 'http://desk.example'}),
              (421, 'from another port', *move, {'Origin': f'http://127.0.0.1:{hall.port + 1}'}),
              (421, 'from nowhere', *move, {'Origin': 'null'}),
              (403, 'no cookie', *move, {'Cookie': ''}), (403, 'a cookie that is none', *move, {'Cookie': 'ticket=a'}),
@@ -68,7 +69,8 @@ def bad_requests(tally: Tally, hall: Hall) -> None:
              (431, 'many headers', *move, {f'X{i}': 'y' for i in range(200)}),
              (414, 'a long path', 'GET', '/' + 'a' * 70_000, b'', {})]
     cases += [(400, word, 'POST', '/move', word.encode(), {}) for word in
-              ('', 'put', 'put -1', 'put 1000', 'put 05', 'put 5\n', 'PUT 5', 'put 5 6', 'plan', 'key', 'write', 'hand in')]
+              ('', 'put', 'put -1', 'put 1000', 'put 05', 'put 5\n', 'PUT 5', 'put 5 6', 'plan', 'key', 'write',
+               'hand in')]
     cases += [(400, word, 'POST', '/hand-in', word.encode(), {}) for word in ('', 'hand in', 'hand in -1', 'put 5')]
     cases += [(404, path, 'GET', path, b'', {}) for path in
               ('/move', '/answers', '/tickets.csv', '/sitting.log', '/anna.hex', '/key', '/../desk', '/%2e%2e/desk',
@@ -82,8 +84,8 @@ def bad_requests(tally: Tally, hall: Hall) -> None:
         holds = status(reply) == wanted and (b'"gaps"' not in reply or wanted == 409)
         tally.check(f'{name}: {wanted}', holds and b'Set-Cookie' not in reply, reply)
     for ticket, name in (('anna', 'bert'), ('bert', 'anna')):
-        told = Candidate(hall, ticket).ask('/sitting')[1]
-        tally.check(f'{ticket} does not see what {name} has', told['gaps'] == {'anna': [2], 'bert': [3, 7]}[ticket], told)
+        told, wanted = Candidate(hall, ticket).ask('/sitting')[1], {'anna': [2], 'bert': [3, 7]}[ticket]
+        tally.check(f'{ticket} does not see what {name} has', told['gaps'] == wanted, told)
 
 
 def random_requests(tally: Tally, hall: Hall) -> None:
@@ -149,5 +151,6 @@ def unmoved(tally: Tally, folder: pathlib.Path) -> None:
     tally.check('nothing was handed in', not [*hall.answers.glob('*.hex')])
     rude(tally, hall)
     tally.check('nothing to complain about', hall.complaints() == '', hall.complaints())
-    tally.check('nobody else reads what is kept', {file.stat().st_mode & 0o077 for file in hall.answers.iterdir()} == {0})
+    modes = {file.stat().st_mode & 0o077 for file in hall.answers.iterdir()}
+    tally.check('nobody else reads what is kept', modes == {0}, modes)
     tally.check('Ctrl-C', hall.end(signal.SIGINT) == 0)

@@ -40,7 +40,8 @@ def entered(tally: Tally, page: Page) -> None:
     page.enter()
     page.shows('nothing put')
     tally.check('no cookie for scripts', seen.script('return document.cookie') == '')
-    tally.check('what a screen reader hears', seen.heard()['gap 6 of loop 1, before ENDDO loop 1'] == ('button', 'false'))
+    heard = seen.heard()
+    tally.check('heard', heard.get('gap 6 of loop 1, before ENDDO loop 1') == ('button', 'false'), heard)
 
 
 def day(tally: Tally, page: Page) -> None:
@@ -158,7 +159,8 @@ def large(tally: Tally, seen: Browser, folder: pathlib.Path) -> None:
             return [...document.querySelectorAll('button[data-gap]')].filter((button) => {
                 button.scrollIntoView({ block: 'nearest', inline: 'nearest' });
                 const at = button.getBoundingClientRect();
-                return document.elementFromPoint(at.left + Math.min(at.width, 100) / 2, at.top + at.height / 2) !== button;
+                const x = at.left + Math.min(at.width, 100) / 2;
+                return document.elementFromPoint(x, at.top + at.height / 2) !== button;
             }).map((button) => button.dataset.gap);""")
         tally.check(f'zoom {zoom}: every gap can be clicked', missed == [], missed)
         fits = seen.script("""
@@ -239,7 +241,7 @@ def screenshot(file: str, folder: pathlib.Path) -> None:
 def main() -> None:
     tally = Tally()
     if not browser.there():
-        print(f'the page was not tried: no Chromium is here, and it could not be installed ({" ".join(browser.PACKAGES)})')
+        print(f'the page was not tried: no Chromium is here, nor could it be installed ({" ".join(browser.PACKAGES)})')
         tally.check('a browser where CI is true', os.environ.get('CI') != 'true')
         tally.close()
     with tempfile.TemporaryDirectory() as name:
