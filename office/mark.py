@@ -27,7 +27,7 @@ SLIPS = {'candidate': Desk.candidate_slip, 'examiner': Desk.examiner_slip}
 
 
 @dataclass
-class Hall:
+class Marking:
     """A paper with its key on a desk, its name and its hash, where slips go, and what there is to say while marking."""
     desk: Desk
     name: str
@@ -119,10 +119,10 @@ def main(asked: argparse.Namespace) -> None:
     if asked.register is not None:
         rows_in(asked.register)  # what is no register is told before anything is marked
     paper, bar = hashlib.sha256(text).hexdigest(), Progress('marking', len(files))
-    hall = Hall(desk, name_of(asked.paper), paper, asked.slips, bar)
-    rows = [hall.row(candidate, file) for candidate, file in bar.over([*files.items()])]
+    marking = Marking(desk, name_of(asked.paper), paper, asked.slips, bar)
+    rows = [marking.row(candidate, file) for candidate, file in bar.over([*files.items()])]
     if asked.register is not None:
         add(asked.register, rows)
     write_out(as_csv(rows) if asked.register is None else f'{summary(rows)}\n'.encode())
-    if hall.status:
-        raise Fault('', hall.status)
+    if marking.status:
+        raise Fault('', marking.status)

@@ -5,8 +5,8 @@ ROOT = pathlib.Path(__file__).resolve().parent.parent
 CRATES = ROOT / 'crates'
 
 # The crates whose public functions are calls, and the statement that joins them.
-CALLS = ['desk', 'screen', 'textbook', 'slips', 'comparing', 'skipping', 'counting', 'joining', 'improving', 'sheets', 'listing', 'host',
-         'answers']
+CALLS = ['desk', 'screen', 'textbook', 'slips', 'comparing', 'skipping', 'counting', 'joining', 'improving', 'sheets',
+         'listing', 'host', 'answers']
 STATEMENTS = ['desk/specs/Since']
 # Specs that no reader needs: `key-first` and `first-only` say which placement the key is, whatever the planner does.
 UNREAD = 'planner/specs/'
