@@ -42,6 +42,14 @@ class Improved:
 
 
 @dataclass(frozen=True)
+class Compared:
+    """Two placements: whether each is as good or better than the other, and the DOs of the loops that decide."""
+    first: bool
+    second: bool
+    deciding: list[int]
+
+
+@dataclass(frozen=True)
 class Mark:
     """A verdict: of Uncut the first dependence that is, of Dearer a loop with their count and ours."""
     verdict: int
@@ -112,10 +120,10 @@ class Desk:
         found = given(library().desk_improve(self.held, turns, len(turns), budget))
         return Improved(gaps_in(found.placement), found.calls, found.tries, found.ended, found.floor)
 
-    def compare(self, first: bytes, second: bytes) -> tuple[bool, bool]:
-        """Whether each of two placement texts is as good or better than the other."""
+    def compare(self, first: bytes, second: bytes) -> Compared:
+        """Two placement texts beside each other."""
         told = given(library().desk_compare(self.held, first, len(first), second, len(second)))
-        return told.first, told.second
+        return Compared(told.first, told.second, gaps_in(told.deciding))
 
     def candidate_slip(self, text: bytes) -> bytes:
         return self.written(library().desk_candidate_slip, SLIP, text, len(text))

@@ -1,7 +1,4 @@
-"""Cost trees: drawn, and the loops that decide between two of them marked, as docs/WHY.md does.
-
-The counts are the calls', and which of two placements is better is the desk's word (Compare).
-"""
+"""Cost trees, drawn as docs/WHY.md does: the counts and the loops to be marked are the calls'."""
 from office.paper import Paper
 
 Counts = dict[int, int]
@@ -28,9 +25,3 @@ def beside(left: list[str], right: list[str], apart: int = 4) -> list[str]:
     """Two columns of lines."""
     wide = max(map(len, left)) + apart
     return [f'{a:{wide}}{b}'.rstrip() for a, b in zip(left, right)]
-
-
-def deciding(paper: Paper, first: Counts, second: Counts) -> list[int]:
-    """The loops where two trees differ while all loops inside agree, in the order of their ENDDOs."""
-    differ = {d for d in paper.end if first[d] != second[d]}
-    return sorted((d for d in differ if not differ.intersection(paper.inside(d))), key=paper.end.get)

@@ -7,11 +7,11 @@ from dataclasses import dataclass
 from office.asked import GAPS_HELP, PAPER_HELP, TURNS, TURNS_HELP, loaded, placement_asked, planned, turns_asked
 from office.command import Fault, write_out, write_over
 from office.frames import DO
-from office.library import DEARER, UNCUT, Desk, Mark
+from office.library import DEARER, UNCUT, Compared, Desk, Mark
 from office.page import Shown, page
 from office.paper import Paper, Placed, paper_on, placed
 from office.refusal import Refused
-from office.trees import beside, deciding, drawn
+from office.trees import beside, drawn
 from office.words import VERDICTS, counted, gaps_named, ranges, runs_of
 
 HELP = 'tells how one placement beats another on a paper, or how it stands beside the key'
@@ -63,14 +63,6 @@ def side_of(desk: Desk, called: str, text: bytes) -> Side:
     return Side(called, text, told, mark, uncut)
 
 
-@dataclass(frozen=True)
-class Balance:
-    """Two placements: whether each is as good or better than the other, by the desk; the loops that decide."""
-    first: bool
-    second: bool
-    deciding: list[int]
-
-
 def verdict(side: Side) -> str:
     """What the desk says of a placement."""
     mark = side.mark
@@ -106,7 +98,7 @@ def decided(paper: Paper, d: int, first: Side, second: Side) -> str:
     return f'{agree}Loop {d}: {ours[d]} against {theirs[d]}, and this decides.{rest}'
 
 
-def cost_words(paper: Paper, held: Balance, first: Side, second: Side) -> list[str]:
+def cost_words(paper: Paper, held: Compared, first: Side, second: Side) -> list[str]:
     """How the costs of two correct placements compare."""
     if not held.deciding:
         return ['Every loop has the same count in both, so they cost the same, wherever their barriers stand.']
@@ -124,7 +116,7 @@ def cost_words(paper: Paper, held: Balance, first: Side, second: Side) -> list[s
     return [*told, f'So {better} {"are" if better.startswith("gaps") else "is"} better.']
 
 
-def reasons(paper: Paper, held: Balance, first: Side, second: Side) -> str:
+def reasons(paper: Paper, held: Compared, first: Side, second: Side) -> str:
     """One paragraph: whether both cut all, how the costs compare, what the desk says."""
     wrong = [uncut_words(paper, side) for side in (first, second) if side.placed.uncut is not None]
     told = wrong or ['Both cut every dependence.', *cost_words(paper, held, first, second)]
@@ -142,7 +134,7 @@ def calls_made(desk: Desk, argument: str, turns: bytes, sides: list[Side]) -> li
         raise Fault(f'this paper wants {many} of turns from 1 to {TURNS}: {argument}') from refusal
 
 
-def calls_words(paper: Paper, held: Balance, turns: bytes, made: list[int], first: Side, second: Side) -> str:
+def calls_words(paper: Paper, held: Compared, turns: bytes, made: list[int], first: Side, second: Side) -> str:
     """How many calls each makes under the turns."""
     if not made:
         return UNCOUNTED
@@ -177,7 +169,7 @@ def main(asked: argparse.Namespace) -> None:
         second = side_of(desk, 'the second placement', placement_asked(asked.other, desk))
     turns = turns_asked(asked.turns, len(paper.end))
     made = calls_made(desk, asked.turns, turns, [first, second])
-    held = Balance(*desk.compare(first.text, second.text), deciding(paper, first.placed.counts, second.placed.counts))
+    held = desk.compare(first.text, second.text)
     correct = first.placed.uncut is None and second.placed.uncut is None
     trees = [drawn(paper, side.placed.counts, held.deciding if correct else []) for side in (first, second)]
     told = [reasons(paper, held, first, second)]

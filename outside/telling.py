@@ -23,7 +23,6 @@ from office.paper import nest_text, paper_on, placed
 from office.refusal import Refused
 from office.show import listing_of
 from office.spell import spelled
-from office.trees import deciding
 from office.words import RULES
 
 FULL = '"$@" > /dev/full'
@@ -208,6 +207,12 @@ def as_good(paper, first: dict[int, int], second: dict[int, int], d: int = 0) ->
     return all(as_good(paper, first, second, k) for k in under) and (not equal or first[d] <= second[d])
 
 
+def deciding(paper, first: dict[int, int], second: dict[int, int]) -> list[int]:
+    """The loops where two trees differ while all loops inside agree, by rising DO."""
+    differ = {d for d in paper.end if first[d] != second[d]}
+    return sorted(d for d in differ if not differ.intersection(paper.inside(d)))
+
+
 def trees(tally: Tally) -> None:
     """Which of two placements is better, which loops decide, and the calls of a placement, on random nests."""
     rng = random.Random(1)
@@ -223,10 +228,9 @@ def trees(tally: Tally) -> None:
         texts = [placement_text(g for g in range(1, len(points)) if rng.random() < 0.3) for _ in range(2)]
         first, second = (placed(desk, text).counts for text in texts)
         wanted = as_good(paper, first, second), as_good(paper, second, first)
-        tally.check(f'trees, turn {turn}', desk.compare(*texts) == wanted, (points, texts))
-        loops = deciding(paper, first, second)
-        held = all(first[d] <= second[d] for d in loops), all(second[d] <= first[d] for d in loops)
-        tally.check(f'deciding loops, turn {turn}', held == wanted, (points, texts))
+        held = desk.compare(*texts)
+        tally.check(f'trees, turn {turn}', (held.first, held.second) == wanted, (points, texts))
+        tally.check(f'deciding loops, turn {turn}', held.deciding == deciding(paper, first, second), (points, texts))
         turns = bytes(rng.randrange(1, 17) for _ in paper.end)
         gaps = [gap for gap in range(1, len(points)) if rng.random() < 0.3]
         by_hand = sum(math.prod(many for k, many in zip(paper.end, turns) if k < gap <= paper.end[k]) for gap in gaps)

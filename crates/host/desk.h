@@ -192,13 +192,15 @@ typedef struct DeskJoined {
 } DeskJoined;
 
 /* `text` is 1 or 2, the text at fault, or 0 for neither; `first`: the first placement is as good or better than the second,
-   `second`: the second than the first. */
+   `second`: the second than the first; `deciding`: bit d for the loop of DO d, if the counts differ there and are the same
+   in all the loops inside. */
 typedef struct DeskCompared {
     uint8_t number;
     uint8_t text;
     size_t line;
     bool first;
     bool second;
+    DeskPlacement deciding;
 } DeskCompared;
 
 /* DESK_UNCUT: dependence a, from 0, is the first that is uncut. DESK_DEARER: loop a has b barriers, and c in the key.

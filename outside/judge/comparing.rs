@@ -1,12 +1,12 @@
-//! Two placement texts held beside each other: which placement is as good or better than the other, by the trees of
-//! 001's definition 1, and which text is at fault.
+//! Two placement texts held beside each other: which placement is as good or better than the other and which loops
+//! decide, by the trees of 001's definition 1, and which text is at fault.
 
 use crate::calls::{guarded, lend, Call, Reply, GUARD};
 use crate::desk::Desk;
 use crate::desk_check::{check_altered, load, replies};
-use crate::host;
+use crate::host::{self, words_of};
 use crate::nests::*;
-use crate::order::{as_good, gap_list, tree};
+use crate::order::{as_good, gap_list, tree, Tree};
 use crate::papers::*;
 use crate::self_check::{as_good_loop_by_loop, Checks};
 use crate::texts::{barrier_lines, read_nest, read_placement, shown};
@@ -17,23 +17,38 @@ fn weighed(nest: &Nest, a: &[usize], b: &[usize]) -> [bool; 2] {
     [as_good(&t, &u), as_good(&u, &t)]
 }
 
-/// The same of two texts, or the number with the text at fault and its line: the faults of the first, then those of the
+/// The roots of the smallest subtrees that differ, by their DOs: where the trees under two roots are equal the roots'
+/// counts decide, else those trees do.
+fn deciding(t: &Tree, u: &Tree, dos: &mut impl Iterator<Item = usize>) -> Vec<usize> {
+    let d = dos.next().unwrap();
+    let inside: Vec<usize> = t.inside.iter().zip(&u.inside).flat_map(|(a, b)| deciding(a, b, dos)).collect();
+    if t.inside == u.inside && t.count != u.count { vec![d] } else { inside }
+}
+
+/// The loops that decide between two placements, rising.
+fn decided(nest: &Nest, a: &[usize], b: &[usize]) -> Vec<usize> {
+    let (t, u) = (tree(nest, 0, &nest.counts(a)), tree(nest, 0, &nest.counts(b)));
+    deciding(&t, &u, &mut nest.loops().into_iter())
+}
+
+/// Both of two texts, or the number with the text at fault and its line: the faults of the first, then those of the
 /// second.
-fn compared(nest: &Nest, a: &[u8], b: &[u8]) -> Result<[bool; 2], (u8, usize, usize)> {
+fn compared(nest: &Nest, a: &[u8], b: &[u8]) -> Result<([bool; 2], Vec<usize>), (u8, usize, usize)> {
     let read = |which, text| read_placement(nest, text).map_err(|r| (r.number, which, r.line));
     let (a, b) = (read(1, a)?, read(2, b)?);
-    Ok(weighed(nest, &a, &b))
+    Ok((weighed(nest, &a, &b), decided(nest, &a, &b)))
 }
 
 /// What the call answers: 10, then as above. No key is wanted.
 pub fn answer(desk: &Desk, a: &[u8], b: &[u8]) -> Reply {
-    let reply = |number, line, values: [usize; 3]| {
-        Reply { number, line, values: values.to_vec(), lent: [guarded(a), guarded(b)].concat() }
+    let reply = |number, line, values: [usize; 3], loops: &[usize]| {
+        let values = [values.to_vec(), words_of(loops)].concat();
+        Reply { number, line, values, lent: [guarded(a), guarded(b)].concat() }
     };
-    let Some(nest) = &desk.nest else { return reply(10, 0, [0; 3]) };
+    let Some(nest) = &desk.nest else { return reply(10, 0, [0; 3], &[]) };
     match compared(nest, a, b) {
-        Err((number, which, line)) => reply(number, line, [which, 0, 0]),
-        Ok([first, second]) => reply(0, 0, [0, first as usize, second as usize]),
+        Err((number, which, line)) => reply(number, line, [which, 0, 0], &[]),
+        Ok(([first, second], loops)) => reply(0, 0, [0, first as usize, second as usize], &loops),
     }
 }
 
@@ -43,7 +58,8 @@ pub fn play(desk: host::Desk, a: &[u8], b: &[u8]) -> Reply {
     let (one, two) = (a[GUARD.len()..].as_ptr(), b[GUARD.len()..].as_ptr());
     let c = unsafe { host::desk_compare(desk, one, first, two, second) };
     let values = [c.text, c.first, c.second].map(|value| value as usize).to_vec();
-    Reply { number: c.number, line: c.line, values, lent: [a, b].concat() }
+    let loops = c.deciding.words.map(|word| word as usize).to_vec();
+    Reply { number: c.number, line: c.line, values: [values, loops].concat(), lent: [a, b].concat() }
 }
 
 /// Every placement of a small nest.
@@ -61,17 +77,21 @@ pub fn comparisons(nest: &Nest) -> Vec<Vec<Call>> {
 // ---- The self-check
 
 pub fn check_comparing(checks: &mut Checks) {
-    let all: [(&str, &[usize], &[usize], [bool; 2]); 10] = [
-        (P, &[5, 11], &[3, 9, 13], [true, false]), (P, &[5, 11], &[5, 10, 11], [true, false]),
-        (P, &[4, 5, 11], &[5, 10, 11], [false, false]), (P, &[4, 5, 11, 13], &[5, 10, 11], [false, false]),
-        (P, &[3, 9], &[5, 11], [true, true]), (P, &[], &[13], [true, false]), (P, &[], &[], [true, true]),
-        (Q, &[2, 6], &[4, 7], [true, false]), // one more outside, one fewer inside
-        (Q, &[1, 2, 9], &[4], [true, false]), (Q, &[2, 3], &[4, 7, 8], [true, false]),
+    let all: [(&str, &[usize], &[usize], [bool; 2], &[usize]); 11] = [
+        (P, &[5, 11], &[3, 9, 13], [true, false], &[0]), (P, &[5, 11], &[5, 10, 11], [true, false], &[7]),
+        (P, &[4, 5, 11], &[5, 10, 11], [false, false], &[1, 7]),
+        (P, &[4, 5, 11, 13], &[5, 10, 11], [false, false], &[1, 7]), // loop 0 is not looked at
+        (P, &[4, 5, 10, 11], &[5, 11], [false, true], &[1, 7]),
+        (P, &[3, 9], &[5, 11], [true, true], &[]), (P, &[], &[13], [true, false], &[0]),
+        (P, &[], &[], [true, true], &[]),
+        (Q, &[2, 6], &[4, 7], [true, false], &[2]), // one more outside, one fewer inside
+        (Q, &[1, 2, 9], &[4], [true, false], &[3]), (Q, &[2, 3], &[4, 7, 8], [true, false], &[3]),
     ];
-    for (text, a, b, wanted) in all {
+    for (text, a, b, wanted, loops) in all {
         let nest = read_nest(&words(text)).unwrap();
-        checks.that(&format!("{a:?} beside {b:?}: {text}"), weighed(&nest, a, b) == wanted);
-        let turned = weighed(&nest, b, a) == [wanted[1], wanted[0]];
+        let held = weighed(&nest, a, b) == wanted && decided(&nest, a, b) == loops;
+        checks.that(&format!("{a:?} beside {b:?}: {text}"), held);
+        let turned = weighed(&nest, b, a) == [wanted[1], wanted[0]] && decided(&nest, b, a) == loops;
         checks.that(&format!("{b:?} beside {a:?}: {text}"), turned);
     }
     check_calls(checks);
@@ -83,9 +103,11 @@ pub fn check_comparing(checks: &mut Checks) {
 fn check_calls(checks: &mut Checks) {
     let call = |a: &str, b: &str| Call::Compare(words(a), words(b));
     let asked = |paper: &str, a: &str, b: &str| replies(&[load(paper), call(a, b)], 1)[0].clone();
-    checks.that("without a key", asked(P, "2105 210b", "2103 2109 210d") == (0, 0, vec![0, 1, 0]));
+    checks.that("without a key", asked(P, "2105 210b", "2103 2109 210d") == (0, 0, vec![0, 1, 0, 1, 0, 0, 0]));
+    let both = asked(P, "2104 2105 210b", "2105 210a 210b");
+    checks.that("two loops decide", both == (0, 0, vec![0, 0, 0, 1 << 1 | 1 << 7, 0, 0, 0]));
     let (one, blocked) = ("01 03 03 02 1301", "01 03 02 110001 1301");
-    checks.that("a blocked paper", asked(blocked, "2102", "") == (0, 0, vec![0, 0, 1]));
+    checks.that("a blocked paper", asked(blocked, "2102", "") == (0, 0, vec![0, 0, 1, 1, 0, 0, 0]));
     for (paper, a, b, number, which, line) in [
         ("02", "zz", "zz", 10, 0, 0), (P, "2105 zz", "21", 1, 1, 2), (P, "2105", "2105 zz", 1, 2, 2),
         (P, "1105", "zz", 2, 1, 1), (P, "", "21", 2, 2, 1), (P, "2105 2105", "2105 210b 210e", 8, 1, 2),
@@ -93,7 +115,7 @@ fn check_calls(checks: &mut Checks) {
         (one, "2103", "2101", 16, 2, 1), (one, "2102", "2102 2102", 8, 2, 2),
     ] {
         let shows = format!("{number} of text {which}, line {line}: {a:?} beside {b:?}, {paper}");
-        checks.that(&shows, asked(paper, a, b) == (number, line, vec![which, 0, 0]));
+        checks.that(&shows, asked(paper, a, b) == (number, line, vec![which, 0, 0, 0, 0, 0, 0]));
     }
     let script = [call("2102 2103", "2103"), Call::Plan, call("2103", "2103"), Call::Put(3), call("2103", "21")];
     for paper in [P, R, "01 03 03 02 110001 12000201 1301"] {
@@ -101,8 +123,9 @@ fn check_calls(checks: &mut Checks) {
     }
 }
 
-/// Of every two placements of a small nest: the order in 01's other words; both hold just where all counts are equal.
-/// Tells of how many neither holds.
+/// Of every two placements of a small nest: the order in 01's other words, and the loops that decide, loop by loop; both
+/// hold just where all counts are equal, and each just where no loop that decides has more. Tells of how many neither
+/// holds.
 fn check_every(checks: &mut Checks, nest: &Nest) -> usize {
     let all = every_placement(nest);
     let pairs = || all.iter().flat_map(|a| all.iter().map(move |b| (a, b)));
@@ -114,7 +137,11 @@ fn check_every(checks: &mut Checks, nest: &Nest) -> usize {
 fn is_same(nest: &Nest, a: &[usize], b: &[usize]) -> bool {
     let (t, u, both) = (nest.counts(a), nest.counts(b), weighed(nest, a, b));
     let other = [as_good_loop_by_loop(nest, &t, &u), as_good_loop_by_loop(nest, &u, &t)];
-    both == other && (both == [true, true]) == (t == u)
+    let (loops, inside) = (decided(nest, a, b), |d: usize| d + 1..nest.end[d]);
+    let decides = |d: &usize| t[*d] != u[*d] && t[inside(*d)] == u[inside(*d)];
+    let by = [loops.iter().all(|&d| t[d] <= u[d]), loops.iter().all(|&d| u[d] <= t[d])];
+    let all: Vec<usize> = nest.loops().into_iter().filter(decides).collect();
+    both == other && both == by && loops == all && (both == [true, true]) == (t == u)
 }
 
 /// On a full-size nest: a placement beside any other, and beside one with a barrier more or less.

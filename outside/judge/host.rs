@@ -88,7 +88,14 @@ pub struct RunEnds { pub number: u8, pub line: usize, pub waiting: u32, pub barr
 pub struct Joined { pub number: u8, pub text: u8, pub line: usize, pub value: usize }
 
 #[repr(C)]
-pub struct Compared { pub number: u8, pub text: u8, pub line: usize, pub first: u8, pub second: u8 }
+pub struct Compared {
+    pub number: u8,
+    pub text: u8,
+    pub line: usize,
+    pub first: u8,
+    pub second: u8,
+    pub deciding: Placement,
+}
 
 extern "C" {
     pub fn desk_new() -> Desk;

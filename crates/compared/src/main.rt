@@ -14,6 +14,7 @@ fn main() {
     report(3, case_3());
     report(4, case_4());
     report(5, case_5());
+    report(6, case_6());
 }
 
 // P's key beside a placement with a barrier more in loop 0, one with a barrier more in loop 7, and no barrier at all,
@@ -85,6 +86,30 @@ fn case_5() -> bool {
         && weighs_not(p, b"2105\n", b"2105\n210b\n210e\n", 8, 2, 3)
         && weighs_not(barred, b"2101\n", b"2100\n", 16, 1, 1)
         && weighs_not(barred, b"2102\n2103\n", b"2101\n", 16, 2, 1)
+}
+
+// The loops that decide, P's and Q's: side by side, whichever placement has more there; the outermost where all inside is
+// the same; none around a loop that decides; none where all counts are the same.
+fn case_6() -> bool {
+    let p = paper_p();
+    let q = planned(b"01\n03\n01\n01\n03\n03\n02\n03\n02\n02\n110105\n12030504\n110407\n");
+    decide(p, b"2105\n210b\n", b"2105\n210a\n210b\n", 128)
+        && decide(p, b"2104\n2105\n210b\n", b"2105\n210a\n210b\n", 2 + 128)
+        && decide(p, b"2104\n2105\n210b\n210d\n", b"2105\n210b\n", 2)
+        && decide(p, b"2105\n210b\n", b"2103\n2109\n210d\n", 1)
+        && decide(p, b"2103\n2109\n", b"2105\n210b\n", 0)
+        && decide(q, b"2102\n2106\n", b"2104\n2107\n", 4)
+        && decide(q, b"2101\n2102\n2107\n2108\n", b"2104\n", 8)
+        && decide(empty_desk(), b"", b"", 0)
+        && decide(p, b"2105\n", b"210e\n", 0)
+}
+
+// The loops that decide between the two placements are these, DO 0 as the lowest bit.
+fn decide(desk: Desk, a: &[u8], b: &[u8], loops: u64) -> bool
+    requires { ⌜ IsMade desk ⌝ }
+{
+    let words = compare(desk, a, b).deciding.words;
+    words[0] == loops && words[1] == 0 && words[2] == 0 && words[3] == 0
 }
 
 // The first placement is as good or better than the second, and the second than the first.

@@ -1,4 +1,5 @@
-// Two placement texts held beside each other: whether each placement is as good or better than the other.
+// Two placement texts held beside each other: whether each placement is as good or better than the other, and which loops
+// decide.
 ghost use mathlib.Core.Path.{_≡_};
 ghost use mathlib.Core.Bool.{true};
 ghost use Rattle.nests.specs.Valid.{isValid};
@@ -6,16 +7,18 @@ ghost use Rattle.nests.specs.Stored.{nestIn, IsCounted};
 ghost use Rattle.placements.specs.Placements.{areGaps};
 ghost use Rattle.placements.specs.Words.{gapsIn};
 ghost use Rattle.desk.specs.Desks.{IsMade};
-ghost use Rattle.comparing.specs.Says.{refusal, weighed, CompareSays};
+ghost use Rattle.comparing.specs.Says.{replyIn, refusal, weighed, CompareSays};
 use desk::Desk;
 use desk::key_fault;
 use nests::Nest;
 use placements::Placement;
 use slips::read_on;
 use weighing::as_good;
+use weighing::deciding;
 
-// The number of a refusal, the text at fault (1 or 2, or 0 for neither) with its line, zeros for none; and whether the
-// first placement is as good or better than the second, and the second than the first.
+// The number of a refusal, the text at fault (1 or 2, or 0 for neither) with its line, zeros for none; whether the first
+// placement is as good or better than the second, and the second than the first; and the DOs of the loops that decide
+// between them, as bits.
 #[repr(C)]
 pub struct Compared {
     pub number: u8,
@@ -23,10 +26,11 @@ pub struct Compared {
     pub line: usize,
     pub first: bool,
     pub second: bool,
+    pub deciding: Placement,
 }
 
-// Reads two placement texts and says which placement is as good or better than the other. Numbers 10, then 1, 2, 8, 16
-// of the first text with their line, then those of the second.
+// Reads two placement texts and says which placement is as good or better than the other, and which loops decide. Numbers
+// 10, then 1, 2, 8, 16 of the first text with their line, then those of the second.
 pub fn compare(desk: Desk, a: &[u8], b: &[u8]) -> Compared
     requires { ⌜ IsMade desk ⌝ }
     ensures { λ r. ⌜ CompareSays desk (now (a .entry)) (now (b .entry)) r ⌝ }
@@ -53,7 +57,7 @@ fn weigh(nest: Nest, p: Placement, q: Placement) -> Compared
     requires { ⌜ isValid (nestIn nest) ≡ true ⌝ }
     requires { ⌜ areGaps (nestIn nest) (gapsIn (p .words)) ≡ true ⌝ }
     requires { ⌜ areGaps (nestIn nest) (gapsIn (q .words)) ≡ true ⌝ }
-    ensures { λ r. ⌜ r ≡ weighed (nestIn nest) (gapsIn (p .words)) (gapsIn (q .words)) ⌝ }
+    ensures { λ r. ⌜ replyIn r ≡ weighed (nestIn nest) (gapsIn (p .words)) (gapsIn (q .words)) ⌝ }
 {
     let count = nest.count;
     let points = nest.points;
@@ -63,12 +67,13 @@ fn weigh(nest: Nest, p: Placement, q: Placement) -> Compared
         line: 0,
         first: as_good(&points[..count], p, q),
         second: as_good(&points[..count], q, p),
+        deciding: deciding(&points[..count], p, q),
     }
 }
 
 // The reply of a refusal.
 fn refused(number: u8, text: u8, line: usize) -> Compared
-    ensures { λ r. ⌜ r ≡ refusal number text line ⌝ }
+    ensures { λ r. ⌜ replyIn r ≡ refusal number text line ⌝ }
 {
     Compared {
         number: number,
@@ -76,5 +81,6 @@ fn refused(number: u8, text: u8, line: usize) -> Compared
         line: line,
         first: false,
         second: false,
+        deciding: Placement::empty(),
     }
 }

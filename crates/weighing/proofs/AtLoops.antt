@@ -1,14 +1,15 @@
 -- The tests at one loop, by their cases.
--- Main statements: `agrees-in`, `agrees-out`, `no-more-same`, `no-more-other`, `each-inside`, `each-better`.
+-- Main statements: `agrees-in`, `agrees-out`, `no-more-same`, `no-more-other`, `decides-same`, `decides-other`,
+-- `decides-no-loop`, `each-inside`, `each-better`.
 use mathlib.Core.Path.{_≡_, refl, sym, _∙_}
-use mathlib.Core.Bool.{true, false}
+use mathlib.Core.Bool.{true, false, not}
 use mathlib.Core.List.{List}
 use Prim.Native.Nat.{ℕ}
 use lib.Dec.{eqb, leb}
 use Rattle.nests.specs.Nests.{Nest}
-use Rattle.nests.specs.Loops.{inLoop}
+use Rattle.nests.specs.Loops.{isDo, inLoop}
 use Rattle.placements.specs.Placements.{loopCount, loopsOf, insideSame, betterFrom}
-use Rattle.weighing.specs.Weighed.{agrees, noMore}
+use Rattle.weighing.specs.Weighed.{agrees, noMore, decidesAt}
 use Rattle.weighing.proofs.Passing.{Each}
 
 module _ (n : Nest) (ps a b : List ℕ) (same : n .points ≡ ps) (d : ℕ) where
@@ -33,6 +34,21 @@ module _ (n : Nest) (ps a b : List ℕ) (same : n .points ≡ ps) (d : ℕ) wher
 
   pub no-more-other : false ≡ insideSame n a b d (loopsOf n) → true ≡ noMore n a b d
   no-more-other h = rw (← h)
+
+  pub decides-same
+      : (r s : ℕ)
+      → isDo ps d ≡ true
+      → true ≡ insideSame n a b d (loopsOf n)
+      → r ≡ loopCount n a d
+      → s ≡ loopCount n b d
+      → not (eqb r s) ≡ decidesAt n a b d
+  decides-same r s k h f g = let i : isDo (n .points) d ≡ true = rw same k in rw (i, ← h, f, g)
+
+  pub decides-other : isDo ps d ≡ true → false ≡ insideSame n a b d (loopsOf n) → false ≡ decidesAt n a b d
+  decides-other k h = let i : isDo (n .points) d ≡ true = rw same k in rw (i, ← h)
+
+  pub decides-no-loop : isDo ps d ≡ false → false ≡ decidesAt n a b d
+  decides-no-loop k = let i : isDo (n .points) d ≡ false = rw same k in rw i
 
 -- the tests of lists are those of each loop
 pub each-inside : (a b : List ℕ) (d : ℕ) → Each (λ n. insideSame n a b d) (λ n. agrees n a b d)

@@ -1,13 +1,14 @@
 // Which of two placements is better, loop by loop.
 ghost use mathlib.Core.Path.{_≡_};
 ghost use mathlib.Core.Bool.{true};
-ghost use Prim.Native.Nat.{_≤_};
+ghost use Prim.Native.Nat.{_≤_, _<_};
 ghost use lib.ListN.{length};
 ghost use Rattle.nests.specs.Loops.{isDo};
 ghost use Rattle.nests.specs.Valid.{isShape};
 ghost use Rattle.placements.specs.Placements.{areGapsFrom};
 ghost use Rattle.placements.specs.Words.{GAPS, gapsIn};
 ghost use Rattle.weighing.specs.Weighed.{AgreesSays, SameInsideSays, NoMoreSays, AsGoodSays};
+ghost use Rattle.weighing.specs.Weighed.{DecidesSays, DecidingSays};
 use placements::Placement;
 use placements::count_of;
 
@@ -34,6 +35,44 @@ pub fn as_good(points: &[u8], a: Placement, b: Placement) -> bool
         }
     }
     true
+}
+
+// The loops that decide between the two: their counts differ there and are the same in all the loops inside. Bit d is
+// the loop of DO d.
+pub fn deciding(points: &[u8], a: Placement, b: Placement) -> Placement
+    requires { ⌜ (isShape (now points) ≡ true) × (length (now points) ≤ GAPS) ⌝ }
+    requires { ⌜ areGapsFrom 0 (length (now points)) (gapsIn (a .words)) ≡ true ⌝ }
+    requires { ⌜ areGapsFrom 0 (length (now points)) (gapsIn (b .words)) ≡ true ⌝ }
+    ensures { λ r. ⌜ DecidingSays (now (points .entry)) (a .words) (b .words) (r .words) ⌝ }
+{
+    let mut loops = Placement::empty();
+    let mut d = 0;
+    while d < points.len() {
+        let here = d;
+        d += 1;
+        if decides(points, a, b, here) {
+            loops = loops.put(here);
+        }
+    }
+    loops
+}
+
+// Point d is the DO of a loop that decides.
+fn decides(points: &[u8], a: Placement, b: Placement, d: usize) -> bool
+    requires { ⌜ (isShape (now points) ≡ true) × (length (now points) ≤ GAPS) ⌝ }
+    requires { ⌜ areGapsFrom 0 (length (now points)) (gapsIn (a .words)) ≡ true ⌝ }
+    requires { ⌜ areGapsFrom 0 (length (now points)) (gapsIn (b .words)) ≡ true ⌝ }
+    requires { ⌜ d < length (now points) ⌝ }
+    ensures { λ r. ⌜ DecidesSays (now (points .entry)) (a .words) (b .words) d r ⌝ }
+{
+    if points[d] != nests::DO {
+        return false;
+    }
+    let same = same_inside(points, a, b, d);
+    if same {
+        return count_of(points, d, a) != count_of(points, d, b);
+    }
+    false
 }
 
 // Some loop inside d has different counts, or the first's count at d is at most the second's.

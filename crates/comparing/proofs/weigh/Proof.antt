@@ -33,10 +33,24 @@ as-good-requires-2 c κs =
     let v = valid-is (nestIn (s .args .nest)) (s .pre .1 .0) in
     ((v .shape, v .few-points), (s .pre .1 .1 .1, s .pre .1 .1 .0))
 
+array-share-prefix-points-3 : tie.Need-array-share-prefix-points-3
+array-share-prefix-points-3 c =
+    let s = c .before .before .before .before .before in
+    counted-points (s .args .nest) (s .pre .0)
+
+slice-aggregate-deciding : tie.Need-slice-aggregate-deciding
+slice-aggregate-deciding c = search needs
+
+deciding-requires : tie.Need-deciding-requires
+deciding-requires c κs =
+    let s = c .before .before .before .before .before .before in
+    let v = valid-is (nestIn (s .args .nest)) (s .pre .1 .0) in
+    ((v .shape, v .few-points), (s .pre .1 .1 .0, s .pre .1 .1 .1))
+
 returns : tie.Need-returns
 returns c =
-    let n = nestIn (c .before .before .before .before .before .args .nest) in
-    rw (c .before .before .as-good .ensures n refl, c .as-good2 .ensures n refl)
+    let n = nestIn (c .before .before .before .before .before .before .before .args .nest) in
+    rw (c .before .before .before .before .as-good .ensures n refl, c .before .before .as-good2 .ensures n refl, c .deciding .ensures n refl)
 
 pub weigh-spec : {M : Type 1} → statement M
 weigh-spec =
@@ -48,4 +62,7 @@ weigh-spec =
     array-share-prefix-points-2
     slice-aggregate-as-good-2
     as-good-requires-2
+    array-share-prefix-points-3
+    slice-aggregate-deciding
+    deciding-requires
     returns)
