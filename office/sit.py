@@ -53,6 +53,7 @@ def main(asked: argparse.Namespace) -> None:
               f'{done} handed in\n'
               f'tickets: {printable(os.path.join(asked.answers, TICKETS))}; Ctrl-C ends the sitting\n'.encode())
     signal.signal(signal.SIGPIPE, signal.SIG_IGN)  # a candidate who goes away must not end the hall
+    signal.signal(signal.SIGINT, signal.default_int_handler)  # also where a script in the background started it
     try:
         server.serve_forever()
     except KeyboardInterrupt:

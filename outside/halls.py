@@ -71,7 +71,7 @@ class Hall:
         """Ends the hall by a signal; gives the status."""
         self.process.send_signal(by)
         self.process.stdout.close()
-        return self.process.wait()
+        return self.process.wait(60)
 
     def complaints(self) -> str:
         """What it wrote to standard error."""
