@@ -12,7 +12,7 @@ use Rattle.nests.specs.Valid.{areFlags}
 use Rattle.nests.proofs.Flags.{flags-joined, flags-more}
 use Rattle.texts.specs.Pieces.{Piece, Point}
 use Rattle.texts.specs.NestTexts.{pointPieces}
-use Rattle.texts.proofs.Accepted.{points-joined}
+use Rattle.texts.proofs.OneSpelling.{points-joined}
 use Rattle.joining.specs.JointNests.{movedGaps, joinedPoints}
 use Rattle.joining.proofs.MovedGaps.{eqb-moved}
 

@@ -5,6 +5,7 @@ pub mod BlankPaper
 pub mod Spelled
 pub mod Refusals
 pub mod Accepted
+pub mod OneSpelling
 pub mod ReadsBack
 pub mod PlacedTexts
 pub mod ProgramTexts
