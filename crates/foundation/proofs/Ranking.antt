@@ -11,7 +11,7 @@ use borrow.Author.Tests.{eq-eqb, ne-eqb}
 use Rattle.laws.specs.Bits.{one}
 use Rattle.laws.specs.Choice.{isIn}
 use Rattle.laws.specs.Entries.{at}
-use Rattle.laws.proofs.Copies.{copies}
+use Rattle.laws.proofs.Copies.{copies, copies-there}
 use Rattle.laws.proofs.Stores.{stored}
 use Rattle.nests.specs.declared.Nest as DN
 use Rattle.nests.specs.Kinds.{POINTS}
@@ -21,7 +21,6 @@ use Rattle.placements.specs.Placements.{isFree}
 use Rattle.placements.proofs.Sets.{none-behind, number-at}
 use Rattle.barred.specs.Ranks.{rank}
 use Rattle.barred.proofs.Ranks.{rank-zero, rank-le}
-use Rattle.tables.proofs.Entries.{copies-there}
 use Rattle.foundation.specs.Tables.{HasFree, HasRanks}
 
 -- ---- the gaps that are not barred
@@ -39,7 +38,7 @@ free-start n p =
     record {
       within = omega arith;
       long = refl;
-      free-is = λ g l. copies-there POINTS 1 g l ∙ rw (none-behind (n .barred) (n .bars) (counted-bars n p)) refl;
+      free-is = λ g l. copies-there POINTS 1 g 0 l ∙ rw (none-behind (n .barred) (n .bars) (counted-bars n p)) refl;
     }
 
 -- a gap in front of the barred ones

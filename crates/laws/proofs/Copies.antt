@@ -1,8 +1,9 @@
 -- An array of one value.
--- Main statement: `copies-at`.
+-- Main statements: `copies-at`, `copies-there`.
 use mathlib.Core.Path.{_≡_, refl}
 use mathlib.Core.List.{List, [], _∷_}
-use Prim.Native.Nat.{ℕ, zero, suc}
+use Prim.Native.Nat.{ℕ, zero, suc, _<_}
+use native.Mathlib.Omega.{arith}
 use lib.ListN.{getD}
 
 unfoldable pub copies : {A : Type 0} → ℕ → A → List A
@@ -15,3 +16,10 @@ unfolding copies
 copies-at zero x i = refl
 copies-at (suc k) x zero = refl
 copies-at (suc k) x (suc i) = copies-at k x i
+
+-- whatever stands for an entry beyond its end
+pub copies-there : {A : Type 0} (k : ℕ) (x : A) (i : ℕ) (y : A) → i < k → getD (copies k x) i y ≡ x
+unfolding copies
+copies-there zero x i y l = absurd (omega arith)
+copies-there (suc k) x zero y l = refl
+copies-there (suc k) x (suc i) y l = copies-there k x i y (omega arith)

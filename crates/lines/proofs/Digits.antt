@@ -1,5 +1,5 @@
 -- Digits of a line and the bytes that they spell.
--- Main statements: `hex-bit`, `hex-at`, `frame-length`, `frame-at`, `frame-past`, `digits-are`, `digits-parts`.
+-- Main statements: `hex-at`, `frame-length`, `frame-at`, `frame-past`, `digits-are`, `digits-parts`.
 use mathlib.Core.Path.{_≡_, refl, sym}
 use mathlib.Core.Bool.{Bool, true, false, _&&_, not}
 use mathlib.Core.List.{List, [], _∷_}
@@ -14,57 +14,6 @@ use Rattle.laws.proofs.Connectives.{and-off}
 use Rattle.laws.proofs.Members.{every-below}
 use Rattle.laws.proofs.Tests.{and-true, or-true, never}
 use Rattle.lines.specs.Lines.{isHex, valueOf, allHex, isDigits, frameOf}
-
--- a digit by its byte
-pub hex-low : (b : ℕ) → b < 48 → isHex b ≡ false
-hex-low b h =
-    let z : b < 97 = omega arith in
-    rw (lt-leb 48 b h, lt-leb 97 b z)
-
-pub hex-high : (b : ℕ) → 102 < b → isHex b ≡ false
-hex-high b h =
-    let z : 57 < b = omega arith in
-    rw (lt-leb b 57 z, and-off (leb 48 b), lt-leb b 102 h) (and-off (leb 97 b))
-
--- the digits as bits of a word: each of the 64 is looked at
-abbrev pub DIGITS : ℕ
-DIGITS = 35465847065543679
-
-abbrev agrees : ℕ → Bool
-agrees k = pick (eqb (DIGITS / 2 ^ k % 2) 1) (isHex (48 + k)) (not (isHex (48 + k)))
-
-pub hex-bit : (k : ℕ) → k < 64 → eqb (DIGITS / 2 ^ k % 2) 1 ≡ isHex (48 + k)
-hex-bit k l = go (eqb (DIGITS / 2 ^ k % 2) 1) (isHex (48 + k)) (every-below agrees 64 refl k l)
-  where
-    go : (t u : Bool) → pick t u (not u) ≡ true → t ≡ u
-    go true u h = sym h
-    go false true h = never h
-    go false false h = refl
-
--- the byte of a digit: a number or a letter
-pub number-from : (b : ℕ) → isHex b ≡ true → 48 ≤ b
-number-from b h =
-    ⊎-elim
-    (λ (z : between 48 b 57 ≡ true). leb-true 48 b (and-true (leb 48 b) (leb b 57) z .0))
-    (λ (z : between 97 b 102 ≡ true). omega (arith, leb-true 97 b (and-true (leb 97 b) (leb b 102) z .0)))
-    (or-true (between 48 b 57) (between 97 b 102) h)
-
-pub letter-from : (b : ℕ) → isHex b ≡ true → 57 < b → (97 ≤ b) × (b ≤ 102)
-letter-from b h k = ⊎-elim (λ z. number z) (λ z. letter z) (or-true (between 48 b 57) (between 97 b 102) h)
-  where
-    number : between 48 b 57 ≡ true → (97 ≤ b) × (b ≤ 102)
-    number z = absurd (omega (arith, leb-true b 57 (and-true (leb 48 b) (leb b 57) z .1)))
-
-    letter : between 97 b 102 ≡ true → (97 ≤ b) × (b ≤ 102)
-    letter z =
-        let p = and-true (leb 97 b) (leb b 102) z in
-        (leb-true 97 b (p .0), leb-true b 102 (p .1))
-
-pub value-number : (b : ℕ) → b ≤ 57 → b - 48 ≡ valueOf b
-value-number b h = rw (le-leb b 57 h)
-
-pub value-letter : (b : ℕ) → 57 < b → b - 87 ≡ valueOf b
-value-letter b h = rw (lt-leb b 57 h)
 
 -- all of a line, byte by byte
 pub hex-at : (l : List ℕ) (i : ℕ) → allHex l ≡ true → i < length l → isHex (getD l i 0) ≡ true

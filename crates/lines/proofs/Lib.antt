@@ -1,5 +1,6 @@
 -- Laws of lines.
 pub mod Spelling
+pub mod Values
 pub mod Digits
 pub mod Reading
 pub mod Writing

@@ -8,8 +8,9 @@ use Prim.Native.Nat.{ℕ, suc, _+_, _-_, _/_, _%_, _≤_, _<_}
 use native.Mathlib.Numerals.{add-one}
 use native.Mathlib.Omega.{arith}
 use lib.Dec.{eqb, leb, ltb, leb·suc-suc}
-use lib.ListN.{length, getD, take, drop, length-drop, drop-of-length-le}
+use lib.ListN.{length, getD, take, drop, length-take, length-drop, drop-of-length-le}
 use lib.Seq.{drop-cons, drop-drop, getD-drop}
+use borrow.Rule.Slice.PartAt.{part-to-end}
 use borrow.Author.Tests.{eq-eqb, ne-eqb, lt-ltb, le-ltb, ltb-true}
 use Rattle.laws.specs.Choice.{pick}
 use Rattle.laws.proofs.Tests.{le-or, and-true}
@@ -66,6 +67,18 @@ digits-front (b ∷ s) = go (isHex b) (digits-front s)
         → pick t (b ∷ takeDigits s) [] ≡ take (length (pick t (b ∷ takeDigits s) [])) (b ∷ s)
     go true e = ap (λ (l : List ℕ). b ∷ l) e
     go false e = refl
+
+-- and no longer than it
+pub digits-fit : (s : List ℕ) → length (takeDigits s) ≤ length s
+digits-fit s = omega (arith, ap length (digits-front s), length-take (length (takeDigits s)) s)
+
+-- the digits of a text from a place on, looked for in that part of it
+pub end-in-part
+    : (s : List ℕ) (at r : ℕ)
+    → r ≡ length (takeDigits (take (length s - at) (drop at s)))
+    → at + r ≡ at + length (takeDigits (drop at s))
+end-in-part s at r e =
+    ap (λ (n : ℕ). at + n) (e ∙ ap (λ (l : List ℕ). length (takeDigits l)) (part-to-end s at))
 
 pub feed-inside : (s : List ℕ) → hasFeed s ≡ ltb (length (takeLine s)) (length s)
 unfolding takeLine hasFeed

@@ -1,16 +1,16 @@
 -- One line at a place of a text: what the line reader answers.
--- Main definitions: `takeLine`, `takeDigits`, `hasFeed`, `frame`, `IsFrame`, `lineAt`.
+-- Main definitions: `takeLine`, `takeDigits`, `hasFeed`, `frame`, `IsFrame`, `lineAt`, `AreValues`.
 use mathlib.Core.Path.{_≡_}
 use mathlib.Core.Bool.{Bool, false, _||_}
 use mathlib.Core.List.{List, [], _∷_}
-use Prim.Native.Nat.{ℕ, _+_}
+use Prim.Native.Nat.{ℕ, _+_, _<_}
 use lib.Dec.{eqb}
 use lib.ListN.{length, getD, drop}
 use Rattle.laws.specs.Choice.{pick}
 use Rattle.lines.specs.declared.Frame.{Frame}
 use Rattle.lines.specs.declared.Read.{Read}
 use Rattle.lines.specs.declared.Read.the-variants as RV
-use Rattle.lines.specs.Lines.{FEED, Line, linesOf, isHex, isGood, frameOf}
+use Rattle.lines.specs.Lines.{FEED, Line, linesOf, isHex, valueOf, isGood, frameOf}
 
 -- the bytes of a text before its first 0a
 unfoldable pub takeLine : List ℕ → List ℕ
@@ -48,3 +48,10 @@ answerOf at (l ∷ ls) =
 
 unfoldable pub lineAt : List ℕ → ℕ → Read
 lineAt s at = answerOf at (linesOf (drop at s))
+
+-- a table by which the reader tells digits and their values; 16 stands for a byte that is no digit
+abbrev pub tableValue : ℕ → ℕ
+tableValue b = pick (isHex b) (valueOf b) 16
+
+pub record AreValues (values : List ℕ) : Type 0 where
+  pub value-at : (b : ℕ) → b < 256 → getD values b 0 ≡ tableValue b

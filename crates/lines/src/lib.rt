@@ -1,10 +1,10 @@
 // Lines of digits: a reader that answers one line at a time, and the writer of one frame.
 ghost use mathlib.Core.Path.{_≡_};
 ghost use mathlib.Core.Bool.{true};
-ghost use Prim.Native.Nat.{_+_, _≤_, _<_};
-ghost use lib.ListN.{length, getD, drop};
+ghost use Prim.Native.Nat.{_≤_, _<_};
+ghost use lib.ListN.{length, getD};
 ghost use Rattle.lines.specs.Lines.{isHex, valueOf, allHex, isDigits, frameOf, digitOf, lineText};
-ghost use Rattle.lines.specs.Reading.{takeDigits, lineAt};
+ghost use Rattle.lines.specs.Reading.{takeDigits, lineAt, AreValues};
 ghost use Rattle.lines.specs.Writing.{over};
 
 // A frame's first bytes, how many it has, and where the next line starts.
@@ -32,17 +32,35 @@ const NUMBERS: u8 = b'0';
 
 const LETTERS: u8 = 87;
 
-// The digits among the 64 bytes from the numbers on, as bits: 0 to 9, and 49 to 54 for the letters.
-const DIGITS: u64 = 35465847065543679;
+// How many digits there are; in the table of values, what stands for a byte that is none.
+const BASE: u8 = 16;
 
-// Reads the line that starts at a place of a text.
-pub fn read_line(text: &[u8], at: usize) -> Read
+// The bytes that there are.
+const BYTES: usize = 256;
+
+// The value of each byte that is a digit, by the byte.
+pub fn digit_values() -> [u8; BYTES]
+    ensures { λ r. ⌜ AreValues r ⌝ }
+{
+    let mut values = [BASE; BYTES];
+    let mut v: u8 = 0;
+    while v < BASE {
+        let byte = digit(v) as usize;
+        values[byte] = v;
+        v += 1;
+    }
+    values
+}
+
+// Reads the line that starts at a place of a text, by the table of values.
+pub fn read_line(text: &[u8], at: usize, values: &[u8; BYTES]) -> Read
+    requires { ⌜ AreValues (now values) ⌝ }
     ensures { λ r. ⌜ r ≡ lineAt (now (text .entry)) at ⌝ }
 {
     if at >= text.len() {
         return Read::End;
     }
-    let end = digits_end(text, at);
+    let end = at + digits_in(&text[at..], values);
     if end >= text.len() {
         return Read::Refused(1);
     }
@@ -52,11 +70,11 @@ pub fn read_line(text: &[u8], at: usize) -> Read
     let line = &text[at..end];
     if is_whole(line) {
         Read::Frame(Frame {
-            kind: byte_at(line, 0),
+            kind: byte_at(line, 0, values),
             len: line.len() / 2,
-            a: byte_at(line, 1),
-            b: byte_at(line, 2),
-            c: byte_at(line, 3),
+            a: byte_at(line, 1, values),
+            b: byte_at(line, 2, values),
+            c: byte_at(line, 3, values),
             next: end + 1,
         })
     } else {
@@ -81,14 +99,14 @@ pub fn put_frame(out: &mut [u8], frame: &[u8]) -> usize
     2 * i + 1
 }
 
-// Where the digits that start at a place end: at the first other byte, or at the end of the text.
-fn digits_end(text: &[u8], at: usize) -> usize
-    requires { ⌜ at ≤ length (now text) ⌝ }
-    ensures { λ r. ⌜ r ≡ at + length (takeDigits (drop at (now (text .entry)))) ⌝ }
+// How many digits a text starts with.
+fn digits_in(text: &[u8], values: &[u8; BYTES]) -> usize
+    requires { ⌜ AreValues (now values) ⌝ }
+    ensures { λ r. ⌜ r ≡ length (takeDigits (now (text .entry))) ⌝ }
 {
-    let mut i = at;
+    let mut i = 0;
     while i < text.len() {
-        if is_hex(text[i]) {
+        if is_hex(text[i], values) {
             i += 1;
         } else {
             return i;
@@ -109,35 +127,32 @@ fn is_whole(line: &[u8]) -> bool
 }
 
 // A byte is one of the digits 0-9 a-f.
-fn is_hex(b: u8) -> bool
+fn is_hex(b: u8, values: &[u8; BYTES]) -> bool
+    requires { ⌜ AreValues (now values) ⌝ }
     ensures { λ r. ⌜ r ≡ isHex b ⌝ }
 {
-    if b < b'0' {
-        return false;
-    }
-    if b <= b'o' {
-        return (DIGITS >> (b - b'0')) & 1 == 1;
-    }
-    false
+    values[b as usize] < BASE
 }
 
 // The byte of a frame at an index, 0 past its end.
-fn byte_at(line: &[u8], i: usize) -> u8
+fn byte_at(line: &[u8], i: usize, values: &[u8; BYTES]) -> u8
     requires { ⌜ allHex (now line) ≡ true ⌝ }
+    requires { ⌜ AreValues (now values) ⌝ }
     ensures { λ r. ⌜ r ≡ getD (frameOf (now (line .entry))) i 0 ⌝ }
 {
     if i >= line.len() / 2 {
         return 0;
     }
-    16 * value(line[2 * i]) + value(line[2 * i + 1])
+    16 * value(line[2 * i], values) + value(line[2 * i + 1], values)
 }
 
 // The value of a digit.
-fn value(b: u8) -> u8
+fn value(b: u8, values: &[u8; BYTES]) -> u8
     requires { ⌜ isHex b ≡ true ⌝ }
+    requires { ⌜ AreValues (now values) ⌝ }
     ensures { λ r. ⌜ (r ≡ valueOf b) × (r < 16) ⌝ }
 {
-    if b <= b'9' { b - NUMBERS } else { b - LETTERS }
+    values[b as usize]
 }
 
 // The digit of a value.

@@ -1,14 +1,13 @@
--- Entries of a list after a store, and of an array of one value.
--- Main statements: `entry-here`, `entry-elsewhere`, `entries-more`, `copies-there`, `lowered`, `left-low`.
-use mathlib.Core.Path.{_≡_, refl, sym}
+-- Entries of a list after a store.
+-- Main statements: `entry-here`, `entry-elsewhere`, `entries-more`, `lowered`, `left-low`.
+use mathlib.Core.Path.{_≡_, sym}
 use mathlib.Core.List.{List}
 use mathlib.Core.Logic.{⊎-elim}
-use Prim.Native.Nat.{ℕ, zero, suc, _+_, _≤_, _<_, min}
+use Prim.Native.Nat.{ℕ, _+_, _≤_, _<_, min}
 use native.Mathlib.Omega.{arith}
 use lib.ListN.{length, set}
 use lib.Seq.{getD-set-same, getD-set-other, set-getD}
 use Rattle.laws.specs.Entries.{at}
-use Rattle.laws.proofs.Copies.{copies}
 use Rattle.laws.proofs.Tests.{eq-or}
 
 module _ (xs : List ℕ) (i v : ℕ) where
@@ -26,13 +25,6 @@ module _ (xs : List ℕ) (i v : ℕ) where
       (λ (e : k ≡ i). rw (e, entry-here h) here)
       (λ (e : k ≡ i → ⊥). rw (entry-elsewhere k e) (below k (omega arith)))
       (eq-or k i)
-
--- an array of one value has it at each of its places
-pub copies-there : (k v i : ℕ) → i < k → at (copies k v) i ≡ v
-unfolding copies
-copies-there zero v i l = absurd (omega arith)
-copies-there (suc k) v zero l = refl
-copies-there (suc k) v (suc i) l = copies-there k v i (omega arith)
 
 -- the lesser of an entry and t in its place, stored or left
 pub lowered : (xs : List ℕ) (i t : ℕ) → t < at xs i → set xs i t ≡ set xs i (min t (at xs i))

@@ -7,7 +7,7 @@ use mathlib.Core.List.{List}
 use Prim.Native.Nat.{ℕ, _≤_}
 use native.Mathlib.Omega.{arith}
 use lib.ListN.{length, take, length-take}
-use Rattle.laws.proofs.Copies.{copies, copies-at}
+use Rattle.laws.proofs.Copies.{copies, copies-at, copies-there}
 use Rattle.nests.specs.Nests.{Dep, Nest}
 use Rattle.nests.specs.Valid.{isValid}
 use Rattle.nests.proofs.Deps.{valid-is, deps-fit}
@@ -15,7 +15,6 @@ use Rattle.planner.proofs.Instance.{AllFit}
 use Rattle.tables.specs.Charts.{ROW, TABLE, Points, Charted, Unowned}
 use Rattle.tables.specs.Collected.{Collected, Blank, Limited}
 use Rattle.tables.specs.Prepared.{Prepared}
-use Rattle.tables.proofs.Entries.{copies-there}
 
 -- the first n of a list are there
 pub count-there : (n : ℕ) (xs : List ℕ) → n ≡ length (take n xs) → n ≤ length xs
@@ -28,8 +27,8 @@ unowned-filled = copies-at ROW 0
 pub blank-filled : (n m : ℕ) → n ≡ m → Blank m (copies TABLE n) (copies TABLE n) (copies ROW 0)
 blank-filled n m e =
     record {
-      reach-is = λ i l. copies-there TABLE n i l ∙ e;
-      back-is = λ i l. copies-there TABLE n i l ∙ e;
+      reach-is = λ i l. copies-there TABLE n i 0 l ∙ e;
+      back-is = λ i l. copies-there TABLE n i 0 l ∙ e;
       has-is = copies-at ROW 0;
     }
 

@@ -19,6 +19,7 @@ ghost use Rattle.texts.specs.Counts.{CountsFit, CountsSay};
 ghost use Rattle.texts.specs.Reads.{IsPlaced, UnplacedAs, BarrierFault};
 use lines::Frame;
 use lines::Read;
+use lines::digit_values;
 use lines::put_frame;
 use lines::read_line;
 use nests::BARRED;
@@ -74,6 +75,7 @@ pub fn read_nest(text: &[u8]) -> Reading
     if text.len() == 0 {
         return blank();
     }
+    let values = digit_values();
     let mut nest = Nest::empty();
     let mut ends = [0; Nest::POINTS];
     let mut single = true;
@@ -81,7 +83,7 @@ pub fn read_nest(text: &[u8]) -> Reading
     let mut at: usize = 0;
     let mut line: usize = 1;
     loop {
-        let next = read_line(text, at);
+        let next = read_line(text, at, &values);
         match next {
             Read::End => return ended(nest, depth, line),
             Read::Refused(number) => return refused(number, line),
@@ -154,12 +156,13 @@ pub fn read_nest(text: &[u8]) -> Reading
 pub fn read_placement(points: usize, barred: Placement, text: &[u8]) -> PlacementReading
     ensures { λ r. ⌜ IsPlaced points (gapsIn (barred .words)) (now (text .entry)) r ⌝ }
 {
+    let values = digit_values();
     let mut placement = Placement::empty();
     let mut last: usize = 0;
     let mut at: usize = 0;
     let mut line: usize = 1;
     loop {
-        let next = read_line(text, at);
+        let next = read_line(text, at, &values);
         match next {
             Read::End => return PlacementReading {
                 number: 0,

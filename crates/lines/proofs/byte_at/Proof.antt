@@ -18,7 +18,7 @@ shared-slice-read-value c = search needs
 value-requires : tie.Need-value-requires
 value-requires c κs =
     let s = c .before .before .before in
-    hex-at (s .args .line .now) (2 * s .args .i) (s .pre) (omega arith)
+    (hex-at (s .args .line .now) (2 * s .args .i) (s .pre .0) (omega arith), s .pre .1)
 
 mul-result : tie.Need-mul-result
 mul-result c = search needs
@@ -35,7 +35,7 @@ shared-slice-read-value-2 c = search needs
 value-requires-2 : tie.Need-value-requires-2
 value-requires-2 c κs =
     let s = c .before .before .before .before .before in
-    hex-at (s .args .line .now) (2 * s .args .i + 1) (s .pre) (omega arith)
+    (hex-at (s .args .line .now) (2 * s .args .i + 1) (s .pre .0) (omega arith), s .pre .1)
 
 add-result : tie.Need-add-result
 add-result c = search needs

@@ -2,35 +2,64 @@
 -- answer.
 use mathlib.Core.Path.{_≡_, sym, _∙_}
 use mathlib.Core.Bool.{true}
+use Prim.Native.Nat.{_+_, _-_}
 use native.Mathlib.Omega.{arith}
-use Prim.Native.Nat.{_-_}
-use lib.ListN.{take, drop}
-use Rattle.lines.specs.Lines.{allHex}
-use Rattle.lines.proofs.Reading.{past-end, front-hex, unended, other-behind, not-digits, is-frame}
+use lib.ListN.{length, take, drop, length-drop}
 use borrow.Author.Needs.{needs}
+use Rattle.lines.specs.Lines.{allHex}
+use Rattle.lines.specs.Reading.{takeDigits}
+use Rattle.lines.proofs.Reading.{digits-fit, end-in-part, past-end, front-hex, unended, other-behind}
+use Rattle.lines.proofs.Reading.{not-digits, is-frame}
 use Rattle.lines.proofs.read_line.Statement.{statement}
 use Rattle.lines.proofs.read_line.Tie as tie
 
 returns : tie.Need-returns
 returns c = past-end (c .before .before .args .text .now) (c .before .before .args .at) (c .if1 .taken)
 
-digits-end-requires : tie.Need-digits-end-requires
-digits-end-requires c κs = search needs
+sub-digits-in : tie.Need-sub-digits-in
+sub-digits-in c = search needs
+
+part-digits-in-start : tie.Need-part-digits-in-start
+part-digits-in-start c = search needs
+
+part-digits-in-end : tie.Need-part-digits-in-end
+part-digits-in-end c = search needs
+
+digits-in-requires : tie.Need-digits-in-requires
+digits-in-requires c κs = search needs
+
+-- where the digits end
+abbrev called : tie.After-digits-in → tie.Start
+called d = d .before .before .before .before
+
+ends
+    : (d : tie.After-digits-in)
+    → let a = called d .args in
+    a .at + d .digits-in .result ≡ a .at + length (takeDigits (drop (a .at) (a .text .now)))
+ends d =
+    let a = called d .args in
+    end-in-part (a .text .now) (a .at) (d .digits-in .result) (d .digits-in .ensures)
+
+add-end : tie.Need-add-end
+add-end c =
+    let a = called c .args in
+    omega (arith, ends c, digits-fit (drop (a .at) (a .text .now)), length-drop (a .at) (a .text .now), called c .good)
 
 returns-2 : tie.Need-returns-2
 returns-2 c =
-    let s = c .before .before .before .before in
-    let e = c .before .digits-end in
-    unended (s .args .text .now) (s .args .at) (e .result) (c .before .before .if1 .left) (e .ensures) (c .if2 .taken)
+    let d = c .before in
+    let a = called d .args in
+    unended (a .text .now) (a .at) (a .at + d .digits-in .result) (d .before .before .if1 .left) (ends d) (c .if2 .taken)
 
 shared-slice-read-if3 : tie.Need-shared-slice-read-if3
 shared-slice-read-if3 c = search needs
 
 returns-3 : tie.Need-returns-3
 returns-3 c =
-    let s = c .before .before .before .before .before .before in
-    let e = c .before .before .before .digits-end in
-    other-behind (s .args .text .now) (s .args .at) (e .result) (c .before .before .before .before .if1 .left) (e .ensures) (omega arith) (c .if3 .taken)
+    let d = c .before .before .before in
+    let a = called d .args in
+    other-behind (a .text .now) (a .at) (a .at + d .digits-in .result) (d .before .before .if1 .left) (ends d) (omega arith)
+    (c .if3 .taken)
 
 sub-line : tie.Need-sub-line
 sub-line c = search needs
@@ -44,73 +73,60 @@ part-line-end c = search needs
 -- the line is digits
 of-digits
     : (c : tie.After-line)
-    → let a = c .before .before .before .before .before .before .before .args in allHex (take (c .before .before .before .before .digits-end .result - a .at) (drop (a .at) (a .text .now))) ≡ true
+    → let d = c .before .before .before .before in
+    let a = called d .args in
+    allHex (take (a .at + d .digits-in .result - a .at) (drop (a .at) (a .text .now))) ≡ true
 of-digits c =
-    let a = c .before .before .before .before .before .before .before .args in
-    let e = c .before .before .before .before .digits-end in
-    front-hex (a .text .now) (a .at) (e .result) (c .before .before .before .before .before .if1 .left) (e .ensures)
+    let d = c .before .before .before .before in
+    let a = called d .args in
+    front-hex (a .text .now) (a .at) (a .at + d .digits-in .result) (d .before .before .if1 .left) (ends d)
 
 is-whole-requires : tie.Need-is-whole-requires
 is-whole-requires c κs = of-digits c
 
 byte-at-requires : tie.Need-byte-at-requires
-byte-at-requires c κs = of-digits (c .before .before)
+byte-at-requires c κs = (of-digits (c .before .before), c .before .before .before .before .before .before .before .before .before .before .pre)
 
 byte-at-requires-2 : tie.Need-byte-at-requires-2
-byte-at-requires-2 c κs = of-digits (c .before .before .before)
+byte-at-requires-2 c κs = (of-digits (c .before .before .before), c .before .before .before .before .before .before .before .before .before .before .before .pre)
 
 byte-at-requires-3 : tie.Need-byte-at-requires-3
-byte-at-requires-3 c κs = of-digits (c .before .before .before .before)
+byte-at-requires-3 c κs = (of-digits (c .before .before .before .before), c .before .before .before .before .before .before .before .before .before .before .before .before .pre)
 
 byte-at-requires-4 : tie.Need-byte-at-requires-4
-byte-at-requires-4 c κs = of-digits (c .before .before .before .before .before)
+byte-at-requires-4 c κs = (of-digits (c .before .before .before .before .before), c .before .before .before .before .before .before .before .before .before .before .before .before .before .pre)
 
-add-t19 : tie.Need-add-t19
-add-t19 c = search needs
+add-t24 : tie.Need-add-t24
+add-t24 c = search needs
 
 returns-4 : tie.Need-returns-4
 returns-4 c =
-    let s = c .before .before .before .before .before .before .before .before .before .before .before .before .before in
     let t = c .before .before .before .before in
-    let e = c .before .before .before .before .before .before .before .before .before .before .digits-end in
-    is-frame
-    (s .args .text .now)
-    (s .args .at)
-    (e .result)
-    (c .before .before .before .before .before .before .before .before .before .before .before .if1 .left)
-    (e .ensures)
-    (omega arith)
+    let d = c .before .before .before .before .before .before .before .before .before .before in
+    let a = called d .args in
+    is-frame (a .text .now) (a .at) (a .at + d .digits-in .result) (d .before .before .if1 .left) (ends d) (omega arith)
     (c .before .before .before .before .before .before .before .if3 .left)
-    (c .before .before .before .byte-at .result)
-    (c .before .before .byte-at2 .result)
-    (c .before .byte-at3 .result)
-    (c .byte-at4 .result)
+    (c .before .before .before .byte-at .result) (c .before .before .byte-at2 .result) (c .before .byte-at3 .result) (c .byte-at4 .result)
     (sym (t .before .is-whole .ensures) ∙ t .if4 .taken)
-    (c .before .before .before .byte-at .ensures)
-    (c .before .before .byte-at2 .ensures)
-    (c .before .byte-at3 .ensures)
-    (c .byte-at4 .ensures)
+    (c .before .before .before .byte-at .ensures) (c .before .before .byte-at2 .ensures) (c .before .byte-at3 .ensures) (c .byte-at4 .ensures)
 
 returns-5 : tie.Need-returns-5
 returns-5 c =
-    let s = c .before .before .before .before .before .before .before .before .before in
-    let e = c .before .before .before .before .before .before .digits-end in
-    not-digits
-    (s .args .text .now)
-    (s .args .at)
-    (e .result)
-    (c .before .before .before .before .before .before .before .if1 .left)
-    (e .ensures)
-    (omega arith)
-    (c .before .before .before .if3 .left)
-    (sym (c .before .is-whole .ensures) ∙ c .if4 .left)
+    let d = c .before .before .before .before .before .before in
+    let a = called d .args in
+    not-digits (a .text .now) (a .at) (a .at + d .digits-in .result) (d .before .before .if1 .left) (ends d) (omega arith)
+    (c .before .before .before .if3 .left) (sym (c .before .is-whole .ensures) ∙ c .if4 .left)
 
 pub read-line-spec : {M : Type 1} → statement M
 read-line-spec =
     tie.close
     (tie.spec
     returns
-    digits-end-requires
+    sub-digits-in
+    part-digits-in-start
+    part-digits-in-end
+    digits-in-requires
+    add-end
     returns-2
     shared-slice-read-if3
     returns-3
@@ -122,6 +138,6 @@ read-line-spec =
     byte-at-requires-2
     byte-at-requires-3
     byte-at-requires-4
-    add-t19
+    add-t24
     returns-4
     returns-5)

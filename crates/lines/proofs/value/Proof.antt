@@ -1,22 +1,20 @@
--- A digit is a number or a letter, so the difference does not wrap and is below 16.
+-- A digit's entry is its value, which is below 16.
+use mathlib.Core.Path.{_∙_}
 use native.Mathlib.Omega.{arith}
-use Rattle.lines.proofs.Digits.{number-from, letter-from, value-number, value-letter}
+use borrow.Author.Needs.{needs}
+use Rattle.lines.proofs.Values.{table-value}
 use Rattle.lines.proofs.value.Statement.{statement}
 use Rattle.lines.proofs.value.Tie as tie
 
-sub-result : tie.Need-sub-result
-sub-result c = number-from (c .before .args .b) (c .before .pre)
-
-sub-result-2 : tie.Need-sub-result-2
-sub-result-2 c = omega (arith, letter-from (c .before .args .b) (c .before .pre) (c .if1 .left))
+element-copy-out-result : tie.Need-element-copy-out-result
+element-copy-out-result c = search needs
 
 returns : tie.Need-returns
-returns c = (value-number (c .before .args .b) (c .if1 .taken), omega arith)
-
-returns-2 : tie.Need-returns-2
-returns-2 c =
-    let b = c .before .args .b in
-    (value-letter b (c .if1 .left), omega (arith, letter-from b (c .before .pre) (c .if1 .left)))
+returns c =
+    let s = c .before in
+    let here = s .pre .1 .value-at (s .args .b) (search needs) in
+    let is = table-value (s .args .b) (s .pre .0) in
+    (here ∙ is .0, omega (arith, here, is .0, is .1))
 
 pub value-spec : {M : Type 1} → statement M
-value-spec = tie.close (tie.spec sub-result sub-result-2 returns returns-2)
+value-spec = tie.close (tie.spec element-copy-out-result returns)

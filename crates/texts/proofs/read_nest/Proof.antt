@@ -14,11 +14,11 @@ use Rattle.texts.proofs.read_nest.Statement.{statement}
 use Rattle.texts.proofs.read_nest.Tie as tie
 
 abbrev Inv-loop : tie.InvT-loop
-Inv-loop text nest₀ ends₀ single₀ depth₀ at₀ line₀ nest ends single depth at line =
+Inv-loop text values nest₀ ends₀ single₀ depth₀ at₀ line₀ nest ends single depth at line =
     Loading text nest ends single depth at line
 
 abbrev μ-loop : tie.MeasureT-loop
-μ-loop text nest₀ ends₀ single₀ depth₀ at₀ line₀ nest ends single depth at line = length text - at
+μ-loop text values nest₀ ends₀ single₀ depth₀ at₀ line₀ nest ends single depth at line = length text - at
 
 blank-requires : tie.Need-blank-requires Inv-loop μ-loop
 blank-requires c κs = tt
@@ -26,28 +26,35 @@ blank-requires c κs = tt
 returns : tie.Need-returns Inv-loop μ-loop
 returns c = at-blank (c .before .before .before .args .text .now) (c .blank .result) (omega arith) (c .blank .ensures)
 
+digit-values-requires : tie.Need-digit-values-requires Inv-loop μ-loop
+digit-values-requires c κs = tt
+
 empty-requires : tie.Need-empty-requires Inv-loop μ-loop
 empty-requires c κs = tt
 
 loop-holds : tie.Need-loop-holds Inv-loop μ-loop
 loop-holds c =
-    let s = c .before .before .before in
+    let s = c .before .before .before .before in
     begun (s .args .text .now) (c .empty .result) _ (omega arith) (c .empty .ensures) (search needs) (search needs) (search needs) refl
 
+-- the call, from the head of the loop
+abbrev called : tie.At-loop Inv-loop μ-loop → tie.Start Inv-loop μ-loop
+called h = h .before .before .before .before .before
+
 read-line-requires : tie.Need-read-line-requires Inv-loop μ-loop
-read-line-requires c κs = tt
+read-line-requires c κs = c .before .before .before .digit-values .ensures
 
 enum-told : tie.Need-enum-told Inv-loop μ-loop
 enum-told c = c .match .keys1
 
 ended-requires : tie.Need-ended-requires Inv-loop μ-loop
-ended-requires c κs = c .before .before .before .loop .inv .counted
+ended-requires c κs = c .before .before .before .before .loop .inv .counted
 
 returns-2 : tie.Need-returns-2 Inv-loop μ-loop
 returns-2 c =
     let r = c .before .before .before in
-    let l = r .before .loop in
-    let s = r .before .before .before .before .before in
+    let l = r .before .before .loop in
+    let s = called (r .before .before) in
     at-end
     (s .args .text .now)
     (l .nest)
@@ -71,8 +78,8 @@ returns-3 : tie.Need-returns-3 Inv-loop μ-loop
 returns-3 c =
     let n = c .before .before .next in
     let r = c .before .before .before .before in
-    let l = r .before .loop in
-    let s = r .before .before .before .before .before in
+    let l = r .before .before .loop in
+    let s = called (r .before .before) in
     at-refusal
     (s .args .text .now)
     (l .nest)
@@ -92,22 +99,22 @@ enum-known-next-2 c = c .match .keys3
 
 add-line : tie.Need-add-line Inv-loop μ-loop
 add-line c =
-    let l = c .before .before .before .before .loop in
-    let s = c .before .before .before .before .before .before .before .before in
-    omega (arith, l .inv .inside, l .inv .lines, s .good .0)
+    let h = c .before .before .before .before .before in
+    let l = h .loop in
+    omega (arith, l .inv .inside, l .inv .lines, called h .good .0)
 
 piece-of-requires : tie.Need-piece-of-requires Inv-loop μ-loop
 piece-of-requires c κs = tt
 
 -- the head of the loop before what a frame tells
 abbrev head : tie.After-piece-of Inv-loop μ-loop → tie.At-loop Inv-loop μ-loop
-head k = k .before .before .before .before .before
+head k = k .before .before .before .before .before .before
 
 -- the frame of a good line, with the piece that it tells
 turn
     : (k : tie.After-piece-of Inv-loop μ-loop)
     → let l = head k .loop in
-    let s = head k .before .before .before .before in
+    let s = called (head k) in
     let f = k .before .before .next2 .given .0 .0 in
     Turn (s .args .text .now) (l .nest) (l .ends) (l .single) (l .depth) (l .at) (l .line) f (k .piece-of .result)
 turn k =
@@ -164,7 +171,7 @@ deeper-requires : tie.Need-deeper-requires Inv-loop μ-loop
 deeper-requires c κs =
     let a = head (point (c .before)) in
     let l = a .loop in
-    let s = a .before .before .before .before in
+    let s = called a in
     deep-fits (s .args .text .now) (l .nest) (l .ends) (l .single) (l .depth) (l .at) (l .line) (l .inv)
 
 ends-within-requires : tie.Need-ends-within-requires Inv-loop μ-loop
@@ -231,7 +238,7 @@ dependence-fault-requires : tie.Need-dependence-fault-requires Inv-loop μ-loop
 dependence-fault-requires c κs =
     let a = head (c .before .before .before .before .before .before .before) in
     let l = a .loop in
-    let s = a .before .before .before .before in (
+    let s = called a in (
       count-inside (s .args .text .now) (l .nest) (l .ends) (l .single) (l .depth) (l .at) (l .line) (l .inv),
       l .inv .knows,
     )
@@ -282,7 +289,7 @@ barred-fault-requires : tie.Need-barred-fault-requires Inv-loop μ-loop
 barred-fault-requires c κs =
     let a = head (c .before .before .before .before .before .before) in
     let l = a .loop in
-    let s = a .before .before .before .before in (
+    let s = called a in (
       count-inside (s .args .text .now) (l .nest) (l .ends) (l .single) (l .depth) (l .at) (l .line) (l .inv),
       l .inv .knows-one,
     )
@@ -365,7 +372,7 @@ add-depth : tie.Need-add-depth Inv-loop μ-loop
 add-depth c =
     let a = head (flagged (c .before)) in
     let l = a .loop in
-    let s = a .before .before .before .before in
+    let s = called a in
     let fits = deep-fits (s .args .text .now) (l .nest) (l .ends) (l .single) (l .depth) (l .at) (l .line) (l .inv) in
     omega (arith, fits)
 
@@ -402,6 +409,7 @@ read-nest-spec =
     μ-loop
     blank-requires
     returns
+    digit-values-requires
     empty-requires
     loop-holds
     read-line-requires

@@ -10,22 +10,29 @@ use Rattle.texts.proofs.read_placement.Statement.{statement}
 use Rattle.texts.proofs.read_placement.Tie as tie
 
 abbrev Inv-loop : tie.InvT-loop
-Inv-loop points barred text placement₀ last₀ at₀ line₀ placement last at line =
+Inv-loop points barred text values placement₀ last₀ at₀ line₀ placement last at line =
     Placing points (gapsIn (barred .words)) text (placement .words) last at line
 
 abbrev μ-loop : tie.MeasureT-loop
-μ-loop points barred text placement₀ last₀ at₀ line₀ placement last at line = length text - at
+μ-loop points barred text values placement₀ last₀ at₀ line₀ placement last at line = length text - at
+
+digit-values-requires : tie.Need-digit-values-requires Inv-loop μ-loop
+digit-values-requires c κs = tt
 
 empty-requires : tie.Need-empty-requires Inv-loop μ-loop
 empty-requires c κs = tt
 
 loop-holds : tie.Need-loop-holds Inv-loop μ-loop
 loop-holds c =
-    let s = c .before .before in
+    let s = c .before .before .before in
     placing (s .args .points) (gapsIn (s .args .barred .words)) (s .args .text .now) (c .empty .result .words) (c .empty .ensures)
 
+-- the call, from the head of the loop
+abbrev called : tie.At-loop Inv-loop μ-loop → tie.Start Inv-loop μ-loop
+called h = h .before .before .before .before
+
 read-line-requires : tie.Need-read-line-requires Inv-loop μ-loop
-read-line-requires c κs = tt
+read-line-requires c κs = c .before .before .before .digit-values .ensures
 
 enum-told : tie.Need-enum-told Inv-loop μ-loop
 enum-told c = c .match .keys1
@@ -33,8 +40,8 @@ enum-told c = c .match .keys1
 returns : tie.Need-returns Inv-loop μ-loop
 returns c =
     let r = c .before .before in
-    let l = r .before .loop in
-    let s = r .before .before .before .before in
+    let l = r .before .before .loop in
+    let s = called (r .before .before) in
     let e = sym (r .read-line .ensures) ∙ c .enum-told .given .1 in
     record {
       placed-is =
@@ -60,8 +67,8 @@ returns-2 : tie.Need-returns-2 Inv-loop μ-loop
 returns-2 c =
     let n = c .before .before .next in
     let r = c .before .before .before .before in
-    let l = r .before .loop in
-    let s = r .before .before .before .before in
+    let l = r .before .before .loop in
+    let s = called (r .before .before) in
     placed-bad
     (s .args .points)
     (gapsIn (s .args .barred .words))
@@ -90,8 +97,8 @@ returns-3 c =
     let k = c .before .before in
     let f = k .before .before .next2 in
     let r = k .before .before .before .before in
-    let l = r .before .loop in
-    let s = r .before .before .before .before in
+    let l = r .before .before .loop in
+    let s = called (r .before .before) in
     placed-fault
     (s .args .points)
     (gapsIn (s .args .barred .words))
@@ -118,8 +125,8 @@ put-requires c κs = omega arith
 add-line : tie.Need-add-line Inv-loop μ-loop
 add-line c =
     let r = c .before .before .before .before .before .before .before in
-    let l = r .before .loop in
-    let s = r .before .before .before .before in
+    let l = r .before .before .loop in
+    let s = called (r .before .before) in
     omega (arith, l .inv .inside, l .inv .lines, s .good)
 
 loop-less : tie.Need-loop-less Inv-loop μ-loop
@@ -127,8 +134,8 @@ loop-less c =
     let k = c .before .before .before in
     let f = k .before .before .next2 in
     let r = k .before .before .before .before in
-    let l = r .before .loop in
-    let s = r .before .before .before .before in
+    let l = r .before .before .loop in
+    let s = called (r .before .before) in
     let n = next-inside
     (s .args .points)
     (gapsIn (s .args .barred .words))
@@ -149,8 +156,8 @@ loop-again c =
     let k = c .before .before .before in
     let f = k .before .before .next2 in
     let r = k .before .before .before .before in
-    let l = r .before .loop in
-    let s = r .before .before .before .before in
+    let l = r .before .before .loop in
+    let s = called (r .before .before) in
     place-on
     (s .args .points)
     (gapsIn (s .args .barred .words))
@@ -175,6 +182,7 @@ read-placement-spec =
     (tie.spec
     Inv-loop
     μ-loop
+    digit-values-requires
     empty-requires
     loop-holds
     read-line-requires

@@ -7,24 +7,24 @@ use lib.ListN.{length, getD, drop}
 use Rattle.lines.specs.Lines.{isHex}
 use Rattle.lines.specs.Reading.{takeDigits}
 use Rattle.lines.proofs.Reading.{end-on, end-here, end-past}
-use Rattle.lines.proofs.digits_end.Statement.{statement}
-use Rattle.lines.proofs.digits_end.Tie as tie
+use Rattle.lines.proofs.digits_in.Statement.{statement}
+use Rattle.lines.proofs.digits_in.Tie as tie
 
 abbrev Inv-loop : tie.InvT-loop
-Inv-loop text at i₀ i =
-    (i ≤ length text) × (i + length (takeDigits (drop i text)) ≡ at + length (takeDigits (drop at text)))
+Inv-loop text values i₀ i =
+    (i ≤ length text) × (i + length (takeDigits (drop i text)) ≡ length (takeDigits text))
 
 abbrev μ-loop : tie.MeasureT-loop
-μ-loop text at i₀ i = length text - i
+μ-loop text values i₀ i = length text - i
 
 loop-holds : tie.Need-loop-holds Inv-loop μ-loop
-loop-holds c = (c .before .pre, refl)
+loop-holds c = (omega arith, omega arith)
 
 shared-slice-read-is-hex : tie.Need-shared-slice-read-is-hex Inv-loop μ-loop
 shared-slice-read-is-hex c = omega arith
 
 is-hex-requires : tie.Need-is-hex-requires Inv-loop μ-loop
-is-hex-requires c κs = tt
+is-hex-requires c κs = c .before .before .before .before .pre
 
 add-i : tie.Need-add-i Inv-loop μ-loop
 add-i c = omega arith
@@ -49,8 +49,8 @@ returns c =
 returns-2 : tie.Need-returns-2 Inv-loop μ-loop
 returns-2 c = omega (arith, end-past (c .before .before .before .args .text .now) (c .before .loop .i) (c .loop-test .left))
 
-pub digits-end-spec : {M : Type 1} → statement M
-digits-end-spec =
+pub digits-in-spec : {M : Type 1} → statement M
+digits-in-spec =
     tie.close
     (tie.spec
     Inv-loop
