@@ -137,13 +137,18 @@ pub fn ends_of(points: &[u8]) -> [usize; Nest::POINTS]
     ensures { λ r. ⌜ HasEnds (now (points .entry)) r ⌝ }
 {
     let mut ends = [0; Nest::POINTS];
-    let mut d = 0;
-    while d < points.len() {
-        if points[d] == DO {
-            ends[d] = end_of(points, d);
-            d += 1;
-        } else {
-            d += 1;
+    let mut end = points.len();
+    let mut i = points.len();
+    while 0 < i {
+        i -= 1;
+        ends[i] = end;
+        let kind = points[i];
+        if kind == ENDDO {
+            end = i;
+        } else if kind == DO {
+            if end < points.len() {
+                end = ends[end];
+            }
         }
     }
     ends

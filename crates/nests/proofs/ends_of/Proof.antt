@@ -1,63 +1,95 @@
--- `ends_of` meets its contract. The invariant: the entries of the DOs passed are there (`Filled`). The measure is what
--- is left of the points.
-use mathlib.Core.Path.{refl}
-use Prim.Native.Nat.{_-_}
+-- `ends_of` meets its contract. The invariant: the entries of the points from i on are there (`Filled`).
+use mathlib.Core.Path.{_≡_, refl}
+use mathlib.Core.List.{List}
+use Prim.Native.Nat.{ℕ, suc, _-_, _≤_, _<_}
 use native.Mathlib.Omega.{arith}
 use lib.ListN.{length}
-use Rattle.nests.proofs.Ends.{Filled, fill-do, fill-other, fill-done}
+use Rattle.nests.specs.Kinds.{POINTS}
+use Rattle.nests.proofs.Ends.{Filled, fill-none, fill-open, fill-end, fill-do, fill-do-none, fill-other, fill-done}
 use Rattle.nests.proofs.ends_of.Statement.{statement}
 use Rattle.nests.proofs.ends_of.Tie as tie
 
 abbrev Inv-loop : tie.InvT-loop
-Inv-loop points ends₀ d₀ ends d = Filled points ends d
+Inv-loop points ends₀ end₀ i₀ ends end i = Filled points ends end i
 
 abbrev μ-loop : tie.MeasureT-loop
-μ-loop points ends₀ d₀ ends d = length points - d
+μ-loop points ends₀ end₀ i₀ ends end i = i
 
 loop-holds : tie.Need-loop-holds Inv-loop μ-loop
-loop-holds c = record { long = refl; at = λ d l m. absurd (omega arith) }
+loop-holds c = fill-none (c .args .points .now) _ refl
 
-shared-slice-read-if1 : tie.Need-shared-slice-read-if1 Inv-loop μ-loop
-shared-slice-read-if1 c = omega arith
+-- the points, which are few, and what is there before one of them
+abbrev points : tie.At-loop Inv-loop μ-loop → List ℕ
+points h = h .before .args .points .now
 
-end-of-requires : tie.Need-end-of-requires Inv-loop μ-loop
-end-of-requires c κs = tt
+few : (h : tie.At-loop Inv-loop μ-loop) → length (points h) ≤ POINTS
+few h = h .before .pre
+
+opened
+    : (h : tie.At-loop Inv-loop μ-loop)
+    → 0 < h .loop .i
+    → Filled (points h) (h .loop .ends) (h .loop .end) (suc (h .loop .i - 1))
+opened h l = fill-open (points h) (h .loop .ends) (h .loop .end) (h .loop .i) l (h .loop .inv)
+
+sub-i : tie.Need-sub-i Inv-loop μ-loop
+sub-i c = omega arith
 
 mul-ends : tie.Need-mul-ends Inv-loop μ-loop
-mul-ends c = omega (arith, c .before .before .before .before .before .before .pre)
+mul-ends c = omega arith
 
 array-write-ends : tie.Need-array-write-ends Inv-loop μ-loop
-array-write-ends c = omega (arith, c .before .before .before .before .before .before .pre)
+array-write-ends c = omega arith
 
-add-d : tie.Need-add-d Inv-loop μ-loop
-add-d c = omega (arith, c .before .before .before .before .before .before .pre)
+shared-slice-read-kind : tie.Need-shared-slice-read-kind Inv-loop μ-loop
+shared-slice-read-kind c = omega arith
 
 loop-less : tie.Need-loop-less Inv-loop μ-loop
 loop-less c = omega arith
 
 loop-again : tie.Need-loop-again Inv-loop μ-loop
 loop-again c =
-    let b4 = c .before .before .before .before in
-    let b6 = b4 .before .before in
-    let l = b4 .loop in
-    fill-do (b6 .args .points .now) (l .ends) (l .d) (l .inv) (c .end-of .result)
-    (omega (arith, b6 .pre)) (c .end-of .ensures)
+    let h = c .before .before .before in
+    fill-end (points h) (h .loop .ends) (h .loop .end) (h .loop .i - 1) (few h) (opened h (omega arith)) (c .if1 .taken)
 
-add-d-2 : tie.Need-add-d-2 Inv-loop μ-loop
-add-d-2 c = omega (arith, c .before .before .before .before .before .pre)
+mul-end : tie.Need-mul-end Inv-loop μ-loop
+mul-end c = omega (arith, few (c .before .before .before .before .before))
+
+array-read-end : tie.Need-array-read-end Inv-loop μ-loop
+array-read-end c = omega (arith, few (c .before .before .before .before .before))
 
 loop-less-2 : tie.Need-loop-less-2 Inv-loop μ-loop
 loop-less-2 c = omega arith
 
 loop-again-2 : tie.Need-loop-again-2 Inv-loop μ-loop
 loop-again-2 c =
-    let l = c .before .before .before .loop in
-    fill-other (c .before .before .before .before .before .args .points .now) (l .ends) (l .d) (l .inv) (c .if1 .left)
+    let h = c .before .before .before .before .before in
+    fill-do (points h) (h .loop .ends) (h .loop .end) (h .loop .i - 1) (few h) (opened h (omega arith)) (c .before .if2 .taken)
+    (c .if3 .taken)
+
+loop-less-3 : tie.Need-loop-less-3 Inv-loop μ-loop
+loop-less-3 c = omega arith
+
+loop-again-3 : tie.Need-loop-again-3 Inv-loop μ-loop
+loop-again-3 c =
+    let h = c .before .before .before .before .before in
+    fill-do-none (points h) (h .loop .ends) (h .loop .end) (h .loop .i - 1) (few h) (opened h (omega arith))
+    (c .before .if2 .taken) (c .if3 .left)
+
+loop-less-4 : tie.Need-loop-less-4 Inv-loop μ-loop
+loop-less-4 c = omega arith
+
+loop-again-4 : tie.Need-loop-again-4 Inv-loop μ-loop
+loop-again-4 c =
+    let h = c .before .before .before .before in
+    fill-other (points h) (h .loop .ends) (h .loop .end) (h .loop .i - 1) (few h) (opened h (omega arith))
+    (c .before .if1 .left) (c .if2 .left)
 
 returns : tie.Need-returns Inv-loop μ-loop
 returns c =
-    let l = c .before .loop in
-    fill-done (c .before .before .before .args .points .now) (l .ends) (l .d) (l .inv) (c .loop-test .left)
+    let h = c .before in
+    let l = h .loop in
+    let z : l .i ≡ 0 = omega arith in
+    fill-done (points h) (l .ends) (l .end) (rw z at (l .inv))
 
 pub ends-of-spec : {M : Type 1} → statement M
 ends-of-spec =
@@ -66,14 +98,18 @@ ends-of-spec =
     Inv-loop
     μ-loop
     loop-holds
-    shared-slice-read-if1
-    end-of-requires
+    sub-i
     mul-ends
     array-write-ends
-    add-d
+    shared-slice-read-kind
     loop-less
     loop-again
-    add-d-2
+    mul-end
+    array-read-end
     loop-less-2
     loop-again-2
+    loop-less-3
+    loop-again-3
+    loop-less-4
+    loop-again-4
     returns)
