@@ -13,12 +13,12 @@ use borrow.Author.Tests.{lt-ltb, le-ltb, leb-true, leb-false}
 use lib.Seq.{getD-set-same, getD-set-other}
 use Rattle.laws.specs.Choice.{pick}
 use Rattle.laws.specs.Entries.{at}
-use Rattle.laws.proofs.Tests.{eq-or}
+use Rattle.laws.proofs.Tests.{eq-or, le-or}
 use Rattle.planner.specs.Sweep.{st, bare, put, close}
 use Rattle.sweeps.specs.Listed.{row}
 use Rattle.starts.specs.Started.{later}
 use Rattle.starts.proofs.Suffixes.{later-low, later-high}
-use Rattle.rows.specs.Valued.{CloseSays, ClosedSays, FrontsIn, ValuesRoom}
+use Rattle.rows.specs.Valued.{CloseSays, CeilingSays, ClosedSays, FrontsIn, ValuesRoom}
 use Rattle.rows.proofs.Listings.{listing-none, listing-more}
 
 pub record Valuing (limit : List ℕ) (base d e first : ℕ) (cs₀ fs₀ cs fs : List ℕ) (m p : ℕ) : Type 0 where
@@ -30,7 +30,7 @@ pub record Valuing (limit : List ℕ) (base d e first : ℕ) (cs₀ fs₀ cs fs 
   pub f-rest : (x : ℕ) → p < x → at fs x ≡ at fs₀ x
   pub closed : ClosedSays limit base d e first cs₀ fs₀ cs fs p m
   pub fronts : FrontsIn d e fs p
-  pub most : p ≤ d → m ≡ e + 1
+  pub most : p ≤ d → CeilingSays (at cs₀ first) d e first m
 
 -- the least so far, where it starts above every count
 least-pick : (p d c m : ℕ) → (p ≤ d → c ≤ m) → min c m ≡ pick (leb p d || leb c m) c m
@@ -70,8 +70,9 @@ close-count d limit c f c′ f′ says = go (leb f limit) (says (st c f bare) re
     go false z = omega arith
 
 module _ (limit : List ℕ) (base d e first : ℕ) (cs₀ fs₀ : List ℕ) (room : ValuesRoom limit base d e first cs₀ fs₀) where
-  pub valuing-none : Valuing limit base d e first cs₀ fs₀ cs₀ fs₀ (e + 1) d
-  valuing-none =
+  pub valuing-none
+      : (m : ℕ) → CeilingSays (at cs₀ first) d e first m → Valuing limit base d e first cs₀ fs₀ cs₀ fs₀ m d
+  valuing-none m top =
       record {
         low = omega arith;
         high = omega (arith, room .long);
@@ -79,10 +80,14 @@ module _ (limit : List ℕ) (base d e first : ℕ) (cs₀ fs₀ : List ℕ) (roo
         fs-length = refl;
         c-rest = λ x h. refl;
         f-rest = λ x h. refl;
-        closed = λ s c f. listing-none (λ q. close d (row limit base q) (s q)) cs₀ fs₀ d (e + 1);
+        closed = λ s c f. listing-none (λ q. close d (row limit base q) (s q)) cs₀ fs₀ d m;
         fronts = record { low = λ q i j. absurd (omega arith); high = λ q i j. absurd (omega arith) };
-        most = λ h. refl;
+        most = λ h. top;
       }
+
+  pub first-small : d + 1 < first → at cs₀ first < 256
+  first-small h =
+      omega (arith, room .ranged .small first (omega arith) (room .first-high), room .first-high, room .short)
 
   module _ (cs fs : List ℕ) (m p : ℕ) (v : Valuing limit base d e first cs₀ fs₀ cs fs m p) (before : p < e) where
     -- where the value for p + 1 is read
@@ -140,14 +145,14 @@ module _ (limit : List ℕ) (base d e first : ℕ) (cs₀ fs₀ : List ℕ) (roo
             (omega (arith, fi, room .ranged .high read read-low read-high)) says
 
         first-least : p ≤ d → c ≤ m
-        first-least h = omega (
-          arith,
-          v .most h,
-          close-count d (row limit base (p + 1)) c₁ f₁ c f says,
-          ci,
-          room .ranged .small read read-low read-high,
-          read-high,
-        )
+        first-least h =
+            let more = close-count d (row limit base (p + 1)) c₁ f₁ c f says in
+            ⊎-elim
+            (λ (z : first ≤ d + 1).
+            omega (arith, v .most h .late z, more, ci, room .ranged .small read read-low read-high, read-high))
+            (λ (z : d + 1 < first).
+            omega (arith, v .most h .early z, more, ci, ap (at cs₀) (later-second (p + 1) first (omega (arith, v .low)))))
+            (le-or first (d + 1))
 
     -- before the last start with a line in the loop its entry is read, from there on each gap's own
     module _ (early : p + 1 < first) where
@@ -156,14 +161,6 @@ module _ (limit : List ℕ) (base d e first : ℕ) (cs₀ fs₀ : List ℕ) (roo
 
       pub early-f : at fs₀ first ≡ at fs₀ (later (p + 1) first)
       early-f = ap (at fs₀) (later-second (p + 1) first early)
-
-      pub early-small : at cs₀ first < 256
-      early-small = omega (
-        arith,
-        room .ranged .small first (omega (arith, v .low)) (room .first-high),
-        room .first-high,
-        room .short,
-      )
 
     module _ (late : first ≤ p + 1) where
       pub late-c : at cs (p + 1) ≡ at cs₀ (later (p + 1) first)

@@ -29,6 +29,11 @@ pub record Valued (v : State) (c f : ℕ) : Type 0 where
 abbrev pub CloseSays : ℕ → ℕ → ℕ → ℕ → ℕ → ℕ → Type 0
 CloseSays d limit c f c′ f′ = (s : State) → c ≡ s .c → f ≡ s .f → Valued (close d limit s) c′ f′
 
+-- above the barriers of the value for d + 1, which is read at `first` if that lies after it
+pub record CeilingSays (c d e first m : ℕ) : Type 0 where
+  pub early : d + 1 < first → m ≡ c + 1
+  pub late : first ≤ d + 1 → m ≡ e + 1
+
 -- the values of the gaps above d up to p stand in two lists, and m is the least number of barriers among them
 pub record Listing (v : ℕ → State) (cs fs : List ℕ) (d p m : ℕ) : Type 0 where
   pub c-at : (q : ℕ) → d < q → q ≤ p → at cs q ≡ v q .c

@@ -3,7 +3,7 @@ use starts::Front;
 ghost use Prim.Native.Nat.{_+_, _<_};
 ghost use lib.ListN.{length};
 ghost use Rattle.starts.specs.Grounds.{Kept};
-ghost use Rattle.rows.specs.Valued.{CloseSays, ClosedSays, FrontsIn, ValuesRoom};
+ghost use Rattle.rows.specs.Valued.{CloseSays, CeilingSays, ClosedSays, FrontsIn, ValuesRoom};
 ghost use Rattle.rows.specs.Made.{Copied, Cleared, BetterSays, ChooseSays, RowRoom, RowMade};
 
 // The places of a row, one for each point.
@@ -155,15 +155,20 @@ fn values(
 {
     let c = cs[first];
     let f = fs[first];
-    let mut m = e + 1;
+    let mut m = ceiling(c, d, e, first);
     let mut p = d;
     while p + 1 < first {
         let q = p + 1;
-        let v = closed(c, f, limit[base + q], d);
-        cs[q] = v.c;
-        fs[q] = v.f;
-        m = sweeps::smaller(v.c, m);
-        p = q;
+        if f <= limit[base + q] {
+            cs[q] = c;
+            fs[q] = f;
+            m = c;
+            p = q;
+        } else {
+            cs[q] = c + 1;
+            fs[q] = d + 1;
+            p = q;
+        }
     }
     while p < e {
         let q = p + 1;
@@ -174,6 +179,19 @@ fn values(
         p = q;
     }
     m
+}
+
+// What the first value's barriers are at most: one more than those of `first`, if it is read there, or as many as gaps.
+fn ceiling(c: usize, d: usize, e: usize, first: usize) -> usize
+    requires { ⌜ (d + 1 < first → c < 256) ⌝ }
+    requires { ⌜ d < e ⌝ }
+    requires { ⌜ e < 256 ⌝ }
+    ensures { λ r. ⌜ CeilingSays c d e first r ⌝ }
+{
+    if d + 1 < first {
+        return c + 1;
+    }
+    e + 1
 }
 
 // A sweep's barriers and front, with a barrier right after the DO where the front lies beyond the limit.
