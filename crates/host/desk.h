@@ -20,8 +20,8 @@
     11   no key
     12   Put of a gap that is there, Lift of one that is not
     13   no move to take back
-    14   a barred gap in a nest of more than one loop; the textbook method of such a nest; a paper with barred gaps, to be
-         joined
+    14   a barred gap in a nest of more than one loop; the textbook method of such a nest; a paper with barred gaps, to
+         be joined
     15   Plan, or the textbook method, of a nest in which some dependence has all its gaps barred: it has no key
     16   a barred gap in a placement text, or Put of one
     17   not as many turns as loops, turns out of range, or a nest with barred gaps or loops that may not run
@@ -191,9 +191,9 @@ typedef struct DeskJoined {
     size_t value;
 } DeskJoined;
 
-/* `text` is 1 or 2, the text at fault, or 0 for neither; `first`: the first placement is as good or better than the second,
-   `second`: the second than the first; `deciding`: bit d for the loop of DO d, if the counts differ there and are the same
-   in all the loops inside. */
+/* `text` is 1 or 2, the text at fault, or 0 for neither; `first`: the first placement is as good or better than the
+   second, `second`: the second than the first; `deciding`: bit d for the loop of DO d, if the counts differ there and
+   are the same in all the loops inside. */
 typedef struct DeskCompared {
     uint8_t number;
     uint8_t text;
@@ -216,11 +216,11 @@ typedef struct DeskMark {
 Desk desk_new(void);
 Desk desk_reset(Desk desk);
 
-/* Reads a nest text. Accepted, it replaces the nest, and drops the key, the sitting and the moves. Numbers 1 to 8, 14. */
+/* Reads a nest text. Accepted, it replaces the nest, and drops key, sitting and moves. Numbers 1 to 8, 14. */
 DeskReply desk_load(Desk desk, const uint8_t *text, size_t length);
 
-/* Works out the key: of the correct placements as good as or better than every other, the first. No barrier of a correct
-   placement stands at a barred gap. Numbers 10, 15. */
+/* Works out the key: of the correct placements as good as or better than every other, the first. No barrier of a
+   correct placement stands at a barred gap. Numbers 10, 15. */
 DeskReply desk_plan(Desk desk);
 
 /* The barriers of the key at the own gaps of the loop of DO `point`. Numbers 10, 11, 6. */
@@ -246,8 +246,8 @@ DeskMoved desk_take_back(Desk desk);
 /* Writes the candidate's barriers as a placement text, as desk_write writes the key. Numbers 10, 9. */
 DeskAnswer desk_sitting(Desk desk, uint8_t *out, size_t length);
 
-/* The placement of the textbook method for a nest of one loop: each gap is tried as a first barrier, the line behind it is
-   cut greedily, and the smallest result is kept. It has as many barriers as the key. Numbers 10, 14, 15. */
+/* The placement of the textbook method for a nest of one loop: each gap is tried as a first barrier, the line behind it
+   is cut greedily, and the smallest result is kept. It has as many barriers as the key. Numbers 10, 14, 15. */
 DeskChosen desk_textbook(Desk desk);
 
 /* Slips about a placement text: written as desk_write writes the key, the value is the length. The candidate's shows
@@ -259,26 +259,27 @@ DeskAnswer desk_examiner_slip(Desk desk, const uint8_t *text, size_t length, uin
    dependence past them relies. Numbers 10, 11. */
 DeskChosen desk_missing_runs(Desk desk);
 
-/* The barrier calls of the key in a run, given a byte of turns for each loop in order of its DO: 1 to 16 for the outermost,
-   2 to 16 for the others. A barrier counts the product of the turns of the loops around it. Numbers 10, 11, 17. */
+/* The barrier calls of the key in a run, given a byte of turns for each loop in order of its DO: 1 to 16 for the
+   outermost, 2 to 16 for the others. A barrier counts the product of the turns of the loops around it.
+   Numbers 10, 11, 17. */
 DeskCalls desk_count_calls(Desk desk, const uint8_t *turns, size_t length);
 
-/* The barrier calls of the placement that a text spells, correct or not; no key is wanted. A byte of turns for each loop
-   in order of its DO, from 1 to 16. Numbers 10, then 1, 2, 8, 16 with their line, then 17. */
+/* The barrier calls of the placement that a text spells, correct or not; no key is wanted. A byte of turns for each
+   loop in order of its DO, from 1 to 16. Numbers 10, then 1, 2, 8, 16 with their line, then 17. */
 DeskCalls desk_placement_calls(Desk desk, const uint8_t *text, size_t length, const uint8_t *turns, size_t loops);
 
 /* Joins two nest texts and writes a third, as desk_write writes the key: a new outermost loop, in it the first nest and
    then the second. Numbers 1 to 8 and 14 of the first text, then of the second, with their line; then 14, 18, 9. */
 DeskJoined desk_join(const uint8_t *a, size_t first, const uint8_t *b, size_t second, uint8_t *out, size_t room);
 
-/* Tries for fewer calls than the key's where loops run once: turns as for desk_count_calls, but from 1 for every loop, and
-   a budget of tries, none of which is made beyond it. No correct placement has fewer calls than the floor. Numbers 10, 11,
-   17. */
+/* Tries for fewer calls than the key's where loops run once: turns as for desk_count_calls, but from 1 for every loop,
+   and a budget of tries, none of which is made beyond it. No correct placement has fewer calls than the floor.
+   Numbers 10, 11, 17. */
 DeskImproved desk_improve(Desk desk, const uint8_t *turns, size_t length, size_t budget);
 
-/* When the run of a timing sheet ends. `durations` has phases times processors numbers, phase by phase, processors rising
-   in each; `waits` has as many sets for each phase after the first, the lowest bit for processor 0: of those for which a
-   processor waits, itself among them. Numbers 19, 20. */
+/* When the run of a timing sheet ends. `durations` has phases times processors numbers, phase by phase, processors
+   rising in each; `waits` has as many sets for each phase after the first, the lowest bit for processor 0: of those for
+   which a processor waits, itself among them. Numbers 19, 20. */
 DeskRunEnds desk_sheet(size_t processors, size_t phases, const uint16_t *durations, size_t works, const uint16_t *waits,
                        size_t sets);
 
