@@ -144,6 +144,14 @@ gapsOf-add x (suc k) m g =
     front true = refl
     front false = refl
 
+-- where none is left behind k, the list ends there
+pub gapsOf-up-to
+    : (x : ℕ → Bool) (k n : ℕ) → k ≤ n → ((i : ℕ) → k ≤ i → i < n → x i ≡ false) → gapsOf x n 0 ≡ gapsOf x k 0
+gapsOf-up-to x k n h none =
+    let past : gapsOf x (n - k) (0 + k) ≡ [] =
+    gapsOf-none x (n - k) (0 + k) (λ i a l. none i (omega arith) (omega arith)) in
+    ap (λ (j : ℕ). gapsOf x j 0) (omega arith) ∙ gapsOf-add x k (n - k) 0 ∙ rw past (append-nil (gapsOf x k 0))
+
 -- rising, between last and n
 pub gapsOf-rising
     : (x : ℕ → Bool) (n k g last : ℕ)

@@ -20,12 +20,12 @@ use Rattle.nests.specs.Valid.{isShape, areDeps}
 use Rattle.nests.proofs.Deps.{deps-fit}
 use Rattle.nests.proofs.Loops.{end-after, end-there, nested}
 use Rattle.placements.specs.Words.{GAPS, holds, gapsIn}
-use Rattle.placements.proofs.Words.{gapsOf-same}
+use Rattle.placements.proofs.Words.{gapsOf-same, gapsOf-up-to}
 use Rattle.skipping.specs.Foreign.{someIn}
 use Rattle.skipping.specs.Listed.{isListedBy, isListed, listedOf}
 use Rattle.skipping.specs.Says.{AreDos, FlagBits, ListedSays}
 use Rattle.skipping.specs.Covering.{AreLoops, hasBarrier, WithBarrier, Barriered, ListedBySays}
-use Rattle.skipping.proofs.Members.{listed-below, gaps-up-to}
+use Rattle.skipping.proofs.Members.{listed-below}
 
 -- the flagged loops with a barrier inside
 module _
@@ -109,7 +109,7 @@ module _ {ps : List ℕ} {ds : List Dep} {ends key ws : List ℕ} where
   gather-done {i} {r} flagged z g few all fs f =
       let first : i ≡ 0 = omega arith in
       gapsOf-same (holds r) listed GAPS 0 (λ d a l. told first d (omega arith)) ∙
-      gaps-up-to listed (length ps) GAPS few (λ d a l. listed-below ps ds fs (gapsIn key) (f .flags) d a)
+      gapsOf-up-to listed (length ps) GAPS few (λ d a l. listed-below ps ds fs (gapsIn key) (f .flags) d a)
     where
       listed : ℕ → Bool
       listed = isListed ps ds fs (gapsIn key)

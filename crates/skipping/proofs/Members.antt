@@ -1,30 +1,22 @@
 -- The list of the listed loops, and the words' list.
 -- Main statements: `in-listed`, `in-listed-iff`; `in-words`.
-use mathlib.Core.Path.{_≡_, sym, ap, _∙_}
-use mathlib.Core.Bool.{Bool, true, false}
-use mathlib.Core.List.{List, [], append-nil}
+use mathlib.Core.Path.{_≡_, sym, _∙_}
+use mathlib.Core.Bool.{true, false}
+use mathlib.Core.List.{List}
 use mathlib.Core.Logic.{_↔_, ⊎-elim}
-use Prim.Native.Nat.{ℕ, _+_, _-_, _≤_, _<_}
+use Prim.Native.Nat.{ℕ, _≤_, _<_}
 use native.Mathlib.Omega.{arith}
 use lib.ListN.{length}
 use Rattle.laws.specs.Choice.{isIn}
 use Rattle.laws.proofs.Tests.{le-or, false-by, never-both}
 use Rattle.nests.specs.Nests.{Dep}
 use Rattle.nests.proofs.Levels.{point-in}
-use Rattle.placements.specs.Words.{GAPS, holds, gapsOf, gapsIn}
-use Rattle.placements.proofs.Words.{gapsOf-in, gapsOf-to, gapsOf-add, gapsOf-none, in-gaps, in-gaps-beyond}
+use Rattle.placements.specs.Words.{GAPS, holds, gapsIn}
+use Rattle.placements.proofs.Words.{gapsOf-in, gapsOf-to, in-gaps, in-gaps-beyond}
 use Rattle.skipping.specs.Foreign.{AreFlags}
 use Rattle.skipping.specs.Listed.{isListed, listedOf, NeedsBarrier}
 use Rattle.skipping.proofs.Foreign.{foreign-flagged}
 use Rattle.skipping.proofs.Listed.{listed-iff}
-
--- where none is left behind k, the list ends there
-pub gaps-up-to :
-    (x : ℕ → Bool) (k n : ℕ) → k ≤ n → ((d : ℕ) → k ≤ d → d < n → x d ≡ false) → gapsOf x n 0 ≡ gapsOf x k 0
-gaps-up-to x k n h none =
-    let past : gapsOf x (n - k) (0 + k) ≡ [] =
-    gapsOf-none x (n - k) (0 + k) (λ d a l. none d (omega arith) (omega arith)) in
-    ap (λ (j : ℕ). gapsOf x j 0) (omega arith) ∙ gapsOf-add x k (n - k) 0 ∙ rw past (append-nil (gapsOf x k 0))
 
 module _ (ps : List ℕ) (ds : List Dep) (fs gs : List ℕ) (flags : AreFlags ps fs) where
   -- a listed loop is one of the points

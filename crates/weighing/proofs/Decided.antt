@@ -2,9 +2,9 @@
 -- Main statements: `Decided`, what a turn keeps; `decide-start`, `decide-put`, `decide-by`, `decide-done`.
 use mathlib.Core.Path.{_≡_, sym, ap, _∙_}
 use mathlib.Core.Bool.{true, false, _||_}
-use mathlib.Core.List.{List, [], append-nil}
+use mathlib.Core.List.{List}
 use mathlib.Core.Logic.{⊎-elim}
-use Prim.Native.Nat.{ℕ, _+_, _-_, _≤_, _<_}
+use Prim.Native.Nat.{ℕ, _+_, _≤_, _<_}
 use native.Mathlib.Omega.{arith}
 use lib.Dec.{eqb}
 use lib.ListN.{length}
@@ -12,7 +12,7 @@ use borrow.Author.Tests.{eq-eqb, ne-eqb}
 use Rattle.laws.proofs.Tests.{le-or}
 use Rattle.nests.specs.Nests.{Nest}
 use Rattle.placements.specs.Words.{GAPS, holds, gapsOf, gapsIn}
-use Rattle.placements.proofs.Words.{gapsOf-same, gapsOf-add, gapsOf-none}
+use Rattle.placements.proofs.Words.{gapsOf-same, gapsOf-up-to}
 use Rattle.weighing.specs.Weighed.{decidesAt, decidingOf}
 
 -- the words have the loops that decide with a DO below d, and no other bit
@@ -72,10 +72,6 @@ module _ (ps a b : List ℕ) where
         : length ps ≤ d → length ps ≤ GAPS → (n : Nest) → n .points ≡ ps → gapsIn ws ≡ decidingOf n a b
     unfolding gapsIn
     decide-done end few n same =
-        let past : gapsOf (holds ws) (GAPS - length ps) (0 + length ps) ≡ [] =
-        gapsOf-none (holds ws) (GAPS - length ps) (0 + length ps) (λ i k l. p .none i (omega (arith, p .low))) in
-        ap (λ (j : ℕ). gapsOf (holds ws) j 0) (omega arith) ∙
-        gapsOf-add (holds ws) (length ps) (GAPS - length ps) 0 ∙
-        rw past (append-nil (gapsOf (holds ws) (length ps) 0)) ∙
+        gapsOf-up-to (holds ws) (length ps) GAPS few (λ i k l. p .none i (omega (arith, p .low))) ∙
         gapsOf-same (holds ws) (decidesAt n a b) (length ps) 0 (λ i k l. p .put n same i (omega arith)) ∙
         sym (ap (λ (qs : List ℕ). gapsOf (decidesAt n a b) (length qs) 0) same)
