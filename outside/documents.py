@@ -11,6 +11,7 @@ What is checked:
   - the theorems stand in the files that are named beside them; every crate, call and request is in its table;
   - the files that a reader must believe are all there, in order, with their lengths;
   - papers are shown one frame a line and the program reads them; examples print what is shown;
+  - the kit that is here is one that README names;
   - a fault put into a copy of the documents is noticed.
 
 Needs target/bin/key, which `rt ci` builds.
@@ -238,6 +239,13 @@ def examples(docs: Documents) -> Iterator[Check]:
                 yield Check(where, f'{kind} is as shown', file.exists() and block in file.read_text())
 
 
+def kits(docs: Documents) -> Iterator[Check]:
+    """The kit that is here is one of those that README names."""
+    here = run(['rt', 'version']).strip()
+    named = [line for kind, block in blocks(docs['README.md']) if kind == 'kits' for line in block.splitlines()]
+    yield Check('README.md', f'the kit is {here!r}, one of {named}', here in named)
+
+
 def run(command: list[str], text: str = '') -> str:
     """What a command writes to standard output, or why there is nothing."""
     try:
@@ -315,7 +323,7 @@ def main() -> int:
         print(__doc__, file=sys.stderr)
         return 2
     docs = documents()
-    checks = [check for reading in [*READING, papers, examples, noticed] for check in reading(docs)]
+    checks = [check for reading in [*READING, papers, examples, kits, noticed] for check in reading(docs)]
     failed = [check for check in checks if not check.holds]
     for check in failed:
         print(f'{check.where}: does not hold: {check.what}')

@@ -1,14 +1,15 @@
 #!/usr/bin/env python3
-"""Plan on random trees of loops: trees.py PROGRAM prints, for 128 and 256 points, the mean of 20 papers.
+"""Plan on random trees of loops: trees.py PROGRAM prints, for 64, 128 and 256 points, the mean of 100 papers.
 
 Instructions as `outside/measure` counts them: what the accepted text costs beyond one that is refused on a line after
-its last. Beside them the gaps of all loops, each gap once for every loop around it: what the planner's passes go over.
+its last. Beside them the gaps of all loops, each gap once for every loop around it: what the planner's passes go over;
+and the most that the whole program takes on one of the papers.
 """
 import re
 import subprocess
 import sys
 
-SEEDS = 20
+SEEDS = 100
 
 
 def instructions(program: str, text: str) -> int:
@@ -32,15 +33,17 @@ def gaps(text: str) -> int:
 
 
 def main() -> None:
-    print('trees points plan gaps')
-    for points in (128, 256):
-        plan = around = 0
+    print('trees points plan gaps most')
+    for points in (64, 128, 256):
+        plan = around = most = 0
         for seed in range(SEEDS):
             text = subprocess.run(['python3', 'outside/papers.py', 'mixed', str(points), str(seed)],
                                   capture_output=True, text=True, check=True).stdout
-            plan += instructions(sys.argv[1], text) - instructions(sys.argv[1], text + 'zz\n')
+            whole = instructions(sys.argv[1], text)
+            plan += whole - instructions(sys.argv[1], text + 'zz\n')
             around += gaps(text)
-        print(SEEDS, points, plan // SEEDS, around // SEEDS)
+            most = max(most, whole)
+        print(SEEDS, points, plan // SEEDS, around // SEEDS, most)
 
 
 main()

@@ -1,5 +1,5 @@
-/* A sitting for measuring: loads the paper on standard input, then puts and lifts a gap 20 times, and takes the 40 moves
-   back. outside/measure counts the instructions inside the calls. */
+/* Calls for measuring: loads the paper on standard input, plans it, writes the key and marks what was written; then puts
+   and lifts a gap 20 times, and takes the 40 moves back. outside/measure counts the instructions inside the calls. */
 #include "desk.h"
 #include <stdio.h>
 #include <stdlib.h>
@@ -7,12 +7,15 @@
 enum { TURNS = 20 };
 
 int main(int argc, char **argv) {
-    static uint8_t text[8192];
+    static uint8_t text[8192], out[DESK_TEXT];
     size_t length = fread(text, 1, sizeof text, stdin);
     DeskReply loaded = desk_load(desk_new(), text, length);
-    Desk desk = loaded.desk;
+    DeskReply planned = desk_plan(loaded.desk);
+    DeskAnswer written = desk_write(planned.desk, out, sizeof out);
+    DeskMark marked = desk_mark(planned.desk, out, written.value);
+    Desk desk = planned.desk;
     size_t gap = argc == 2 ? strtoul(argv[1], NULL, 16) : 0;
-    int refused = loaded.number;
+    int refused = loaded.number | planned.number | written.number | marked.number;
     for (int i = 0; i < TURNS; i++) {
         DeskMoved put = desk_put(desk, gap);
         DeskMoved lifted = desk_lift(put.desk, gap);
@@ -25,7 +28,7 @@ int main(int argc, char **argv) {
         desk = back.desk;
     }
     if (refused) {
-        fprintf(stderr, "moves: a call was refused\n");
+        fprintf(stderr, "calls: a call was refused\n");
     }
     return refused != 0;
 }
