@@ -1,12 +1,15 @@
 """A hall: a desk for each candidate, every move made by the library and kept in the log, answers handed in as files.
 
-No desk here is ever planned: there is no key in the process that candidates talk to.
+What candidates ask for in one moment is made at once and kept together. What is not kept is not made: as desks are
+values, that of before is put back. No desk here is ever planned: there is no key in the process that candidates talk
+to.
 """
+import contextlib
+import ctypes
 import hashlib
 import os
 import re
-import threading
-from dataclasses import dataclass, field
+from dataclasses import dataclass
 
 from office.candidates import tickets_for
 from office.command import Fault, printable, tell, write_over
@@ -50,6 +53,9 @@ def made(desk: Desk, move: str) -> str:
     return 'The latest move is taken back.'
 
 
+State = tuple[ctypes.Structure, int, bool]
+
+
 @dataclass
 class Sitting:
     """A candidate's desk, how many moves were made on it, and whether it is handed in."""
@@ -57,7 +63,13 @@ class Sitting:
     desk: Desk
     moves: int = 0
     handed_in: bool = False
-    lock: threading.Lock = field(default_factory=threading.Lock)
+
+    @property
+    def state(self) -> State:
+        return self.desk.held, self.moves, self.handed_in
+
+    def go_back(self, to: State) -> None:
+        self.desk.held, self.moves, self.handed_in = to
 
     def told(self, said: str) -> dict[str, object]:
         """The whole sitting, as the desk has it, and words for what was asked. The cuts are two digits a dependence."""
@@ -77,6 +89,7 @@ class Hall:
         except OSError as fault:
             raise Fault(f'cannot write in {printable(answers)}: {fault.strerror}') from fault
         self.answers = answers
+        self.unkept: list[tuple[Sitting, State]] = []
         self.sittings = {name: Sitting(name, self.desk_with(text)) for name in names}
         self.log = Logbook(os.path.join(answers, LOG), hashlib.sha256(text).hexdigest())
         for number, candidate, move in self.log.moves():
@@ -127,38 +140,50 @@ class Hall:
     def file_of(self, sitting: Sitting) -> str:
         return os.path.join(self.answers, f'{sitting.candidate}.hex')
 
-    def keep(self, sitting: Sitting, move: str) -> None:
-        try:
-            self.log.add(sitting.candidate, move)
-        except OSError as fault:
-            tell('desk', f'cannot keep {printable(self.log.file)}: {fault.strerror}')
-            raise Declined(NOT_KEPT) from fault
-
     def move(self, sitting: Sitting, move: str) -> str:
-        """Makes a move, keeps it, and says what was done. What is not kept is not made."""
+        """Makes a move, to be kept, and says what was done."""
+        before = sitting.state
         if sitting.handed_in:
             raise Declined(OVER)
-        before = sitting.desk.held
         try:
             said = made(sitting.desk, move)
-            self.keep(sitting, move)
         except Refused as refused:
             raise Declined(f'Refused, {refused.refusal.rule}.') from refused
-        except Declined:
-            sitting.desk.held = before
-            raise
         sitting.moves += 1
+        self.take_down(sitting, before, move)
         return said
 
-    def hand_in(self, sitting: Sitting, moves: int) -> str:
-        """Hands in the sitting that the candidate saw, after so many moves. Kept in the log, it is handed in, and the
-        file is written from it, at the next start at the latest."""
+    def hand_in(self, sitting: Sitting, moves: int) -> None:
+        """Hands in the sitting that the candidate saw, after so many moves. When it is kept, its file is to be
+        written, at the next start at the latest."""
+        before = sitting.state
         if sitting.handed_in:
             raise Declined(OVER)
         if moves != sitting.moves:
             raise Declined(MOVED_ON)
-        self.keep(sitting, HAND_IN)
         sitting.handed_in = True
+        self.take_down(sitting, before, HAND_IN)
+
+    def take_down(self, sitting: Sitting, before: State, move: str) -> None:
+        self.unkept.append((sitting, before))
+        self.log.add(sitting.candidate, move)
+
+    def keep(self) -> bool:
+        """Keeps all that was taken down. If that cannot be done, nothing of it was made, and the person in charge hears
+        of it."""
+        unkept, self.unkept = self.unkept, []
+        try:
+            self.log.keep()
+        except OSError as fault:
+            for sitting, before in reversed(unkept):
+                sitting.go_back(before)
+            with contextlib.suppress(OSError):
+                tell('desk', f'cannot keep {printable(self.log.file)}: {fault.strerror}')
+            return False
+        return True
+
+    def write_file(self, sitting: Sitting) -> str:
+        """Writes the file of what was handed in and kept, and says what was done."""
         try:
             write_over(self.file_of(sitting), sitting.desk.sitting(), lasting=True)
         except Fault as fault:

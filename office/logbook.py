@@ -3,27 +3,16 @@
   paper SHA-256
   TIME <tab> CANDIDATE <tab> MOVE
 
-Lines that come in while others are being written wait and go together, so that a hundred candidates do not wait for a
-hundred disks.
+Lines that come in together are written together, so that a hundred candidates do not wait for a hundred disks.
 """
 import contextlib
 import datetime
 import fcntl
 import os
-import threading
 
 from office.command import Fault, printable
 
 FIRST, FIELDS = 'paper ', 3
-
-
-class Batch:
-    """Lines that go to the disk together, and what became of them."""
-
-    def __init__(self) -> None:
-        self.lines: list[bytes] = []
-        self.fault: OSError | None = None
-        self.done = threading.Event()
 
 
 class Logbook:
@@ -31,8 +20,7 @@ class Logbook:
 
     def __init__(self, file: str, paper: str):
         self.file, self.paper = file, paper
-        self.filling, self.writing = threading.Lock(), threading.Lock()
-        self.batch = Batch()
+        self.lines: list[str] = []
         try:
             self.opened = os.open(file, os.O_RDWR | os.O_CREAT, 0o600)
             fcntl.flock(self.opened, fcntl.LOCK_EX | fcntl.LOCK_NB)
@@ -67,29 +55,14 @@ class Logbook:
         return Fault(f'{printable(self.file)} is damaged: line {number} is no move that can be made')
 
     def add(self, candidate: str, move: str) -> None:
-        """Keeps a move: when this is done it is on the disk. An OSError says that it is not kept."""
+        """Takes a move down. It is not kept yet."""
         now = datetime.datetime.now(datetime.timezone.utc).isoformat(timespec='milliseconds')
-        with self.filling:
-            batch = self.batch
-            first = not batch.lines
-            batch.lines.append(f'{now}\t{candidate}\t{move}\n'.encode())
-        if first:
-            with self.writing:
-                self.settle(batch)
-        batch.done.wait()
-        if batch.fault is not None:
-            raise batch.fault
+        self.lines.append(f'{now}\t{candidate}\t{move}\n')
 
-    def settle(self, batch: Batch) -> None:
-        """Writes the lines of a batch, whoever they are from. Who comes now fills the next one."""
-        with self.filling:
-            self.batch = Batch()
-        try:
-            self.write(b''.join(batch.lines))
-        except OSError as fault:
-            batch.fault = fault
-        finally:
-            batch.done.set()
+    def keep(self) -> None:
+        """Keeps all that was taken down: when this is done it is on the disk. An OSError says that nothing of it is."""
+        lines, self.lines = self.lines, []
+        self.write(''.join(lines).encode())
 
     def write(self, data: bytes) -> None:
         """Writes behind what is kept. A write that fails leaves nothing there."""

@@ -2,15 +2,16 @@
 
 No file is served: the pieces of the page are read once. A body has a few bytes, and only whitelisted words are moves.
 """
+import asyncio
+import concurrent.futures
+import functools
 import hashlib
 import html
-import http.client
-import http.server
 import json
 import re
+import signal
+import socket
 import string
-import sys
-import traceback
 from collections.abc import Callable
 from dataclasses import dataclass
 from http import HTTPStatus
@@ -18,33 +19,18 @@ from http import HTTPStatus
 from office.board import Board
 from office.candidates import TICKET
 from office.command import ROOT
-from office.hall import HAND_IN, MOVE, Declined, Hall, Sitting
+from office.connection import Connection, Connections
+from office.hall import HAND_IN, MOVE, NOT_KEPT, Declined, Hall, Sitting
+from office.messages import Reply, Request, Unfit
 from office.paper import Paper
 from office.show import listing_of
 
 SERVED = ROOT / 'office' / 'served'
-COOKIE, LONGEST, IDLE, WAITING = 'ticket', 64, 60, 512
+COOKIE, HTTP_PORT, WAITING = 'ticket', 80, 512
 HANDS_IN = re.compile(f'{HAND_IN} ([0-9]{{1,9}})')
 HTML, CSS, SCRIPT, DATA = ('text/html; charset=utf-8', 'text/css; charset=utf-8', 'text/javascript; charset=utf-8',
                            'application/json')
-HEADERS = '''Server: desk
-Content-Security-Policy: default-src 'none'; script-src 'self'; style-src 'self'; connect-src 'self'; \
-form-action 'self'; base-uri 'none'; frame-ancestors 'none'
-X-Content-Type-Options: nosniff
-Referrer-Policy: same-origin
-Cache-Control: no-store
-Cross-Origin-Resource-Policy: same-origin
-'''
 NO_TICKET = 'This ticket is not known here. Look whether it is typed as it was handed out.'
-
-
-@dataclass(frozen=True)
-class Reply:
-    """What goes back: a status, the kind of the body, the body, and further headers, a line each."""
-    status: HTTPStatus
-    kind: str
-    body: bytes
-    more: str = ''
 
 
 def template(name: str) -> string.Template:
@@ -63,23 +49,166 @@ class Pages:
         self.script = (SERVED / 'sitting.js').read_bytes()
 
 
-class Server(http.server.ThreadingHTTPServer):
-    """Listens for candidates. The names are those by which they may call it."""
-    request_queue_size = WAITING
-    daemon_threads = True
+@dataclass(frozen=True)
+class Made:
+    """Something that was made and is to be kept before it is told, to whom, and in which words. Of what was handed in
+    the file has to be there first."""
+    connection: Connection
+    sitting: Sitting
+    said: str | None
+
+
+class Server:
+    """Listens for candidates. The names are those by which they may call it.
+
+    One thread answers, and one writes files. Whoever asks about a sitting of which something is not kept yet, or has no
+    file yet, waits for that.
+    """
 
     def __init__(self, address: tuple[str, int], names: list[str], hall: Hall, pages: Pages):
-        super().__init__(address, Handler)
+        self.listening = socket.socket()
+        self.listening.setsockopt(socket.SOL_SOCKET, socket.SO_REUSEADDR, 1)
+        self.listening.bind(address)
+        self.listening.listen(WAITING)
+        self.port = self.listening.getsockname()[1]
         self.hall, self.pages = hall, pages
-        self.hosts = {f'{name}:{self.server_port}' for name in names}
-        if self.server_port == http.client.HTTP_PORT:
+        self.hosts = {f'{name}:{self.port}' for name in names}
+        if self.port == HTTP_PORT:
             self.hosts |= {*names}
         self.tickets = {digest(ticket): sitting for ticket, sitting in hall.tickets.items()}
+        self.made: list[Made] = []
+        self.seen = 0
+        self.waiting: dict[str, list[Connection]] = {}
+        self.loop = asyncio.new_event_loop()
+        self.loop.set_default_executor(concurrent.futures.ThreadPoolExecutor(1))
 
-    def handle_error(self, *_: object) -> None:
-        """A candidate who goes away is no fault; anything else is one of ours."""
-        if not isinstance(sys.exc_info()[1], OSError):
-            traceback.print_exc()
+    def serve(self) -> None:
+        """Serves until Ctrl-C. What was asked for before is still kept and told, and files are written."""
+        connections = Connections(self.loop, self.answer)
+        self.loop.run_until_complete(self.loop.create_server(
+            lambda: Connection(connections), sock=self.listening, backlog=WAITING))
+        self.loop.add_signal_handler(signal.SIGINT, self.loop.stop)  # also where a script in the background started it
+        self.loop.run_forever()
+        connections.closed = True
+        if self.made:
+            self.settle()
+        self.loop.run_until_complete(self.loop.shutdown_default_executor())
+
+    def answer(self, connection: Connection) -> Reply | None:
+        """Answers a request that comes by the right name, on a route. None says that the reply comes later."""
+        request = connection.request
+        host, origin = request.headers.get('host', []), request.headers.get('origin', [])
+        if len(host) != 1 or host[0] not in self.hosts or origin not in ([], [f'http://{host[0]}']):
+            raise Unfit(HTTPStatus.MISDIRECTED_REQUEST)
+        route = ROUTES.get((request.method, request.path))
+        if route is None:
+            raise Unfit(HTTPStatus.NOT_FOUND)
+        return route(self, connection)
+
+    # ---- What is made, and kept before it is told
+
+    def keep_soon(self, made: Made) -> None:
+        """Has something kept, together with all that comes in meanwhile."""
+        if not self.made:
+            self.loop.call_soon(self.keep)
+        self.made.append(made)
+        self.waiting[made.sitting.candidate] = []
+
+    def keep(self) -> None:
+        """Keeps what was made, as soon as a turn of the loop has brought no more of it. That comes soon, as nobody asks
+        again before the reply."""
+        if self.seen < len(self.made):
+            self.seen = len(self.made)
+            self.loop.call_soon(self.keep)
+        elif self.made:
+            self.settle()
+
+    def settle(self) -> None:
+        """Keeps what was made, and tells of it. What was handed in is written by another thread meanwhile."""
+        made, self.made, self.seen = self.made, [], 0
+        kept = self.hall.keep()
+        for one in made:
+            if kept and one.said is None:
+                writing = self.loop.run_in_executor(None, self.hall.write_file, one.sitting)
+                writing.add_done_callback(functools.partial(self.written, one))
+            elif kept:
+                self.tell(one, lambda: about(one.sitting, HTTPStatus.OK, one.said))
+            else:
+                self.tell(one, lambda: about(one.sitting, HTTPStatus.CONFLICT, NOT_KEPT))
+
+    def written(self, made: Made, writing: asyncio.Future[str]) -> None:
+        self.tell(made, lambda: about(made.sitting, HTTPStatus.OK, writing.result()))
+
+    def tell(self, made: Made, reply: Callable[[], Reply]) -> None:
+        """Tells of something; then those are answered who wait for it."""
+        made.connection.tell(reply)
+        for other in self.waiting.pop(made.sitting.candidate):
+            other.tell(lambda: self.answer(other))
+
+    # ---- The routes
+
+    def page(self, connection: Connection) -> Reply:
+        sitting = self.sitting_of(connection.request)
+        if sitting is None:
+            return self.asks_ticket()
+        body = self.pages.sitting.substitute(candidate=html.escape(sitting.candidate)).encode()
+        return Reply(HTTPStatus.OK, HTML, body)
+
+    def style(self, _: Connection) -> Reply:
+        return Reply(HTTPStatus.OK, CSS, self.pages.style)
+
+    def script(self, _: Connection) -> Reply:
+        return Reply(HTTPStatus.OK, SCRIPT, self.pages.script)
+
+    def enter(self, connection: Connection) -> Reply:
+        field, _, ticket = connection.request.body.lower().replace('+', '').partition('=')
+        if field != COOKIE or not TICKET.fullmatch(ticket) or digest(ticket) not in self.tickets:
+            return self.asks_ticket(NO_TICKET)
+        return with_cookie(ticket)
+
+    def leave(self, _: Connection) -> Reply:
+        return with_cookie('')
+
+    def now(self, connection: Connection) -> Reply | None:
+        return self.asked(connection, True, lambda sitting: about(sitting, HTTPStatus.OK, ''))
+
+    def move(self, connection: Connection) -> Reply | None:
+        move = connection.request.body
+        return self.asked(connection, MOVE.fullmatch(move), lambda sitting: self.keep_soon(
+            Made(connection, sitting, self.hall.move(sitting, move))))
+
+    def hand_in(self, connection: Connection) -> Reply | None:
+        asked = HANDS_IN.fullmatch(connection.request.body)
+        return self.asked(connection, asked, lambda sitting: self.keep_soon(
+            Made(connection, sitting, self.hall.hand_in(sitting, int(asked[1])))))
+
+    def asked(self, connection: Connection, sense: object, act: Callable[[Sitting], Reply | None]) -> Reply | None:
+        """Does something to the sitting of the candidate who asks, if it has sense, as soon as all of it is kept."""
+        sitting = self.sitting_of(connection.request)
+        if sitting is None or not sense:
+            return Reply(HTTPStatus.FORBIDDEN if sitting is None else HTTPStatus.BAD_REQUEST, DATA, b'{}')
+        if sitting.candidate in self.waiting:
+            self.waiting[sitting.candidate].append(connection)
+            return None
+        try:
+            return act(sitting)
+        except Declined as declined:
+            return about(sitting, HTTPStatus.CONFLICT, str(declined))
+
+    def sitting_of(self, request: Request) -> Sitting | None:
+        """The sitting of the candidate who asks."""
+        cookies = [part.strip().partition('=') for part in ';'.join(request.headers.get('cookie', [])).split(';')]
+        tickets = [value for name, _, value in cookies if name == COOKIE]
+        return self.tickets.get(digest(tickets[0])) if len(tickets) == 1 else None
+
+    def asks_ticket(self, said: str = '') -> Reply:
+        body = self.pages.ticket.substitute(said=html.escape(said)).encode()
+        return Reply(HTTPStatus.FORBIDDEN, HTML, body)
+
+
+ROUTES = {('GET', '/'): Server.page, ('GET', '/hall.css'): Server.style, ('GET', '/sitting.js'): Server.script,
+          ('GET', '/sitting'): Server.now, ('POST', '/enter'): Server.enter, ('POST', '/leave'): Server.leave,
+          ('POST', '/move'): Server.move, ('POST', '/hand-in'): Server.hand_in}
 
 
 def digest(ticket: str) -> bytes:
@@ -87,127 +216,13 @@ def digest(ticket: str) -> bytes:
     return hashlib.sha256(ticket.encode()).digest()
 
 
-class Handler(http.server.BaseHTTPRequestHandler):
-    """One connection."""
-    protocol_version, timeout, wbufsize, disable_nagle_algorithm = 'HTTP/1.1', IDLE, 1 << 16, True
-    server: Server
-
-    def do_GET(self) -> None:
-        self.answer(GET)
-
-    def do_POST(self) -> None:
-        self.answer(POST)
-
-    def answer(self, routes: dict[str, Callable[['Handler', str], Reply]]) -> None:
-        """Answers a request that comes by the right name, on a route, with a short body."""
-        body = self.body()
-        if body is None:
-            return
-        host, origin = self.headers.get_all('Host', []), self.headers.get('Origin')
-        if len(host) != 1 or host[0] not in self.server.hosts or origin not in (None, f'http://{host[0]}'):
-            self.send_error(HTTPStatus.MISDIRECTED_REQUEST)
-        elif self.path not in routes:
-            self.send_error(HTTPStatus.NOT_FOUND)
-        else:
-            self.send(routes[self.path](self, body))
-
-    def body(self) -> str | None:
-        """The body of a request, which is short and whole."""
-        lengths = self.headers.get_all('Content-Length', ['0'] if self.command == 'GET' else [])
-        if self.request_version == 'HTTP/0.9' or 'Transfer-Encoding' in self.headers or len(lengths) != 1:
-            self.send_error(HTTPStatus.LENGTH_REQUIRED)
-        elif not re.fullmatch('[0-9]{1,9}', lengths[0]) or int(lengths[0]) > LONGEST:
-            self.send_error(HTTPStatus.REQUEST_ENTITY_TOO_LARGE)
-        else:
-            body = self.rfile.read(int(lengths[0]))
-            if body.isascii() and len(body) == int(lengths[0]):
-                return body.decode()
-            self.send_error(HTTPStatus.BAD_REQUEST)
-        return None
-
-    def send(self, reply: Reply) -> None:
-        head = (f'{self.protocol_version} {reply.status.value} {reply.status.phrase}\nDate: {self.date_time_string()}\n'
-                f'{HEADERS}{reply.more}Content-Type: {reply.kind}\nContent-Length: {len(reply.body)}\n\n')
-        self.wfile.write(head.replace('\n', '\r\n').encode() + reply.body)
-
-    def send_error(self, code: int, message: str | None = None, explain: str | None = None) -> None:
-        """A refusal. It says nothing of what was asked, and ends the connection."""
-        self.close_connection = True
-        status = HTTPStatus(code)
-        body = f'{status.value} {status.phrase}\n'.encode()
-        self.send(Reply(status, 'text/plain; charset=utf-8', body, 'Connection: close\n'))
-
-    def log_message(self, *_: object) -> None:
-        """What candidates do is in the log of moves."""
-
-    def sitting(self) -> Sitting | None:
-        """The sitting of the candidate who asks."""
-        cookies = [part.strip().partition('=') for part in self.headers.get('Cookie', '').split(';')]
-        tickets = [value for name, _, value in cookies if name == COOKIE]
-        return self.server.tickets.get(digest(tickets[0])) if len(tickets) == 1 else None
-
-    def with_cookie(self, value: str) -> Reply:
-        """Sends the browser to the page with a ticket, or with none."""
-        ends = '' if value else '; Max-Age=0'
-        cookie = f'{COOKIE}={value}; HttpOnly; SameSite=Strict; Path=/{ends}'
-        return Reply(HTTPStatus.SEE_OTHER, HTML, b'', f'Location: /\nSet-Cookie: {cookie}\n')
-
-    def asks_ticket(self, said: str = '') -> Reply:
-        body = self.server.pages.ticket.substitute(said=html.escape(said)).encode()
-        return Reply(HTTPStatus.FORBIDDEN, HTML, body)
-
-    # ---- The routes
-
-    def page(self, _: str) -> Reply:
-        sitting = self.sitting()
-        if sitting is None:
-            return self.asks_ticket()
-        body = self.server.pages.sitting.substitute(candidate=html.escape(sitting.candidate)).encode()
-        return Reply(HTTPStatus.OK, HTML, body)
-
-    def style(self, _: str) -> Reply:
-        return Reply(HTTPStatus.OK, CSS, self.server.pages.style)
-
-    def script(self, _: str) -> Reply:
-        return Reply(HTTPStatus.OK, SCRIPT, self.server.pages.script)
-
-    def enter(self, body: str) -> Reply:
-        field, _, ticket = body.lower().replace('+', '').partition('=')
-        if field != COOKIE or not TICKET.fullmatch(ticket) or digest(ticket) not in self.server.tickets:
-            return self.asks_ticket(NO_TICKET)
-        return self.with_cookie(ticket)
-
-    def leave(self, _: str) -> Reply:
-        return self.with_cookie('')
-
-    def now(self, _: str) -> Reply:
-        return self.about(lambda sitting: '')
-
-    def move(self, body: str) -> Reply:
-        if not MOVE.fullmatch(body):
-            return self.about(None)
-        return self.about(lambda sitting: self.server.hall.move(sitting, body))
-
-    def hand_in(self, body: str) -> Reply:
-        asked = HANDS_IN.fullmatch(body)
-        if not asked:
-            return self.about(None)
-        return self.about(lambda sitting: self.server.hall.hand_in(sitting, int(asked[1])))
-
-    def about(self, act: Callable[[Sitting], str] | None) -> Reply:
-        """Does something to the sitting of the candidate who asks, and tells the whole of it."""
-        sitting = self.sitting()
-        if sitting is None or act is None:
-            status = HTTPStatus.FORBIDDEN if sitting is None else HTTPStatus.BAD_REQUEST
-            return Reply(status, DATA, b'{}')
-        with sitting.lock:
-            try:
-                status, said = HTTPStatus.OK, act(sitting)
-            except Declined as declined:
-                status, said = HTTPStatus.CONFLICT, str(declined)
-            told = sitting.told(said)
-        return Reply(status, DATA, json.dumps(told, separators=(',', ':')).encode())
+def with_cookie(value: str) -> Reply:
+    """Sends the browser to the page with a ticket, or with none."""
+    ends = '' if value else '; Max-Age=0'
+    cookie = f'{COOKIE}={value}; HttpOnly; SameSite=Strict; Path=/{ends}'
+    return Reply(HTTPStatus.SEE_OTHER, HTML, b'', f'Location: /\nSet-Cookie: {cookie}\n')
 
 
-GET = {'/': Handler.page, '/hall.css': Handler.style, '/sitting.js': Handler.script, '/sitting': Handler.now}
-POST = {'/enter': Handler.enter, '/leave': Handler.leave, '/move': Handler.move, '/hand-in': Handler.hand_in}
+def about(sitting: Sitting, status: HTTPStatus, said: str) -> Reply:
+    """The whole of a sitting, and what is said."""
+    return Reply(status, DATA, json.dumps(sitting.told(said), separators=(',', ':')).encode())

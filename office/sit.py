@@ -10,7 +10,6 @@ from office.candidates import names_in
 from office.command import Fault, printable, write_out
 from office.hall import TICKETS, Hall
 from office.paper import paper_on, placed
-from office.serving import Pages, Server
 from office.words import counted
 
 HELP = 'serves a sitting on a page, where candidates put and lift barriers and hand in'
@@ -36,6 +35,7 @@ def arguments(parser: argparse.ArgumentParser) -> None:
 
 
 def main(asked: argparse.Namespace) -> None:
+    from office.serving import Pages, Server  # takes long to load, and no other command needs it
     if asked.bind == EVERYWHERE and not asked.name:
         raise Fault(f'with --bind {EVERYWHERE} say by --name how candidates call this machine')
     os.umask(0o077)  # what is kept is nobody else's to read
@@ -49,12 +49,8 @@ def main(asked: argparse.Namespace) -> None:
     except (OSError, OverflowError) as fault:
         raise Fault(f'cannot listen at {asked.bind}, port {asked.port}: {fault}') from fault
     done = counted(sum(sitting.handed_in for sitting in hall.sittings.values()), 'answer')
-    write_out(f'http://{names[0]}:{server.server_port}/ is open for {counted(len(hall.sittings), "candidate")}, '
+    write_out(f'http://{names[0]}:{server.port}/ is open for {counted(len(hall.sittings), "candidate")}, '
               f'{done} handed in\n'
               f'tickets: {printable(os.path.join(asked.answers, TICKETS))}; Ctrl-C ends the sitting\n'.encode())
     signal.signal(signal.SIGPIPE, signal.SIG_IGN)  # a candidate who goes away must not end the hall
-    signal.signal(signal.SIGINT, signal.default_int_handler)  # also where a script in the background started it
-    try:
-        server.serve_forever()
-    except KeyboardInterrupt:
-        server.server_close()
+    server.serve()
