@@ -1,6 +1,6 @@
 #!/usr/bin/env python3
 """The hall without a browser: a hundred candidates at once, what a start refuses, from handing in to the register, a
-full disk, bad requests, kills.
+full disk, connections of every sort, bad requests, kills.
 
 Needs the library's archive (rt staticlib host). The last line is 'N passed, M failed'.
 """
@@ -8,21 +8,12 @@ import csv
 import pathlib
 import tempfile
 
-from crowds import crowd
+from connections import DISK, connected
+from crowds import WAITS, crowd, rush
 from halls import Candidate, Hall
 from kills import killed
 from refusing import raw, request, status, unmoved
 from trying import DESK, EXAMPLES, Tally, run
-
-# Lets nothing reach the disk while a file is there.
-BROKEN = """
-whole = os.fsync
-def fsync(file):
-    if os.path.exists({!r}):
-        raise OSError(5, 'Input/output error')
-    whole(file)
-os.fsync = fsync
-"""
 
 def full_disk(tally: Tally, folder: pathlib.Path) -> None:
     """What cannot be kept is not done and is told; a line that was cut off was never told; a file is written later."""
@@ -59,11 +50,8 @@ def full_disk(tally: Tally, folder: pathlib.Path) -> None:
 
 def broken_disk(tally: Tally, folder: pathlib.Path) -> None:
     """A move is told when the disk has it, and not before."""
-    hall = Hall(folder / 'broken', EXAMPLES['p'], ['anna'])
-    broken, log = folder / 'broken' / 'is broken', hall.answers / 'sitting.log'
-    with open(hall.folder / 'sitecustomize.py', 'a') as opened:
-        opened.write(BROKEN.format(str(broken)))
-    hall.start()
+    hall = Hall(folder / 'broken', EXAMPLES['p'], ['anna']).altered(DISK.format(str(folder / 'broken'))).start()
+    broken, log = hall.folder / 'is broken', hall.answers / 'sitting.log'
     anna = Candidate(hall, 'anna')
     tally.check('a good disk', anna.move('put 5')[0] == 200)
     whole = log.read_bytes()
@@ -148,10 +136,13 @@ def main() -> None:
     with tempfile.TemporaryDirectory() as name:
         folder = pathlib.Path(name)
         crowd(tally, folder)
+        crowd(tally, folder, waits=WAITS)
+        rush(tally, folder, waits=WAITS)
         starts(tally, folder)
         to_the_register(tally, folder)
         full_disk(tally, folder)
         broken_disk(tally, folder)
+        connected(tally, folder)
         unmoved(tally, folder)
         killed(tally, folder)
     tally.close()

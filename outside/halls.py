@@ -48,6 +48,12 @@ class Hall:
         (self.folder / 'names.txt').write_text(''.join(f'{name}\n' for name in self.names))
         (self.folder / 'sitecustomize.py').write_text(GUARD)
 
+    def altered(self, lines: str) -> 'Hall':
+        """Has the process begin with some lines of Python."""
+        with open(self.folder / 'sitecustomize.py', 'a') as opened:
+            opened.write(lines)
+        return self
+
     @property
     def command(self) -> list[str]:
         return [str(DESK), 'sit', str(self.folder / self.file), '--candidates', str(self.folder / 'names.txt'),

@@ -12,14 +12,15 @@ from trying import EXAMPLES, Tally
 RANDOM, GONE = 10_000, 20
 
 
-def raw(port: int, data: bytes, wait: bool = True) -> bytes:
-    """All that comes back for some bytes."""
+def raw(port: int, data: bytes, wait: bool = True, ends: bool = True) -> bytes:
+    """All that comes back for some bytes, after which nothing is said, or perhaps something."""
     with socket.create_connection(('127.0.0.1', port), timeout=30) as made:
         got = b''
         try:
             made.sendall(data)
             if wait:
-                made.shutdown(socket.SHUT_WR)
+                if ends:
+                    made.shutdown(socket.SHUT_WR)
                 while some := made.recv(1 << 16):
                     got += some
         except ConnectionError:
@@ -88,6 +89,59 @@ def bad_requests(tally: Tally, hall: Hall) -> None:
         tally.check(f'{ticket} does not see what {name} has', told['gaps'] == wanted, told)
 
 
+def odd_requests(tally: Tally, hall: Hall) -> None:
+    """Requests that are not as the standard has them: each is refused once, and the connection ends."""
+    whole, port = request(hall, 'POST', '/move', b'put 5'), hall.port
+    head, _, body = whole.partition(b'\r\n\r\n')
+
+    def more(*lines: bytes) -> bytes:
+        return b'\r\n'.join([head, *lines, b'', body])
+
+    def instead(old: bytes, new: bytes) -> bytes:
+        assert whole.count(old) == 1
+        return whole.replace(old, new)
+
+    length, name = b'Content-Length: 5', b'Host: 127.0.0.1:%d' % port
+    cases = [(400, 'HTTP/0.9', b'GET /sitting\r\n'), (400, 'HTTP/0.9, with headers', instead(b' HTTP/1.1', b'')),
+             *((505, version, instead(b'HTTP/1.1', version)) for version in (b'HTTP/2.0', b'HTTP/1.2', b'HTTP/0.9')),
+             *((400, version, instead(b'HTTP/1.1', version)) for version in (
+                 b'HTTP/9', b'HTTP/1.1.1', b'HTTP/11', b'http/1.1', b'HTTP/1.1 ', b'HTTP/1.x', b'HTTPS/1.1')),
+             (400, 'two spaces', instead(b'POST ', b'POST  ')), (400, 'a tab', instead(b'POST ', b'POST\t')),
+             (400, 'a space first', b' ' + whole), (400, 'a line first', b'\r\n' + whole),
+             (400, 'a method that is none', instead(b'POST', b'PO(ST')), (501, 'no method', instead(b'POST', b'POSTS')),
+             (400, 'a NUL in the path', instead(b'/move', b'/mo\0ve')), (400, 'no path', instead(b'/move ', b'')),
+             (400, 'a letter that is none', instead(b'/move', b'/mov\xe9')),
+             (400, 'a space before the colon', instead(b'Host:', b'Host :')),
+             (400, 'a space before the name', instead(b'Host:', b' Host:')),
+             (400, 'a tab before the colon', instead(length, length.replace(b':', b'\t:'))),
+             (400, 'a folded line', instead(b'Cookie: ', b'Cookie:\r\n ')),
+             (400, 'a folded line, at the end', more(b'\tchunked')),
+             (400, 'a bare LF', instead(b'\r\nCookie', b'\nCookie')), (400, 'all bare', whole.replace(b'\r\n', b'\n')),
+             (400, 'a bare LF in a value', instead(length, length + b'\nX: y')),
+             (400, 'a bare CR', instead(b'\r\nCookie', b'\rCookie')), (400, 'a CR at the end', more(b'X: y\r')),
+             (400, 'a NUL in a value', more(b'X: \0')), (400, 'a NUL in a name', more(b'X\0: y')),
+             (400, 'a control in a value', more(b'X: \x7f')), (400, 'no colon', more(b'X')),
+             (400, 'no name', more(b': y')), (400, 'cut off in the head', head[:-3]), (400, 'a line alone', b'\r\n'),
+             (417, 'is it expected?', more(b'Expect: 100-continue')), (417, 'what is expected?', more(b'expect: tea')),
+             *((411, coding, more(b'Transfer-Encoding: ' + coding)) for coding in (b'chunked', b'identity', b'')),
+             (411, 'in chunks, no length', instead(length, b'transfer-encoding: chunked')),
+             (411, 'the same length twice', more(length)), (411, 'two lengths', more(b'content-length: 6')),
+             *((413, value, instead(length, b'Content-Length:' + value)) for value in (
+                 b'', b'+5', b'5, 5', b'5 5', b'0x5', b'5.0', b'\xd9\xa5', b'5;', b'00000000005', b'65')),
+             (421, 'the same name twice', more(name)), (421, 'a dot behind the name', instead(name, name[:5] + b'.')),
+             (421, 'a path in the name', instead(name, name + b'/')), (421, 'an empty name', instead(name, b'Host:')),
+             (421, 'two origins', more(*[b'Origin: http://127.0.0.1:%d' % port] * 2)),
+             (403, 'two lines of cookies', more(b'Cookie: ticket=' + hall.tickets['anna'].encode())),
+             (431, 'a long header', more(b'X: ' + b'y' * 20_000)), (431, 'a long name', more(b'X' * 20_000)),
+             (431, 'no end', whole[:40] + b'X: y\r\n' * 9_000)]
+    for wanted, name, data in cases:
+        reply = raw(port, data)
+        once = reply.count(b'HTTP/1.1 ') == 1 and b'\r\nConnection: close\r\n' in reply
+        tally.check(f'{name}: {wanted}', status(reply) == wanted and once and b'"gaps"' not in reply, reply)
+        if wanted not in (400, 403):
+            tally.check(f'{name}: at once', status(raw(port, data, ends=False)) == wanted)
+
+
 def random_requests(tally: Tally, hall: Hall) -> None:
     """Bytes of any sort, and requests put together at random or with a byte changed, all without a ticket."""
     rng = random.Random(1)
@@ -112,7 +166,7 @@ def random_requests(tally: Tally, hall: Hall) -> None:
         for _ in range(many):
             with lock:
                 data = one()
-            reply = raw(hall.port, data).replace(b'HTTP/1.1 100 Continue\r\n\r\n', b'')
+            reply = raw(hall.port, data)
             if reply and status(reply) < 400 or b'"gaps"' in reply or b'Set-Cookie' in reply:
                 wrong.append(data)
 
@@ -146,6 +200,7 @@ def unmoved(tally: Tally, folder: pathlib.Path) -> None:
         Candidate(hall, name).move(f'put {gap}')
     log = (hall.answers / 'sitting.log').read_bytes()
     bad_requests(tally, hall)
+    odd_requests(tally, hall)
     random_requests(tally, hall)
     tally.check('the log is as it was', (hall.answers / 'sitting.log').read_bytes() == log)
     tally.check('nothing was handed in', not [*hall.answers.glob('*.hex')])
