@@ -173,7 +173,8 @@ def crowd(tally: Tally, folder: pathlib.Path, paper: bytes = EXAMPLES['p'], wait
         tried(hall, lambda: people.as_people_do(SECONDS, SECONDS)) for _ in range(FEW)))
     tally.check('a hundred in one moment', at(99, best.times) < best.limit, at(99, best.times))
     tally.check('a hundred in one moment: the processor', best.each * MANY < LIMIT / 2, best.each)
-    tally.check('a hundred candidates', at(99, calm.times) < calm.limit or not waits, at(99, calm.times))
+    if waits:
+        tally.check('a hundred candidates', at(99, calm.times) < calm.limit, at(99, calm.times))
     hall.end()
 
 
@@ -193,7 +194,8 @@ def rush(tally: Tally, folder: pathlib.Path, paper: bytes = EXAMPLES['p'], waits
 
     clicks = quietest(f'{BESIDE} who click while {MANY} hand in', map(once, range(FEW)))
     print(f'{MANY} who hand in: the last had its reply after {min(last) * 1000:.0f} ms')
-    tally.check('clicks while a hundred hand in', at(99, clicks.times) < clicks.limit or not waits, clicks.times[-9:])
+    if waits:
+        tally.check('clicks while a hundred hand in', at(99, clicks.times) < clicks.limit, clicks.times[-9:])
 
 
 def main() -> None:
