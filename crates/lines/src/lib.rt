@@ -38,7 +38,7 @@ const BASE: u8 = 16;
 // The bytes that there are.
 const BYTES: usize = 256;
 
-// The value of each byte that is a digit, by the byte.
+// The value of each byte that is a digit, by the byte; the others have BASE.
 pub fn digit_values() -> [u8; BYTES]
     ensures { λ r. ⌜ AreValues r ⌝ }
 {

@@ -131,7 +131,8 @@ pub fn end_of(points: &[u8], d: usize) -> usize
     i
 }
 
-// The ENDDO of every DO, by the DO's point.
+// The ENDDO of every DO, by the DO's point. At every point stands the next ENDDO behind it that closes a loop which is
+// open there, so that the one after a loop's own is found where its own ENDDO stands.
 pub fn ends_of(points: &[u8]) -> [usize; Nest::POINTS]
     requires { ⌜ length (now points) ≤ POINTS ⌝ }
     ensures { λ r. ⌜ HasEnds (now (points .entry)) r ⌝ }

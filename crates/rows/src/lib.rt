@@ -138,7 +138,8 @@ fn better(f: usize, at: usize, m: usize, q: usize, c: usize, here: usize) -> Lef
 }
 
 // The values of all suffixes, d + 1 to e, in place of what is made from each start on; gives the least number of
-// barriers among them. The sweep for q starts at q, or at `first` if that lies further right.
+// barriers among them. The sweep for q starts at q, or at `first` if that lies further right: before it all have the
+// barriers of `first`, or one more.
 fn values(
     limit: &[usize],
     base: usize,
@@ -181,7 +182,8 @@ fn values(
     m
 }
 
-// What the first value's barriers are at most: one more than those of `first`, if it is read there, or as many as gaps.
+// No less than the barriers of the first value: one more than those of `first` where it is read there, else more than
+// there are gaps.
 fn ceiling(c: usize, d: usize, e: usize, first: usize) -> usize
     requires { ⌜ (d + 1 < first → c < 256) ⌝ }
     requires { ⌜ d < e ⌝ }
