@@ -35,8 +35,10 @@ loop-less c = omega arith
 
 loop-again : tie.Need-loop-again Inv-loop μ-loop
 loop-again c =
-    let l = c .before .before .loop in
-    (fill-value (l .values) (l .v) (l .inv .0) (c .digit .result) (omega arith) (c .digit .ensures) (search needs), omega arith)
+    let l = c .before .before .loop in (
+      fill-value (l .values) (l .v) (l .inv .0) (c .digit .result) (omega arith) (c .digit .ensures) (search needs),
+      omega arith,
+    )
 
 returns : tie.Need-returns Inv-loop μ-loop
 returns c =

@@ -7,7 +7,7 @@ use native.Mathlib.Omega.{arith}
 use lib.ListN.{length, take, drop, length-drop}
 use borrow.Author.Needs.{needs}
 use Rattle.lines.specs.Lines.{allHex}
-use Rattle.lines.specs.Reading.{takeDigits}
+use Rattle.lines.specs.Reading.{takeDigits, AreValues}
 use Rattle.lines.proofs.Reading.{digits-fit, end-in-part, past-end, front-hex, unended, other-behind}
 use Rattle.lines.proofs.Reading.{not-digits, is-frame}
 use Rattle.lines.proofs.read_line.Statement.{statement}
@@ -70,31 +70,33 @@ part-line-start c = search needs
 part-line-end : tie.Need-part-line-end
 part-line-end c = search needs
 
--- the line is digits
+-- the line is digits, and the table has their values
 of-digits
     : (c : tie.After-line)
     → let d = c .before .before .before .before in
     let a = called d .args in
-    allHex (take (a .at + d .digits-in .result - a .at) (drop (a .at) (a .text .now))) ≡ true
+    (allHex (take (a .at + d .digits-in .result - a .at) (drop (a .at) (a .text .now))) ≡ true) × AreValues (a .values .now)
 of-digits c =
     let d = c .before .before .before .before in
-    let a = called d .args in
-    front-hex (a .text .now) (a .at) (a .at + d .digits-in .result) (d .before .before .if1 .left) (ends d)
+    let a = called d .args in (
+      front-hex (a .text .now) (a .at) (a .at + d .digits-in .result) (d .before .before .if1 .left) (ends d),
+      called d .pre,
+    )
 
 is-whole-requires : tie.Need-is-whole-requires
-is-whole-requires c κs = of-digits c
+is-whole-requires c κs = of-digits c .0
 
 byte-at-requires : tie.Need-byte-at-requires
-byte-at-requires c κs = (of-digits (c .before .before), c .before .before .before .before .before .before .before .before .before .before .pre)
+byte-at-requires c κs = of-digits (c .before .before)
 
 byte-at-requires-2 : tie.Need-byte-at-requires-2
-byte-at-requires-2 c κs = (of-digits (c .before .before .before), c .before .before .before .before .before .before .before .before .before .before .before .pre)
+byte-at-requires-2 c κs = of-digits (c .before .before .before)
 
 byte-at-requires-3 : tie.Need-byte-at-requires-3
-byte-at-requires-3 c κs = (of-digits (c .before .before .before .before), c .before .before .before .before .before .before .before .before .before .before .before .before .pre)
+byte-at-requires-3 c κs = of-digits (c .before .before .before .before)
 
 byte-at-requires-4 : tie.Need-byte-at-requires-4
-byte-at-requires-4 c κs = (of-digits (c .before .before .before .before .before), c .before .before .before .before .before .before .before .before .before .before .before .before .before .pre)
+byte-at-requires-4 c κs = of-digits (c .before .before .before .before .before)
 
 add-t24 : tie.Need-add-t24
 add-t24 c = search needs
@@ -106,9 +108,11 @@ returns-4 c =
     let a = called d .args in
     is-frame (a .text .now) (a .at) (a .at + d .digits-in .result) (d .before .before .if1 .left) (ends d) (omega arith)
     (c .before .before .before .before .before .before .before .if3 .left)
-    (c .before .before .before .byte-at .result) (c .before .before .byte-at2 .result) (c .before .byte-at3 .result) (c .byte-at4 .result)
+    (c .before .before .before .byte-at .result) (c .before .before .byte-at2 .result) (c .before .byte-at3 .result)
+    (c .byte-at4 .result)
     (sym (t .before .is-whole .ensures) ∙ t .if4 .taken)
-    (c .before .before .before .byte-at .ensures) (c .before .before .byte-at2 .ensures) (c .before .byte-at3 .ensures) (c .byte-at4 .ensures)
+    (c .before .before .before .byte-at .ensures) (c .before .before .byte-at2 .ensures) (c .before .byte-at3 .ensures)
+    (c .byte-at4 .ensures)
 
 returns-5 : tie.Need-returns-5
 returns-5 c =
