@@ -1,4 +1,4 @@
-"""What the tests of the scripts share: a command run on some bytes, and a tally of what was seen."""
+"""What the tests share: a command run on some bytes, programs that are installed, and a tally of what was seen."""
 import os
 import pathlib
 import shutil
@@ -8,7 +8,7 @@ from dataclasses import dataclass
 
 ROOT = pathlib.Path(__file__).resolve().parent.parent
 PROGRAM, KEY, DRAW, DESK = ROOT / 'target' / 'bin' / 'key', ROOT / 'key', ROOT / 'draw', ROOT / 'desk'
-VERSION = len(list((ROOT / 'docs' / 'changes').glob('*.md')))
+VERSION = len(list((ROOT / 'docs' / 'changes').glob('[0-9]*.md')))
 TIMEOUT, BASH = shutil.which('timeout'), shutil.which('bash')
 EXAMPLES = {name: (ROOT / 'examples' / f'{name}.hex').read_bytes() for name in 'pqr'}
 
@@ -31,6 +31,18 @@ def run(*command: object, given: bytes | None = b'', shell: str = '"$@"', **envi
     done = subprocess.run([TIMEOUT, '60', BASH, '-c', line, 'bash', *map(str, command)], input=given,
                           capture_output=True, check=False, env={**os.environ, **environment})
     return Seen(done.stdout, done.stderr.decode('utf-8', 'replace'), done.returncode)
+
+
+def installed(programs: list[str], packages: list[str]) -> bool:
+    """Whether programs are there, installed just now if need be, where that may be done: on Debian, by root."""
+    if not all(map(shutil.which, programs)) and os.geteuid() == 0 and shutil.which('apt-get'):
+        install = ['apt-get', 'install', '-y', '-q', '--no-install-recommends', *packages]
+        for command in (install, ['apt-get', 'update', '-q'], install):
+            done = subprocess.run(command, stdout=subprocess.DEVNULL, stderr=subprocess.DEVNULL, check=False,
+                                  env={**os.environ, 'DEBIAN_FRONTEND': 'noninteractive'})
+            if command is install and done.returncode == 0:
+                break
+    return all(map(shutil.which, programs))
 
 
 class Tally:

@@ -1,7 +1,7 @@
 //! The self-check of barred gaps (02, job 7): the worked paper, blocked papers, the calls, and on random papers of one
 //! loop the ways to the first key.
 
-use crate::calls::Call;
+use crate::asking::Call;
 use crate::desk_check::{check_altered, load, moved, replies};
 use crate::nests::*;
 use crate::order::*;

@@ -1,7 +1,7 @@
 //! Two placement texts held beside each other: which placement is as good or better than the other and which loops
 //! decide, by the trees of 001's definition 1, and which text is at fault.
 
-use crate::calls::{guarded, lend, Call, Reply, GUARD};
+use crate::asking::{guarded, lend, Call, Reply, GUARD};
 use crate::desk::Desk;
 use crate::desk_check::{check_altered, load, replies};
 use crate::host::{self, words_of};

@@ -1,7 +1,7 @@
 //! The judge's own desk (01, "The desk" and "Numbers from the state"; 02, jobs 4 to 7 and 10). A key is searched for,
 //! the sitting is a set of gaps, every count is made anew, and to take back it keeps every placement of before.
 
-use crate::calls::{guarded, Call, Reply};
+use crate::asking::{guarded, Call, Reply};
 use crate::comparing;
 use crate::host::{self, gaps_of, KEPT};
 use crate::improving;
@@ -12,7 +12,7 @@ use crate::runs;
 use crate::sheets;
 use crate::skipping;
 use crate::slips;
-use crate::textbook;
+use crate::textbook_rule;
 use crate::texts::{barrier_lines, read_nest, read_placement};
 use std::collections::{BTreeSet, VecDeque};
 
@@ -95,7 +95,7 @@ impl Desk {
                 *self = Desk { nest, ..Desk::new() };
                 if *planned { self.plan(); }
             }
-            Call::Textbook => (number, values) = textbook::answer(self.nest.as_ref()),
+            Call::Textbook => (number, values) = textbook_rule::answer(self.nest.as_ref()),
             Call::Slip(examiner, text, out) => return slips::answer(self, *examiner, text, out),
             Call::Compare(a, b) => return comparing::answer(self, a, b),
             Call::MissingRuns => (number, values) = skipping::answer(self),

@@ -1,6 +1,6 @@
 //! The self-check of the judge's own desk: cases by hand, and every reply or desk that is altered is noticed.
 
-use crate::calls::{guarded, play, Call, Reply};
+use crate::asking::{guarded, play, Call, Reply};
 use crate::desk::Desk;
 use crate::host;
 use crate::papers::{words, P};

@@ -1,6 +1,6 @@
 //! Fewer calls where loops run once (02, job 13), by the words of the job: the tries from the key, and the floor.
 
-use crate::calls::{guarded, lend, Call, Reply, GUARD};
+use crate::asking::{guarded, lend, Call, Reply, GUARD};
 use crate::desk::Desk;
 use crate::desk_check::{check_altered, load, replies};
 use crate::host::{self, words_of, WORDS};

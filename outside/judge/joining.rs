@@ -1,6 +1,6 @@
 //! Two papers into one (02, job 12): the joint nest and its text, and which text is at fault.
 
-use crate::calls::{guarded, lend, Call, Reply, GUARD};
+use crate::asking::{guarded, lend, Call, Reply, GUARD};
 use crate::desk::write_text;
 use crate::desk_check::{check_altered, load, replies};
 use crate::edges::edge_lines;

@@ -22,7 +22,7 @@
 //! It links the library: rustc -O outside/judge/main.rs -L target/staticlib -l static=host -o target/judge
 
 mod barred_check;
-mod calls;
+mod asking;
 mod comparing;
 mod desk;
 mod desk_check;
@@ -40,7 +40,7 @@ mod self_check;
 mod sheets;
 mod skipping;
 mod slips;
-mod textbook;
+mod textbook_rule;
 mod texts;
 
 use std::io::Read;

@@ -1,6 +1,6 @@
 //! Barrier calls in a run (02, job 11): how often the barriers of a placement are called, given the turns of the loops.
 
-use crate::calls::{guarded, lend, Call, Reply, GUARD};
+use crate::asking::{guarded, lend, Call, Reply, GUARD};
 use crate::desk::Desk;
 use crate::desk_check::{check_altered, load, replies};
 use crate::host;

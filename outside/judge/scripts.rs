@@ -1,6 +1,6 @@
 //! Random scripts of the library's calls, in and out of turn, each call held against the judge's own desk.
 
-use crate::calls::{play, Call, Reply};
+use crate::asking::{play, Call, Reply};
 use crate::comparing::comparisons;
 use crate::desk::{Desk, Key};
 use crate::edges::{edges, pairs};

@@ -15,7 +15,7 @@ use crate::runs::check_runs;
 use crate::sheets::check_sheets;
 use crate::skipping::check_skipping;
 use crate::slips::check_slips;
-use crate::textbook::check_textbook;
+use crate::textbook_rule::check_textbook;
 use crate::texts::*;
 
 pub struct Checks { passed: usize, failed: usize }

@@ -1,6 +1,6 @@
 //! Timing sheets (02, job 14): when a run ends, with the waits of a sheet and with all barriers kept.
 
-use crate::calls::{guarded, Call, Reply, GUARD};
+use crate::asking::{guarded, Call, Reply, GUARD};
 use crate::desk_check::{check_altered, load, replies};
 use crate::host;
 use crate::papers::{Random, P};

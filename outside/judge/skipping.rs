@@ -1,6 +1,6 @@
 //! Loops that may not run (02, job 10), by the words of the job: which of them need a barrier for their missing run.
 
-use crate::calls::{Call, Reply};
+use crate::asking::{Call, Reply};
 use crate::desk::Desk;
 use crate::desk_check::{check_altered, load, replies};
 use crate::host::{self, words_of};

@@ -1,6 +1,6 @@
 //! Slips for two readers (02, job 9): what the candidate and the examiner get, byte for byte.
 
-use crate::calls::{guarded, lend, Call, Reply, GUARD};
+use crate::asking::{guarded, lend, Call, Reply, GUARD};
 use crate::desk::{write_text, Desk};
 use crate::desk_check::{check_altered, load, replies};
 use crate::host;

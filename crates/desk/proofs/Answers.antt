@@ -1,26 +1,26 @@
 -- Count, Mark and Write: what each way through the code says of the reply.
 -- Main statements: `count-refused`, `count-no-do`, `count-is`; `write-refused`, `write-short`, `written`;
 -- `mark-refused`, `mark-unread`, `mark-given`.
-use mathlib.Core.Path.{_≡_, refl, sym, _∙_, ap}
+use mathlib.Core.Path.{_≡_, sym, _∙_, ap}
 use mathlib.Core.Bool.{Bool, true, false, not}
 use mathlib.Core.List.{List}
-use Prim.Native.Nat.{ℕ, _-_, _≤_, _<_}
+use Prim.Native.Nat.{ℕ, _≤_, _<_}
 use native.Mathlib.Omega.{arith}
 use lib.Dec.{eqb, ltb}
 use lib.ListN.{length}
 use borrow.Author.Tests.{eq-eqb, ne-eqb, lt-ltb, le-ltb}
-use Rattle.laws.specs.Choice.{pick, when}
+use Rattle.laws.specs.Choice.{when}
 use Rattle.laws.proofs.Choices.{first-set, first-none}
-use Rattle.nests.specs.Loops.{isDo}
-use Rattle.lines.specs.Writing.{over}
-use Rattle.placements.specs.Placements.{loopCount}
-use Rattle.placements.specs.Verdicts.{Verdict, markOf}
-use Rattle.texts.specs.PlacementTexts.{Placed, placed, keyText}
+use Rattle.paper_nests.specs.Loops.{isDo}
+use Rattle.paper_lines.specs.Writing.{over}
+use Rattle.paper_placements.specs.Placements.{loopCount}
+use Rattle.paper_order.specs.Verdicts.{Verdict, markOf}
+use Rattle.paper_texts.specs.PlacementTexts.{Placed, placed, keyText}
 use Rattle.desk.specs.declared.Desk as DD
 use Rattle.desk.specs.declared.Answer as DA
 use Rattle.desk.specs.Desks.{Desk, deskIn, stateFault, Fault, fault}
 use Rattle.desk.specs.Says.{RefusedAs, countFault, CountSays, writeFault, WriteSays}
-use Rattle.desk.specs.Says.{Mark, refused, given, readIn, placeFault, marked}
+use Rattle.desk.specs.Says.{refused, given, readIn, placeFault, marked}
 
 -- the numbers that the calls look at, in their order: 10 and 11; then 6 of Count, and 9 of Write
 abbrev state : DD.Desk → ℕ

@@ -4,7 +4,7 @@ use mathlib.Core.Path.{_≡_, sym, _∙_}
 use mathlib.Core.List.{List}
 use Prim.Native.Nat.{ℕ}
 use borrow.Author.Tests.{eq-eqb, ne-eqb}
-use Rattle.placements.specs.Words.{gapsIn}
+use Rattle.paper_placements.specs.Words.{gapsIn}
 use Rattle.desk.specs.declared.Chosen as DC
 use Rattle.desk.specs.Says.{NotChosen, ChosenSays}
 

@@ -1,6 +1,6 @@
 -- 01, "What the contracts must say", c: calls that the promises exclude. A marker that says Best, or Uncut, unlooked,
 -- one whose Dearer has invented counts, a desk that refuses each text and a writer that writes nothing each break the
--- promise of their call at a desk that holds P and its key. Planners are excluded in crate keys (Excluded).
+-- promise of their call at a desk that holds P and its key. Planners are excluded in crate plan_theorem (Excluded).
 -- Main definitions: `P-desk`, `CallsExcluded`. Main statements: `P-made`, `calls-excluded`, `all-excluded`.
 use mathlib.Core.Path.{_≡_, refl, sym, _∙_, ap, subst}
 use mathlib.Core.Bool.{Bool, true, false}
@@ -15,22 +15,22 @@ use Rattle.laws.specs.Choice.{pick}
 use Rattle.laws.specs.Bits.{bit}
 use Rattle.laws.proofs.Copies.{copies, copies-at}
 use Rattle.laws.proofs.Tests.{test, never}
-use Rattle.nests.specs.declared.Dependence as DE
-use Rattle.nests.specs.declared.Nest as DN
-use Rattle.nests.specs.Kinds.{INDEPENDENT, CARRIED}
-use Rattle.nests.proofs.Cases.{paper-P}
-use Rattle.lines.specs.Lines.{linesOf, frameOf}
-use Rattle.placements.specs.Placements.{uncut, differ, loopCount}
-use Rattle.placements.specs.Verdicts.{Verdict, Uncut, Dearer, Best, verdictBy, markOf}
-use Rattle.placements.specs.Words.{holds, gapsOf, gapsIn}
-use Rattle.moves.specs.Ring as Ring
-use Rattle.texts.specs.NestTexts.{Got}
-use Rattle.texts.specs.PlacementTexts.{placeLines, readPlacement, keyText}
-use Rattle.texts.proofs.TextCases.{P-lines, P-read}
-use Rattle.barred.specs.Reduced.{isBlocked}
-use Rattle.barred.proofs.Blocked.{unbarred-open}
-use Rattle.keys.proofs.Excluded.{Excluded, excluded}
-use Rattle.keys.proofs.KeyCases.{computed-keys}
+use Rattle.paper_nests.specs.declared.Dependence as DE
+use Rattle.paper_nests.specs.declared.Nest as DN
+use Rattle.paper_nests.specs.Kinds.{INDEPENDENT, CARRIED}
+use Rattle.paper_nests.proofs.Cases.{paper-P}
+use Rattle.paper_lines.specs.Lines.{linesOf, frameOf}
+use Rattle.paper_placements.specs.Placements.{uncut, differ, loopCount}
+use Rattle.paper_order.specs.Verdicts.{Verdict, Uncut, Dearer, Best, verdictBy, markOf}
+use Rattle.paper_placements.specs.Words.{holds, gapsOf, gapsIn}
+use Rattle.desk_moves.specs.Ring as Ring
+use Rattle.paper_texts.specs.NestTexts.{Got}
+use Rattle.paper_texts.specs.PlacementTexts.{placeLines, readPlacement, keyText}
+use Rattle.paper_texts.proofs.TextCases.{P-lines, P-read}
+use Rattle.paper_barred.specs.Reduced.{isBlocked}
+use Rattle.paper_barred.proofs.Blocked.{unbarred-open}
+use Rattle.plan_theorem.proofs.Excluded.{Excluded, excluded}
+use Rattle.plan_theorem.proofs.KeyCases.{computed-keys}
 use Rattle.desk.specs.declared.Desk as DD
 use Rattle.desk.specs.Desks.{Desk, desk, loadedDesk, withKey, deskIn, IsMade}
 use Rattle.desk.specs.Says.{Holds, Mark, refused, given, readIn, placeFault, markIn, marked}

@@ -1,20 +1,20 @@
 -- What a desk with an empty sitting and no moves holds, from what its parts hold.
 -- Main statements: `held`, `held-empty`.
-use mathlib.Core.Path.{_≡_, refl, sym, _∙_, subst}
-use mathlib.Core.Bool.{Bool, true, false}
+use mathlib.Core.Path.{_≡_, sym, subst}
+use mathlib.Core.Bool.{Bool, false}
 use mathlib.Core.List.{List, []}
 use Prim.Native.Nat.{ℕ}
-use Rattle.nests.specs.declared.Nest as DN
-use Rattle.nests.specs.Nests.{Nest, empty}
-use Rattle.nests.specs.Stored.{nestIn, IsCounted, IsEmpty}
-use Rattle.placements.specs.Words.{holds, gapsIn}
-use Rattle.placements.proofs.Words.{gaps-none}
-use Rattle.sitting.specs.declared.Sitting as DS
-use Rattle.sitting.specs.Kept as Kept
-use Rattle.sitting.proofs.Outcome.{empty-kept}
-use Rattle.moves.specs.Ring as Ring
+use Rattle.paper_nests.specs.declared.Nest as DN
+use Rattle.paper_nests.specs.Nests.{Nest, empty}
+use Rattle.paper_nests.specs.Stored.{nestIn, IsCounted, IsEmpty}
+use Rattle.paper_placements.specs.Words.{holds, gapsIn}
+use Rattle.paper_placements.proofs.Words.{gaps-none}
+use Rattle.desk_sitting.specs.declared.Sitting as DS
+use Rattle.desk_sitting.specs.Kept as Kept
+use Rattle.desk_sitting.proofs.Outcome.{empty-kept}
+use Rattle.desk_moves.specs.Ring as Ring
 use Rattle.desk.specs.declared.Desk as DD
-use Rattle.desk.specs.Desks.{desk, deskIn, emptyDesk}
+use Rattle.desk.specs.Desks.{desk, emptyDesk}
 use Rattle.desk.specs.Says.{Holds}
 
 -- an empty sitting keeps a fresh count of the nest for which it was made

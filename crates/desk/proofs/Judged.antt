@@ -1,16 +1,15 @@
 -- The verdict, from what the uncut test and the comparison answer.
 -- Main statements: `uncut-is`, `dearer-is`, `best-is`.
-use mathlib.Core.Path.{_≡_, refl, sym, _∙_, ap}
-use mathlib.Core.Bool.{Bool, true, false}
+use mathlib.Core.Path.{_≡_, refl, _∙_, ap}
 use mathlib.Core.List.{List}
 use Prim.Native.Nat.{ℕ, zero, suc, _-_}
 use native.Mathlib.Omega.{arith}
 use lib.Dec.{eqb, eqb·suc-zero}
 use Rattle.laws.specs.Choice.{pick}
-use Rattle.nests.specs.Nests.{Nest}
-use Rattle.placements.specs.Placements.{uncut, differ, loopCount}
-use Rattle.placements.specs.Answers.{Difference, difference, differenceOf}
-use Rattle.placements.specs.Verdicts.{Verdict, Uncut, Dearer, Best, verdictBy, markOf}
+use Rattle.paper_nests.specs.Nests.{Nest}
+use Rattle.paper_placements.specs.Placements.{uncut, differ, loopCount}
+use Rattle.paper_placements.specs.Answers.{Difference, difference, differenceOf}
+use Rattle.paper_order.specs.Verdicts.{Uncut, Dearer, Best, verdictBy, markOf}
 
 -- the difference, of the place where the counts differ
 abbrev differenceAt : Nest → List ℕ → List ℕ → ℕ → Difference

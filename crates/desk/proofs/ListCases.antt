@@ -2,7 +2,7 @@
 -- Main statements: `forward-record`, `forward-listed`, `forward-cut`, `own-ends-record`.
 use mathlib.Core.Path.{_≡_, refl}
 use mathlib.Core.List.{[], _∷_}
-use Rattle.nests.proofs.Cases.{forward, carried, paper-P}
+use Rattle.paper_nests.proofs.Cases.{forward, carried, paper-P}
 use Rattle.desk.specs.Desks.{fault, recordFault, listFault, listUncut}
 
 -- 02, job 1: a carried record with s before t has no fault

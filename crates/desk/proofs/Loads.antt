@@ -1,23 +1,22 @@
 -- Load: what a reading says of the reply.
 -- Main statements: `load-refused`, `load-accepted`.
-use mathlib.Core.Path.{_≡_, refl, sym, _∙_, ap}
-use mathlib.Core.Bool.{Bool, true, false}
+use mathlib.Core.Path.{_≡_, sym, _∙_, ap}
+use mathlib.Core.Bool.{true, false}
 use mathlib.Core.List.{List, []}
 use Prim.Native.Nat.{ℕ}
 use lib.Dec.{eqb}
 use borrow.Author.Tests.{eq-eqb, ne-eqb}
-use Rattle.laws.specs.Choice.{pickT}
-use Rattle.nests.specs.Stored.{nestIn}
-use Rattle.placements.specs.Words.{holds}
-use Rattle.placements.proofs.Words.{gaps-none}
-use Rattle.sitting.specs.Kept as Kept
-use Rattle.moves.specs.Ring as Ring
-use Rattle.texts.specs.NestTexts.{Got, readNest}
-use Rattle.texts.specs.Reads.{IsRead}
-use Rattle.texts.specs.declared.Reading as TR
+use Rattle.paper_nests.specs.Stored.{nestIn}
+use Rattle.paper_placements.specs.Words.{holds}
+use Rattle.paper_placements.proofs.Words.{gaps-none}
+use Rattle.desk_sitting.specs.Kept as Kept
+use Rattle.desk_moves.specs.Ring as Ring
+use Rattle.paper_texts.specs.NestTexts.{Got, readNest}
+use Rattle.paper_texts.specs.Reads.{IsRead}
+use Rattle.paper_texts.specs.declared.Reading as TR
 use Rattle.desk.specs.declared.Desk as DD
 use Rattle.desk.specs.declared.Reply as DR
-use Rattle.desk.specs.Says.{Holds, LoadSays}
+use Rattle.desk.specs.Says.{LoadSays}
 use Rattle.desk.proofs.Held.{held}
 
 module _ (s : List ℕ) (q : TR.Reading) (read : IsRead s q) (d : DD.Desk) (r : DR.Reply) where

@@ -4,33 +4,32 @@ use mathlib.Core.Path.{_≡_, refl, sym, _∙_, ap, subst}
 use mathlib.Core.Bool.{Bool, true, false, _&&_, not}
 use mathlib.Core.List.{List, []}
 use mathlib.Core.Logic.{_⊎_, inl, inr, ⊎-elim}
-use Prim.Native.Nat.{ℕ, zero, suc}
+use Prim.Native.Nat.{ℕ}
 use native.Mathlib.Omega.{arith}
-use lib.Dec.{eqb}
 use lib.ListN.{getD}
 use borrow.Author.Tests.{eq-eqb, ne-eqb}
-use Rattle.laws.specs.Choice.{pick, pickT, when, firstOf}
+use Rattle.laws.specs.Choice.{pick, pickT}
 use Rattle.laws.proofs.Tests.{never-both, eq-or}
-use Rattle.nests.specs.Nests.{Nest}
-use Rattle.nests.specs.Valid.{isValid}
-use Rattle.nests.specs.Stored.{nestIn}
-use Rattle.nests.proofs.Deps.{valid-is}
-use Rattle.placements.specs.Placements.{avoids}
-use Rattle.placements.specs.Keys.{LeastOnRing}
-use Rattle.placements.proofs.Keys.{key-least-tree}
-use Rattle.sitting.specs.Counts.{countAt, uncutCount}
-use Rattle.moves.specs.declared.Move as DM
-use Rattle.moves.specs.TakeBack.{Play, History}
-use Rattle.moves.specs.Game.{sittingGame}
-use Rattle.texts.specs.NestTexts.{readNest}
-use Rattle.texts.proofs.Accepted.{accepted-valid}
-use Rattle.barred.specs.Reduced.{isBlocked}
-use Rattle.barred.proofs.Blocked.{blocked-iff}
-use Rattle.keys.specs.KeyOf.{keyOf}
-use Rattle.keys.specs.OneKey.{IsFirstKey, IsFirstSmallest}
-use Rattle.keys.proofs.Demand3.{valid-by-loops}
-use Rattle.keys.proofs.KeyFirst.{key-is-first}
-use Rattle.keys.proofs.RingKey.{least-on-ring, ring-first-smallest}
+use Rattle.paper_nests.specs.Nests.{Nest}
+use Rattle.paper_nests.specs.Valid.{isValid}
+use Rattle.paper_nests.specs.Stored.{nestIn}
+use Rattle.paper_nests.proofs.Deps.{valid-is}
+use Rattle.paper_placements.specs.Placements.{avoids}
+use Rattle.paper_order.specs.Keys.{LeastOnRing}
+use Rattle.paper_order.proofs.Keys.{key-least-tree}
+use Rattle.desk_sitting.specs.Counts.{countAt, uncutCount}
+use Rattle.desk_moves.specs.declared.Move as DM
+use Rattle.desk_moves.specs.TakeBack.{Play, History}
+use Rattle.desk_moves.specs.Game.{sittingGame}
+use Rattle.paper_texts.specs.NestTexts.{readNest}
+use Rattle.paper_texts.proofs.Accepted.{accepted-valid}
+use Rattle.paper_barred.specs.Reduced.{isBlocked}
+use Rattle.paper_barred.proofs.Blocked.{blocked-iff}
+use Rattle.plan_theorem.specs.KeyOf.{keyOf}
+use Rattle.plan_theorem.specs.OneKey.{IsFirstKey, IsFirstSmallest}
+use Rattle.plan_theorem.proofs.Demand3.{valid-by-loops}
+use Rattle.plan_theorem.proofs.KeyFirst.{key-is-first}
+use Rattle.plan_theorem.proofs.RingKey.{least-on-ring, ring-first-smallest}
 use Rattle.desk.specs.declared.Desk as DD
 use Rattle.desk.specs.declared.PlainDesk as OD
 use Rattle.desk.specs.declared.Reply as DR

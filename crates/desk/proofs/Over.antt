@@ -3,19 +3,19 @@
 -- `made-plain`.
 use mathlib.Core.Path.{_≡_, refl, sym, _∙_, ap, subst}
 use mathlib.Core.Bool.{Bool, true, false, _&&_, not}
-use mathlib.Core.List.{List, []}
+use mathlib.Core.List.{[]}
 use native.Mathlib.Omega.{arith}
 use Rattle.laws.specs.Choice.{pick}
 use Rattle.laws.proofs.Tests.{never-both}
 use Rattle.laws.proofs.Connectives.{and-off}
-use Rattle.nests.specs.Stored.{nestIn}
-use Rattle.placements.specs.declared.Placement as DP
-use Rattle.barred.specs.Reduced.{isBlocked}
-use Rattle.keys.specs.KeyOf.{keyOf}
+use Rattle.paper_nests.specs.Stored.{nestIn}
+use Rattle.paper_placements.specs.declared.Placement as DP
+use Rattle.paper_barred.specs.Reduced.{isBlocked}
+use Rattle.plan_theorem.specs.KeyOf.{keyOf}
 use Rattle.desk.specs.declared.Desk as DD
 use Rattle.desk.specs.declared.PlainDesk as OD
 use Rattle.desk.specs.declared.Reply as DR
-use Rattle.desk.specs.Desks.{Desk, desk, emptyDesk, withKey, deskIn, overIn, IsPaper, IsMade, IsMadePlain}
+use Rattle.desk.specs.Desks.{Desk, desk, withKey, deskIn, overIn, IsPaper, IsMade, IsMadePlain}
 use Rattle.desk.specs.Desks.{planFault}
 use Rattle.desk.specs.Says.{Holds, PlanSays, OverSays}
 use Rattle.desk.specs.TwoDesks.{Agree}

@@ -1,16 +1,16 @@
 -- Plan: the planner's words are the key of the desk's nest, or the nest is blocked.
 -- Main statements: `no-nest`, `blocked`, `plan-refused`, `plan-made`.
 use mathlib.Core.Path.{_≡_, sym, _∙_, ap}
-use mathlib.Core.Bool.{Bool, true, false}
+use mathlib.Core.Bool.{true, false}
 use Prim.Native.Nat.{ℕ}
 use lib.Dec.{eqb}
 use borrow.Author.Tests.{eq-eqb, ne-eqb}
-use Rattle.nests.specs.Stored.{nestIn}
-use Rattle.sitting.specs.Kept.{barriers}
-use Rattle.moves.specs.Ring.{movesIn}
-use Rattle.placements.specs.Words.{gapsIn}
-use Rattle.barred.specs.Reduced.{isBlocked}
-use Rattle.keys.specs.KeyOf.{keyOf}
+use Rattle.paper_nests.specs.Stored.{nestIn}
+use Rattle.desk_sitting.specs.Kept.{barriers}
+use Rattle.desk_moves.specs.Ring.{movesIn}
+use Rattle.paper_placements.specs.Words.{gapsIn}
+use Rattle.paper_barred.specs.Reduced.{isBlocked}
+use Rattle.plan_theorem.specs.KeyOf.{keyOf}
 use Rattle.desk.specs.declared.Desk as DD
 use Rattle.desk.specs.declared.Reply as DR
 use Rattle.desk.specs.Desks.{deskIn, withKey, IsMade, planFault}

@@ -11,17 +11,17 @@ use lib.ListN.{length}
 use lib.Seq.{take-length}
 use borrow.Author.Tests.{eqb-true}
 use Rattle.laws.specs.Choice.{pick, pickT}
-use Rattle.nests.specs.declared.Dependence as DE
-use Rattle.nests.specs.Nests.{Dep, Nest}
-use Rattle.nests.specs.Stored.{depsIn, nestIn}
-use Rattle.nests.specs.Valid.{isValid}
-use Rattle.nests.proofs.Deps.{valid-is}
-use Rattle.nests.proofs.Flags.{flags-few}
-use Rattle.placements.specs.Verdicts.{Verdict, Uncut, Dearer, Best}
-use Rattle.placements.proofs.Words.{holds-empty, gaps-none}
-use Rattle.moves.specs.Ring as Ring
-use Rattle.texts.specs.NestTexts.{readNest}
-use Rattle.texts.proofs.Accepted.{accepted-valid}
+use Rattle.paper_nests.specs.declared.Dependence as DE
+use Rattle.paper_nests.specs.Nests.{Dep, Nest}
+use Rattle.paper_nests.specs.Stored.{depsIn, nestIn}
+use Rattle.paper_nests.specs.Valid.{isValid}
+use Rattle.paper_nests.proofs.Deps.{valid-is}
+use Rattle.paper_nests.proofs.Flags.{flags-few}
+use Rattle.paper_order.specs.Verdicts.{Verdict, Uncut, Dearer, Best}
+use Rattle.paper_placements.proofs.Words.{holds-empty, gaps-none}
+use Rattle.desk_moves.specs.Ring as Ring
+use Rattle.paper_texts.specs.NestTexts.{readNest}
+use Rattle.paper_texts.proofs.Accepted.{accepted-valid}
 use Rattle.desk.specs.declared.Desk as DD
 use Rattle.desk.specs.declared.Reply as DR
 use Rattle.desk.specs.declared.Answer as DA

@@ -9,18 +9,18 @@ use lib.Dec.{eqb, ltb}
 use lib.ListN.{length, take, drop}
 use lib.Seq.{take-append-seam}
 use borrow.Author.Tests.{eq-eqb, le-leb}
-use Rattle.laws.specs.Choice.{pick, when}
+use Rattle.laws.specs.Choice.{when}
 use Rattle.laws.proofs.Choices.{first-zero}
-use Rattle.nests.specs.Kinds.{POINTS}
-use Rattle.lines.specs.Writing.{over}
-use Rattle.placements.specs.Verdicts.{Best, markOf}
-use Rattle.placements.proofs.Verdicts.{key-best}
-use Rattle.texts.specs.PlacementTexts.{Placed, placed, keyText}
-use Rattle.texts.proofs.ReadsBack.{reads-back}
+use Rattle.paper_nests.specs.Kinds.{POINTS}
+use Rattle.paper_lines.specs.Writing.{over}
+use Rattle.paper_order.specs.Verdicts.{Best, markOf}
+use Rattle.paper_order.proofs.Verdicts.{key-best}
+use Rattle.paper_texts.specs.PlacementTexts.{placed, keyText}
+use Rattle.paper_texts.proofs.ReadsBack.{reads-back}
 use Rattle.desk.specs.declared.Desk as DD
 use Rattle.desk.specs.declared.Answer as DA
-use Rattle.desk.specs.Desks.{deskIn, IsMade, stateFault, fault}
-use Rattle.desk.specs.Says.{Mark, given, refused, readIn, marked, writeFault, WriteSays}
+use Rattle.desk.specs.Desks.{deskIn, IsMade, stateFault}
+use Rattle.desk.specs.Says.{given, readIn, marked, writeFault, WriteSays}
 use Rattle.desk.specs.ReadAgain.{KeyBack, ReadAgain}
 use Rattle.desk.proofs.Ready.{ready, ready-has}
 use Rattle.desk.proofs.TwoDesks.{made-first}

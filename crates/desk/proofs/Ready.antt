@@ -9,18 +9,18 @@ use native.Mathlib.Omega.{arith}
 use lib.ListN.{length}
 use Rattle.laws.specs.Choice.{when, firstOf, isIn}
 use Rattle.laws.proofs.Tests.{le-or, false-by}
-use Rattle.nests.specs.Kinds.{POINTS}
-use Rattle.nests.specs.Nests.{Nest}
-use Rattle.nests.specs.Valid.{isShape, isValid}
-use Rattle.nests.specs.Stored.{nestIn, IsCounted}
-use Rattle.nests.proofs.Deps.{Valid, valid-is}
-use Rattle.nests.proofs.Bars.{gap-within, bar-is-gap}
-use Rattle.placements.specs.Placements.{areGapsFrom, areGaps, avoids}
-use Rattle.placements.specs.Words.{GAPS, holds, gapsIn}
-use Rattle.placements.proofs.Words.{in-gaps, in-gaps-beyond}
-use Rattle.keys.proofs.KeyGaps.{valid-gaps, valid-avoids}
-use Rattle.texts.specs.PlacementTexts.{Placed, placed, readPlacement}
-use Rattle.texts.proofs.PlacedTexts.{read-gaps, read-alike}
+use Rattle.paper_nests.specs.Kinds.{POINTS}
+use Rattle.paper_nests.specs.Nests.{Nest}
+use Rattle.paper_nests.specs.Valid.{isShape, isValid}
+use Rattle.paper_nests.specs.Stored.{nestIn, IsCounted}
+use Rattle.paper_nests.proofs.Deps.{valid-is}
+use Rattle.paper_nests.proofs.Bars.{gap-within, bar-is-gap}
+use Rattle.paper_placements.specs.Placements.{areGapsFrom, areGaps, avoids}
+use Rattle.paper_placements.specs.Words.{GAPS, holds, gapsIn}
+use Rattle.paper_placements.proofs.Words.{in-gaps, in-gaps-beyond}
+use Rattle.plan_theorem.proofs.KeyGaps.{valid-gaps, valid-avoids}
+use Rattle.paper_texts.specs.PlacementTexts.{Placed, placed, readPlacement}
+use Rattle.paper_texts.proofs.PlacedTexts.{read-gaps, read-alike}
 use Rattle.desk.specs.declared.Desk as DD
 use Rattle.desk.specs.Desks.{deskIn, IsMade, stateFault}
 

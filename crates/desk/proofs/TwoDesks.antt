@@ -8,13 +8,13 @@ use lib.Dec.{eqb}
 use lib.ListN.{length}
 use Rattle.laws.specs.Choice.{pick}
 use Rattle.laws.proofs.Tests.{never-both}
-use Rattle.nests.specs.Nests.{Dep, Nest}
-use Rattle.lines.specs.Writing.{over}
-use Rattle.placements.specs.Placements.{loopCount}
-use Rattle.texts.specs.PlacementTexts.{keyText}
-use Rattle.keys.specs.KeyOf.{keyOf}
-use Rattle.keys.specs.OneKey.{IsFirstKey}
-use Rattle.keys.proofs.KeyFirst.{key-is-first}
+use Rattle.paper_nests.specs.Nests.{Dep, Nest}
+use Rattle.paper_lines.specs.Writing.{over}
+use Rattle.paper_placements.specs.Placements.{loopCount}
+use Rattle.paper_texts.specs.PlacementTexts.{keyText}
+use Rattle.plan_theorem.specs.KeyOf.{keyOf}
+use Rattle.plan_theorem.specs.OneKey.{IsFirstKey}
+use Rattle.plan_theorem.proofs.KeyFirst.{key-is-first}
 use Rattle.desk.specs.declared.Desk as DD
 use Rattle.desk.specs.declared.Answer as DA
 use Rattle.desk.specs.Desks.{Desk, desk, deskIn, IsMade, listUncut}

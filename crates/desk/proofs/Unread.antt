@@ -8,10 +8,10 @@ use Prim.Native.Nat.{ℕ, suc}
 use lib.Dec.{eqb}
 use borrow.Author.Tests.{eqb-true}
 use Rattle.laws.specs.Choice.{pick}
-use Rattle.nests.specs.Kinds.{INDEPENDENT}
-use Rattle.nests.specs.Nests.{Dep, dep}
-use Rattle.nests.specs.Gaps.{hasGap}
-use Rattle.placements.specs.Placements.{cuts}
+use Rattle.paper_nests.specs.Kinds.{INDEPENDENT}
+use Rattle.paper_nests.specs.Nests.{Dep, dep}
+use Rattle.paper_nests.specs.Gaps.{hasGap}
+use Rattle.paper_placements.specs.Placements.{cuts}
 use Rattle.desk.specs.declared.Desk as DD
 use Rattle.desk.specs.declared.Answer as DA
 use Rattle.desk.specs.Desks.{Desk, deskIn, stateFault, Fault, fault, recordFault, listFault, listUncut}

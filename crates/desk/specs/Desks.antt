@@ -4,22 +4,22 @@
 use mathlib.Core.Path.{_≡_}
 use mathlib.Core.Bool.{Bool, true, false, _&&_, _||_, not}
 use mathlib.Core.List.{List, [], _∷_}
-use Prim.Native.Nat.{ℕ, zero, suc}
+use Prim.Native.Nat.{ℕ, suc}
 use lib.Dec.{eqb}
 use Rattle.laws.specs.Choice.{pick, when, firstOf}
-use Rattle.nests.specs.Kinds.{INDEPENDENT, CARRIED}
-use Rattle.nests.specs.Nests.{Dep, Nest, empty}
-use Rattle.nests.specs.Valid.{isValid, depFault}
-use Rattle.nests.specs.Stored.{nestIn, IsCounted}
-use Rattle.placements.specs.Placements.{cuts, avoids}
-use Rattle.placements.specs.Words.{gapsIn}
-use Rattle.barred.specs.Reduced.{isBlocked}
-use Rattle.keys.specs.KeyOf.{keyOf}
-use Rattle.sitting.specs.Kept.{barriers, Kept}
-use Rattle.moves.specs.declared.Move as DM
-use Rattle.moves.specs.Ring.{movesIn, IsRing}
-use Rattle.moves.specs.TakeBack.{Play, play, History}
-use Rattle.moves.specs.Game.{sittingGame}
+use Rattle.paper_nests.specs.Kinds.{INDEPENDENT, CARRIED}
+use Rattle.paper_nests.specs.Nests.{Dep, Nest, empty}
+use Rattle.paper_nests.specs.Valid.{isValid, depFault}
+use Rattle.paper_nests.specs.Stored.{nestIn, IsCounted}
+use Rattle.paper_placements.specs.Placements.{cuts, avoids}
+use Rattle.paper_placements.specs.Words.{gapsIn}
+use Rattle.paper_barred.specs.Reduced.{isBlocked}
+use Rattle.plan_theorem.specs.KeyOf.{keyOf}
+use Rattle.desk_sitting.specs.Kept.{barriers, Kept}
+use Rattle.desk_moves.specs.declared.Move as DM
+use Rattle.desk_moves.specs.Ring.{movesIn, IsRing}
+use Rattle.desk_moves.specs.TakeBack.{Play, play, History}
+use Rattle.desk_moves.specs.Game.{sittingGame}
 use Rattle.desk.specs.declared.Desk as DD
 use Rattle.desk.specs.declared.PlainDesk as OD
 

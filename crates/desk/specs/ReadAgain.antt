@@ -4,8 +4,8 @@ use mathlib.Core.Path.{_≡_}
 use mathlib.Core.List.{List}
 use Prim.Native.Nat.{ℕ}
 use lib.ListN.{take}
-use Rattle.placements.specs.Verdicts.{Best}
-use Rattle.texts.specs.PlacementTexts.{placed}
+use Rattle.paper_order.specs.Verdicts.{Best}
+use Rattle.paper_texts.specs.PlacementTexts.{placed}
 use Rattle.desk.specs.declared.Desk as DD
 use Rattle.desk.specs.declared.Answer as DA
 use Rattle.desk.specs.declared.Marked as DM

@@ -1,23 +1,23 @@
 -- What the public calls promise: reply, desk after, every lent byte.
 -- Main definitions: `EmptySays`, `LoadSays`, `PlanSays`, `ChosenSays`, `CountSays`, `MarkSays`, `WriteSays`, `OverSays`.
 use mathlib.Core.Path.{_≡_}
-use mathlib.Core.Bool.{Bool, true, false, not}
-use mathlib.Core.List.{List, [], _∷_}
-use Prim.Native.Nat.{ℕ, zero, suc}
-use lib.Dec.{eqb, ltb, leb}
+use mathlib.Core.Bool.{true, not}
+use mathlib.Core.List.{List, []}
+use Prim.Native.Nat.{ℕ}
+use lib.Dec.{eqb, ltb}
 use lib.ListN.{length}
 use Rattle.laws.specs.Choice.{pick, pickT, when, firstOf}
-use Rattle.nests.specs.Nests.{Dep, Nest}
-use Rattle.nests.specs.Loops.{isDo}
-use Rattle.nests.specs.Stored.{nestIn, IsCounted}
-use Rattle.lines.specs.Writing.{over}
-use Rattle.placements.specs.Placements.{loopCount}
-use Rattle.placements.specs.Words.{gapsIn}
-use Rattle.placements.specs.Verdicts.{Verdict, Uncut, Dearer, Best, markOf}
-use Rattle.sitting.specs.Kept.{Kept}
-use Rattle.moves.specs.Ring.{IsRing}
-use Rattle.texts.specs.NestTexts.{Got, readNest}
-use Rattle.texts.specs.PlacementTexts.{Placed, readPlacement, keyText}
+use Rattle.paper_nests.specs.Nests.{Dep}
+use Rattle.paper_nests.specs.Loops.{isDo}
+use Rattle.paper_nests.specs.Stored.{nestIn, IsCounted}
+use Rattle.paper_lines.specs.Writing.{over}
+use Rattle.paper_placements.specs.Placements.{loopCount}
+use Rattle.paper_placements.specs.Words.{gapsIn}
+use Rattle.paper_order.specs.Verdicts.{Verdict, Uncut, Dearer, Best, markOf}
+use Rattle.desk_sitting.specs.Kept.{Kept}
+use Rattle.desk_moves.specs.Ring.{IsRing}
+use Rattle.paper_texts.specs.NestTexts.{readNest}
+use Rattle.paper_texts.specs.PlacementTexts.{Placed, readPlacement, keyText}
 use Rattle.desk.specs.declared.Desk as DD
 use Rattle.desk.specs.declared.PlainDesk as OD
 use Rattle.desk.specs.declared.Reply as DR

@@ -5,17 +5,17 @@ use mathlib.Core.Bool.{true}
 use mathlib.Core.List.{List}
 use Prim.Native.Nat.{ℕ}
 use Rattle.laws.specs.Choice.{pickT}
-use Rattle.nests.specs.Ring.{oneLoop}
-use Rattle.nests.specs.Stored.{nestIn}
-use Rattle.placements.specs.Placements.{isCorrect}
-use Rattle.placements.specs.Trees.{treeOf, asGoodTree}
-use Rattle.placements.specs.Keys.{IsKey, By-loops, LeastOnRing}
-use Rattle.moves.specs.declared.Move as DM
-use Rattle.moves.specs.TakeBack.{Play}
-use Rattle.texts.specs.NestTexts.{readNest}
-use Rattle.barred.specs.Reduced.{isBlocked}
-use Rattle.keys.specs.KeyOf.{keyOf}
-use Rattle.keys.specs.OneKey.{IsFirstKey, IsFirstSmallest}
+use Rattle.paper_nests.specs.Ring.{oneLoop}
+use Rattle.paper_nests.specs.Stored.{nestIn}
+use Rattle.paper_placements.specs.Placements.{isCorrect}
+use Rattle.paper_order.specs.Trees.{treeOf, asGoodTree}
+use Rattle.paper_order.specs.Keys.{IsKey, By-loops, LeastOnRing}
+use Rattle.desk_moves.specs.declared.Move as DM
+use Rattle.desk_moves.specs.TakeBack.{Play}
+use Rattle.paper_texts.specs.NestTexts.{readNest}
+use Rattle.paper_barred.specs.Reduced.{isBlocked}
+use Rattle.plan_theorem.specs.KeyOf.{keyOf}
+use Rattle.plan_theorem.specs.OneKey.{IsFirstKey, IsFirstSmallest}
 use Rattle.desk.specs.declared.Desk as DD
 use Rattle.desk.specs.declared.PlainDesk as OD
 use Rattle.desk.specs.declared.Reply as DR

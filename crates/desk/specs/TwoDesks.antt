@@ -3,7 +3,7 @@
 use mathlib.Core.Path.{_≡_}
 use mathlib.Core.List.{List}
 use Prim.Native.Nat.{ℕ}
-use Rattle.nests.specs.Nests.{Dep}
+use Rattle.paper_nests.specs.Nests.{Dep}
 use Rattle.desk.specs.declared.Desk as DD
 use Rattle.desk.specs.declared.Answer as DA
 use Rattle.desk.specs.declared.Marked as DM

@@ -4,19 +4,19 @@ ghost use mathlib.Core.Path.{_≡_};
 ghost use Rattle.desk.specs.Desks.{IsMade, IsMadePlain};
 ghost use mathlib.Core.Bool.{true, not};
 ghost use Rattle.laws.specs.Choice.{when, firstOf};
-ghost use Rattle.nests.specs.Valid.{isValid};
-ghost use Rattle.nests.specs.Stored.{nestIn, IsCounted};
-ghost use Rattle.placements.specs.Placements.{areGaps};
-ghost use Rattle.placements.specs.Words.{gapsIn};
-ghost use Rattle.placements.specs.Verdicts.{markOf};
+ghost use Rattle.paper_nests.specs.Valid.{isValid};
+ghost use Rattle.paper_nests.specs.Stored.{nestIn, IsCounted};
+ghost use Rattle.paper_placements.specs.Placements.{areGaps};
+ghost use Rattle.paper_placements.specs.Words.{gapsIn};
+ghost use Rattle.paper_order.specs.Verdicts.{markOf};
 ghost use Rattle.desk.specs.Says.{EmptySays, LoadSays, PlanSays, CountSays, MarkSays, WriteSays, OverSays};
 ghost use Rattle.desk.specs.Says.{RefusedAs, NotChosen, verdictIn};
-use moves::Moves;
-use nests::Nest;
-use placements::Compared;
-use placements::Counts;
-use placements::Placement;
-use sitting::Sitting;
+use desk_moves::Moves;
+use desk_sitting::Sitting;
+use paper_nests::Nest;
+use paper_placements::Compared;
+use paper_placements::Counts;
+use paper_placements::Placement;
 
 // A desk: whether there is a nest, the nest, whether there is a key, the key, the candidate's sitting, the moves that
 // can be taken back.
@@ -102,7 +102,7 @@ impl Desk {
 pub fn load_nest(desk: Desk, text: &[u8]) -> Reply
     ensures { λ r. ⌜ LoadSays desk (now (text .entry)) r ⌝ }
 {
-    let reading = texts::read_nest(text);
+    let reading = paper_texts::read_nest(text);
     let number = reading.number;
     if number != 0 {
         return Reply {
@@ -134,7 +134,7 @@ pub fn plan_key(desk: Desk) -> Reply
     let loaded = desk.loaded;
     if loaded {
         let nest = desk.nest;
-        let paper = foundation::plan_paper(nest);
+        let paper = plan_paper::plan_paper(nest);
         if paper.blocked {
             return Reply {
                 number: 15,
@@ -178,11 +178,11 @@ pub fn loop_count(desk: Desk, point: usize) -> Answer
     let count = nest.count;
     let points = nest.points;
     let key = desk.key;
-    if nests::is_do(&points[..count], point) {
+    if paper_nests::is_do(&points[..count], point) {
         return Answer {
             number: 0,
             line: 0,
-            value: placements::count_of(&points[..count], point, key),
+            value: paper_placements::count_of(&points[..count], point, key),
         };
     }
     refused(6)
@@ -201,7 +201,7 @@ pub fn mark_placement(desk: Desk, text: &[u8]) -> Marked
         });
     }
     let nest = desk.nest;
-    let reading = texts::read_placement(nest.count, barred::barred_of(nest), text);
+    let reading = paper_texts::read_placement(nest.count, paper_barred::barred_of(nest), text);
     if reading.number != 0 {
         return Marked::Refused(Fault {
             number: reading.number,
@@ -222,14 +222,14 @@ pub fn write_key(desk: Desk, out: &mut [u8]) -> Answer
         return refused(number);
     }
     let key = desk.key;
-    let length = texts::text_length(key);
+    let length = paper_texts::text_length(key);
     if out.len() < length {
         return refused(9);
     }
     Answer {
         number: 0,
         line: 0,
-        value: texts::write_text(key, out),
+        value: paper_texts::write_text(key, out),
     }
 }
 
@@ -272,13 +272,13 @@ pub fn judge(nest: Nest, key: Placement, placement: Placement) -> Verdict
     requires { ⌜ areGaps (nestIn nest) (gapsIn (placement .words)) ≡ true ⌝ }
     ensures { λ r. ⌜ verdictIn r ≡ markOf (nestIn nest) (gapsIn (key .words)) (gapsIn (placement .words)) ⌝ }
 {
-    let first = placements::uncut(nest, placement);
+    let first = paper_placements::uncut(nest, placement);
     if first != 0 {
         return Verdict::Uncut(first - 1);
     }
     let count = nest.count;
     let points = nest.points;
-    let compared = placements::compare(&points[..count], key, placement);
+    let compared = paper_placements::compare(&points[..count], key, placement);
     match compared {
         Compared::Differ(counts) => Verdict::Dearer(counts),
         Compared::Same => Verdict::Best,

@@ -4,17 +4,16 @@
 use mathlib.Core.Path.{_≡_, refl, sym, _∙_, ap}
 use mathlib.Core.Bool.{false}
 use mathlib.Core.List.{List, [], _∷_, _++_}
-use Prim.Native.Nat.{ℕ, zero, suc, _+_, _-_, _≤_, _<_}
+use Prim.Native.Nat.{ℕ, zero, suc, _+_, _≤_, _<_}
 use native.Mathlib.Omega.{arith}
 use lib.Dec.{eqb}
 use lib.ListN.{length, drop, getD, length-drop}
 use lib.Seq.{drop-cons}
 use borrow.Author.Tests.{ne-eqb}
-use Rattle.laws.specs.Choice.{pick}
-use Rattle.nests.specs.Nests.{Dep, dep}
+use Rattle.paper_nests.specs.Nests.{Dep, dep}
 use Rattle.desk.specs.declared.Answer as DA
 use Rattle.desk.specs.Desks.{Desk, recordFault, fault, listFault}
-use Rattle.listing.specs.Lists.{begun, stepOf, stepsFrom}
+use Rattle.call_list.specs.Lists.{begun, stepOf, stepsFrom}
 use Rattle.host.specs.Records.{noRecord, recordsOf, bytesOf, WholeRecords, LeftOver}
 
 -- a is the answer after i records, which lie before the byte at `at`: the rest makes of it what the whole list makes of

@@ -1,7 +1,7 @@
 -- Mark's answer in numbers alone.
 -- Main definitions: `verdictOut`, `markOut`.
 use Prim.Native.Nat.{ℕ}
-use Rattle.placements.specs.Verdicts.{Verdict, Uncut, Dearer, Best, verdictCode}
+use Rattle.paper_order.specs.Verdicts.{Verdict, Uncut, Dearer, Best, verdictCode}
 use Rattle.desk.specs.Says.{Mark, refused, given}
 use Rattle.host.specs.declared.Mark as HM
 

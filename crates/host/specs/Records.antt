@@ -4,7 +4,7 @@ use mathlib.Core.Path.{_≡_}
 use mathlib.Core.List.{List, [], _∷_, _++_}
 use Prim.Native.Nat.{ℕ, _+_, _<_}
 use lib.ListN.{length}
-use Rattle.nests.specs.Nests.{Dep, dep}
+use Rattle.paper_nests.specs.Nests.{Dep, dep}
 use Rattle.desk.specs.Desks.{fault, listFault}
 
 -- a record of no kind: 01, "Numbers from the input", gives it number 2, whatever the points

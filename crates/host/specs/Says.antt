@@ -7,8 +7,8 @@ use Prim.Native.Nat.{ℕ}
 use lib.Dec.{eqb, ltb}
 use lib.ListN.{length}
 use Rattle.laws.specs.Choice.{pick, when, firstOf}
-use Rattle.lines.specs.Writing.{over}
-use Rattle.texts.specs.PlacementTexts.{keyText}
+use Rattle.paper_lines.specs.Writing.{over}
+use Rattle.paper_texts.specs.PlacementTexts.{keyText}
 use Rattle.desk.specs.declared.Desk as DD
 use Rattle.desk.specs.declared.Answer as DA
 use Rattle.desk.specs.Desks.{Desk, deskIn, stateFault}

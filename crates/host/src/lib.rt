@@ -1,24 +1,28 @@
 // The desk for programs in other languages: each call under its C name, over structs laid out as C lays them out. Most
 // only forward. desk.h beside this folder declares them all.
-ghost use Rattle.comparing.specs.Says.{CompareSays};
-ghost use Rattle.counting.specs.Says.{CallsSays, PlacementSays};
+ghost use Rattle.call_compare.specs.Says.{CompareSays};
+ghost use Rattle.call_runs.specs.Says.{CallsSays, PlacementSays};
 ghost use Rattle.desk.specs.Desks.{IsMade, IsMadePlain};
 ghost use Rattle.desk.specs.Says.{EmptySays, LoadSays, PlanSays, CountSays, WriteSays, ListSays, OverSays};
 ghost use Rattle.desk.specs.Says.{markIn, verdictIn};
-ghost use Rattle.improving.specs.Says.{ImproveSays};
-ghost use Rattle.joining.specs.Says.{JoinSays};
-ghost use Rattle.screen.specs.Says.{PutSays, LiftSays, BackSays};
-ghost use Rattle.sheets.specs.Says.{endsOf};
-ghost use Rattle.sheets.specs.Sheets.{sheet};
-ghost use Rattle.skipping.specs.Says.{MissingSays};
-ghost use Rattle.slips.specs.Says.{CandidateSays, ExaminerSays};
-ghost use Rattle.textbook.specs.Says.{TextbookSays};
+ghost use Rattle.call_improve.specs.Says.{ImproveSays};
+ghost use Rattle.call_join.specs.Says.{JoinSays};
+ghost use Rattle.call_moves.specs.Says.{PutSays, LiftSays, BackSays};
+ghost use Rattle.call_sheet.specs.Says.{endsOf};
+ghost use Rattle.call_sheet.specs.Sheets.{sheet};
+ghost use Rattle.call_missing.specs.Says.{MissingSays};
+ghost use Rattle.call_slips.specs.Says.{CandidateSays, ExaminerSays};
+ghost use Rattle.call_textbook.specs.Says.{TextbookSays};
 ghost use Rattle.host.specs.Says.{MarkSays, SittingSays};
 ghost use Rattle.host.specs.Marks.{coded, markOut, verdictOut};
 ghost use Rattle.host.specs.Records.{recordsOf};
 ghost use mathlib.Core.Path.{_≡_};
-use comparing::Compared;
-use counting::Calls;
+use call_compare::Compared;
+use call_improve::Improved;
+use call_join::Joined;
+use call_moves::Moved;
+use call_runs::Calls;
+use call_sheet::RunEnds;
 use desk::Answer;
 use desk::Chosen;
 use desk::Desk;
@@ -26,11 +30,7 @@ use desk::Marked;
 use desk::PlainDesk;
 use desk::Reply;
 use desk::Verdict;
-use improving::Improved;
-use joining::Joined;
-use nests::Dependence;
-use screen::Moved;
-use sheets::RunEnds;
+use paper_nests::Dependence;
 
 // Mark's answer in numbers alone: the number and the line of a refusal, or 0 and 0 with the verdict's code. Uncut (0)
 // has a dependence in a; Dearer (1) has a loop in a, their count in b and our count in c; Best is 2. All else is 0.
@@ -111,7 +111,7 @@ pub extern "C" fn desk_list(desk: Desk, list: &[u8]) -> Answer
     requires { ⌜ IsMade desk ⌝ }
     ensures { λ r. ⌜ ListSays desk (recordsOf (now (list .entry))) r ⌝ }
 {
-    let mut found = listing::begin(desk);
+    let mut found = call_list::begin(desk);
     let mut i: usize = 0;
     let mut at: usize = 0;
     while RECORD <= list.len() - at {
@@ -121,7 +121,7 @@ pub extern "C" fn desk_list(desk: Desk, list: &[u8]) -> Answer
             s: list[at + 2],
             t: list[at + 3],
         };
-        found = listing::step(desk, found, e, i);
+        found = call_list::step(desk, found, e, i);
         i += 1;
         at += RECORD;
     }
@@ -132,7 +132,7 @@ pub extern "C" fn desk_list(desk: Desk, list: &[u8]) -> Answer
             s: 0,
             t: 0,
         };
-        return listing::step(desk, found, none, i);
+        return call_list::step(desk, found, none, i);
     }
     found
 }
@@ -142,7 +142,7 @@ pub extern "C" fn desk_put(desk: Desk, gap: usize) -> Moved
     requires { ⌜ IsMade desk ⌝ }
     ensures { λ r. ⌜ PutSays desk gap r ⌝ }
 {
-    screen::put_gap(desk, gap)
+    call_moves::put_gap(desk, gap)
 }
 
 #[no_mangle]
@@ -150,7 +150,7 @@ pub extern "C" fn desk_lift(desk: Desk, gap: usize) -> Moved
     requires { ⌜ IsMade desk ⌝ }
     ensures { λ r. ⌜ LiftSays desk gap r ⌝ }
 {
-    screen::lift_gap(desk, gap)
+    call_moves::lift_gap(desk, gap)
 }
 
 #[no_mangle]
@@ -158,7 +158,7 @@ pub extern "C" fn desk_take_back(desk: Desk) -> Moved
     requires { ⌜ IsMade desk ⌝ }
     ensures { λ r. ⌜ BackSays desk r ⌝ }
 {
-    screen::take_back(desk)
+    call_moves::take_back(desk)
 }
 
 // Writes the sitting as text, as Write writes the key. Numbers 10, 9.
@@ -179,7 +179,7 @@ pub extern "C" fn desk_textbook(desk: Desk) -> Chosen
     requires { ⌜ IsMade desk ⌝ }
     ensures { λ r. ⌜ TextbookSays desk r ⌝ }
 {
-    textbook::textbook(desk)
+    call_textbook::textbook(desk)
 }
 
 #[no_mangle]
@@ -187,7 +187,7 @@ pub extern "C" fn desk_candidate_slip(desk: Desk, text: &[u8], out: &mut [u8]) -
     requires { ⌜ IsMade desk ⌝ }
     ensures { λ r. ⌜ CandidateSays desk (now (text .entry)) (now (out .entry)) (now (out .exit)) r ⌝ }
 {
-    slips::candidate_slip(desk, text, out)
+    call_slips::candidate_slip(desk, text, out)
 }
 
 #[no_mangle]
@@ -195,7 +195,7 @@ pub extern "C" fn desk_examiner_slip(desk: Desk, text: &[u8], out: &mut [u8]) ->
     requires { ⌜ IsMade desk ⌝ }
     ensures { λ r. ⌜ ExaminerSays desk (now (text .entry)) (now (out .entry)) (now (out .exit)) r ⌝ }
 {
-    slips::examiner_slip(desk, text, out)
+    call_slips::examiner_slip(desk, text, out)
 }
 
 #[no_mangle]
@@ -203,7 +203,7 @@ pub extern "C" fn desk_compare(desk: Desk, a: &[u8], b: &[u8]) -> Compared
     requires { ⌜ IsMade desk ⌝ }
     ensures { λ r. ⌜ CompareSays desk (now (a .entry)) (now (b .entry)) r ⌝ }
 {
-    comparing::compare(desk, a, b)
+    call_compare::compare(desk, a, b)
 }
 
 #[no_mangle]
@@ -211,7 +211,7 @@ pub extern "C" fn desk_missing_runs(desk: Desk) -> Chosen
     requires { ⌜ IsMade desk ⌝ }
     ensures { λ r. ⌜ MissingSays desk r ⌝ }
 {
-    skipping::missing_runs(desk)
+    call_missing::missing_runs(desk)
 }
 
 #[no_mangle]
@@ -219,7 +219,7 @@ pub extern "C" fn desk_count_calls(desk: Desk, turns: &[u8]) -> Calls
     requires { ⌜ IsMade desk ⌝ }
     ensures { λ r. ⌜ CallsSays desk (now (turns .entry)) r ⌝ }
 {
-    counting::count_calls(desk, turns)
+    call_runs::count_calls(desk, turns)
 }
 
 #[no_mangle]
@@ -227,7 +227,7 @@ pub extern "C" fn desk_placement_calls(desk: Desk, text: &[u8], turns: &[u8]) ->
     requires { ⌜ IsMade desk ⌝ }
     ensures { λ r. ⌜ PlacementSays desk (now (text .entry)) (now (turns .entry)) r ⌝ }
 {
-    counting::placement_calls(desk, text, turns)
+    call_runs::placement_calls(desk, text, turns)
 }
 
 #[no_mangle]
@@ -235,14 +235,14 @@ pub extern "C" fn desk_improve(desk: Desk, turns: &[u8], budget: usize) -> Impro
     requires { ⌜ IsMade desk ⌝ }
     ensures { λ r. ⌜ ImproveSays desk (now (turns .entry)) budget r ⌝ }
 {
-    improving::improve(desk, turns, budget)
+    call_improve::improve(desk, turns, budget)
 }
 
 #[no_mangle]
 pub extern "C" fn desk_join(a: &[u8], b: &[u8], out: &mut [u8]) -> Joined
     ensures { λ r. ⌜ JoinSays (now (a .entry)) (now (b .entry)) (now (out .entry)) (now (out .exit)) r ⌝ }
 {
-    joining::join(a, b, out)
+    call_join::join(a, b, out)
 }
 
 #[no_mangle]
@@ -254,7 +254,7 @@ pub extern "C" fn desk_sheet(
 ) -> RunEnds
     ensures { λ r. ⌜ r ≡ endsOf (sheet processors phases (now (durations .entry)) (now (waits .entry))) ⌝ }
 {
-    sheets::ends(processors, phases, durations, waits)
+    call_sheet::ends(processors, phases, durations, waits)
 }
 
 #[no_mangle]

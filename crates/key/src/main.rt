@@ -40,7 +40,7 @@ fn main() {
         Input::Failed => os::fail(b"key: standard input was not read"),
         Input::Whole(read) => {
             let mut out = io::buffer();
-            let length = answers::answer(&input[..read], &mut out);
+            let length = key_answer::answer(&input[..read], &mut out);
             if !io::write_all(STDOUT_FILENO, &out[..length]) {
                 os::fail(b"key: the answer was not written");
             }

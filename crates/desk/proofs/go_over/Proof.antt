@@ -2,7 +2,7 @@
 -- key of its nest where it had one (`over-planned`, `over-bare`).
 use mathlib.Core.Path.{refl}
 use borrow.Author.Needs.{needs}
-use Rattle.placements.proofs.Words.{gaps-none}
+use Rattle.paper_placements.proofs.Words.{gaps-none}
 use Rattle.desk.proofs.Held.{held}
 use Rattle.desk.proofs.Over.{bare-made, over-planned, over-bare}
 use Rattle.desk.proofs.go_over.Statement.{statement}

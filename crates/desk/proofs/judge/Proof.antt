@@ -1,10 +1,10 @@
 -- `judge` meets its contract: the verdict follows from what the uncut test and the comparison answer (proofs/Judged).
-use mathlib.Core.Path.{_≡_, refl, sym, _∙_, ap}
-use Rattle.nests.specs.Stored.{nestIn}
-use Rattle.nests.proofs.Stored.{counted-points}
-use Rattle.nests.proofs.Deps.{valid-is}
-use Rattle.placements.specs.Answers.{differenceIn}
-use Rattle.placements.specs.Words.{gapsIn}
+use mathlib.Core.Path.{refl, sym, _∙_, ap}
+use Rattle.paper_nests.specs.Stored.{nestIn}
+use Rattle.paper_nests.proofs.Stored.{counted-points}
+use Rattle.paper_nests.proofs.Deps.{valid-is}
+use Rattle.paper_placements.specs.Answers.{differenceIn}
+use Rattle.paper_placements.specs.Words.{gapsIn}
 use Rattle.desk.proofs.Judged.{uncut-is, dearer-is, best-is}
 use borrow.Author.Needs.{needs}
 use Rattle.desk.proofs.judge.Statement.{statement}

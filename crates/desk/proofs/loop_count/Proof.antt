@@ -1,7 +1,7 @@
 -- `loop_count` meets its contract: one law for each way through it (proofs/Answers). A desk with a key is ready for the
 -- count (`ready`).
-use mathlib.Core.Path.{_≡_, refl, sym, _∙_}
-use Rattle.nests.proofs.Stored.{counted-points}
+use mathlib.Core.Path.{refl, sym, _∙_}
+use Rattle.paper_nests.proofs.Stored.{counted-points}
 use Rattle.desk.specs.Desks.{deskIn}
 use Rattle.desk.proofs.Answers.{count-refused, count-no-do, count-is}
 use Rattle.desk.proofs.Ready.{ready}

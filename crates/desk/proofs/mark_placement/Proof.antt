@@ -3,9 +3,9 @@
 use mathlib.Core.Path.{_≡_, sym, _∙_}
 use mathlib.Core.Bool.{true}
 use lib.ListN.{length}
-use Rattle.nests.specs.Stored.{nestIn}
-use Rattle.placements.specs.Words.{gapsIn}
-use Rattle.texts.specs.PlacementTexts.{placed}
+use Rattle.paper_nests.specs.Stored.{nestIn}
+use Rattle.paper_placements.specs.Words.{gapsIn}
+use Rattle.paper_texts.specs.PlacementTexts.{placed}
 use Rattle.desk.specs.Desks.{deskIn, stateFault}
 use Rattle.desk.specs.Says.{readIn}
 use Rattle.desk.proofs.Answers.{mark-refused, mark-unread, mark-given}

@@ -1,7 +1,7 @@
 -- `not_chosen` meets its contract: the empty placement has no gap (`gaps-none`).
 use mathlib.Core.Path.{refl}
 use borrow.Author.Needs.{needs}
-use Rattle.placements.proofs.Words.{gaps-none}
+use Rattle.paper_placements.proofs.Words.{gaps-none}
 use Rattle.desk.proofs.not_chosen.Statement.{statement}
 use Rattle.desk.proofs.not_chosen.Tie as tie
 

@@ -1,5 +1,5 @@
 -- `write_key` meets its contract: one law for each way through it (proofs/Answers).
-use mathlib.Core.Path.{_≡_, refl, sym, _∙_}
+use mathlib.Core.Path.{refl, sym, _∙_}
 use native.Mathlib.Omega.{arith}
 use Rattle.desk.proofs.Answers.{write-refused, write-short, written}
 use borrow.Author.Needs.{needs}

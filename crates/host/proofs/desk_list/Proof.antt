@@ -4,7 +4,7 @@ use native.Mathlib.Omega.{arith}
 use lib.ListN.{length}
 use Rattle.desk.specs.Desks.{deskIn}
 use Rattle.host.specs.Records.{recordsOf}
-use Rattle.listing.proofs.Steps.{steps-say}
+use Rattle.call_list.proofs.Steps.{steps-say}
 use Rattle.host.proofs.Bytes.{Taken, taken-none, taken-one, taken-left, taken-all}
 use borrow.Author.Needs.{needs}
 use Rattle.host.proofs.desk_list.Statement.{statement}

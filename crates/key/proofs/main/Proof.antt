@@ -3,7 +3,7 @@
 use mathlib.Core.Path.{sym, subst}
 use lib.Seq.{length-take-le}
 use borrow.Author.Needs.{needs}
-use Rattle.answers.proofs.Answering.{answer-within}
+use Rattle.key_answer.proofs.Answering.{answer-within}
 use Rattle.key.specs.declared.Input.{Input}
 use Rattle.key.specs.Inputs.{IsWithin}
 use Rattle.key.proofs.main.Statement.{statement}

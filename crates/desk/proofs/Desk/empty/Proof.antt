@@ -3,12 +3,6 @@ use borrow.Author.Needs.{needs}
 use Rattle.desk.proofs.Held.{held-empty}
 use Rattle.desk.proofs.Desk.empty.Statement.{statement}
 use Rattle.desk.proofs.Desk.empty.Tie as tie
-use Rattle.desk.proofs.Desk.empty.Reads as reads
-use Rattle.desk.proofs.Desk.empty.Lts as lts
-use Rattle.nests.proofs.Nest.empty.Reads as Nest-empty-reads
-use Rattle.placements.proofs.Placement.empty.Reads as Placement-empty-reads
-use Rattle.sitting.proofs.Sitting.empty.Reads as Sitting-empty-reads
-use Rattle.moves.proofs.Moves.empty.Reads as Moves-empty-reads
 
 empty-requires : tie.Need-empty-requires
 empty-requires c κs = search needs

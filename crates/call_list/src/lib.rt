@@ -1,0 +1,86 @@
+// Extra dependences, lent as a list: the first faulty record, else the first that the key doesn't cut.
+ghost use mathlib.Core.Path.{_≡_};
+ghost use Prim.Native.Nat.{_+_, _^_, _<_};
+ghost use Rattle.paper_nests.specs.Stored.{depIn, IsCounted};
+ghost use Rattle.desk.specs.Desks.{deskIn, IsMade, recordFault};
+ghost use Rattle.desk.specs.Says.{ListSays};
+ghost use Rattle.call_list.specs.Lists.{allDeps, begun, stepOf};
+use desk::Answer;
+use desk::Desk;
+use paper_nests::CARRIED;
+use paper_nests::Dependence;
+use paper_nests::INDEPENDENT;
+use paper_placements::Cut;
+
+// What is wrong with the first faulty record of the list, else the place of the first that the key doesn't cut, or 0.
+// Numbers 10, 11, then 2, 6, 7 with the record's place from 1.
+pub fn check_list(desk: Desk, list: &[Dependence]) -> Answer
+    requires { ⌜ IsMade desk ⌝ }
+    ensures { λ r. ⌜ ListSays desk (allDeps (now (list .entry))) r ⌝ }
+{
+    let mut found = begin(desk);
+    let mut i = 0;
+    while i < list.len() {
+        found = step(desk, found, list[i], i);
+        i += 1;
+    }
+    found
+}
+
+// The answer before the first record: 10, 11, or nothing yet.
+pub fn begin(desk: Desk) -> Answer
+    ensures { λ r. ⌜ r ≡ begun (deskIn desk) ⌝ }
+{
+    let number = desk::key_fault(desk.loaded, desk.planned);
+    desk::refused(number)
+}
+
+// The answer after the record at index i of the list. A refusal stays; a faulty record refuses with its place, i + 1,
+// which is at most the list's length and so does not wrap.
+pub fn step(desk: Desk, found: Answer, e: Dependence, i: usize) -> Answer
+    requires { ⌜ IsCounted (desk .nest) × (i + 1 < 2 ^ 64) ⌝ }
+    ensures { λ r. ⌜ r ≡ stepOf (deskIn desk) found (depIn e) i ⌝ }
+{
+    if found.number != 0 {
+        return found;
+    }
+    let nest = desk.nest;
+    let count = nest.count;
+    let points = nest.points;
+    let number = record_fault(&points[..count], e);
+    if number != 0 {
+        return Answer {
+            number: number,
+            line: i + 1,
+            value: 0,
+        };
+    }
+    if found.value != 0 {
+        return found;
+    }
+    let key = desk.key;
+    let cut = paper_placements::cut_by(&points[..count], key, e);
+    match cut {
+        Cut::Uncut => Answer {
+            number: 0,
+            line: 0,
+            value: i + 1,
+        },
+        Cut::By(_) => found,
+    }
+}
+
+// The refusal of a listed record: 2 for an unknown kind, 6 or 7, or 0 for none.
+fn record_fault(points: &[u8], e: Dependence) -> u8
+    ensures { λ r. ⌜ r ≡ recordFault (now (points .entry)) (depIn e) ⌝ }
+{
+    let kind = e.kind;
+    match kind {
+        INDEPENDENT => paper_nests::dep_fault(points, 0, e),
+        CARRIED => {
+            let end = paper_nests::end_of(points, e.d as usize);
+            paper_nests::dep_fault(points, end, e)
+        }
+        _ => 2,
+    }
+}

@@ -1,0 +1,380 @@
+-- The calls at the screen keep the page of jobs 4 and 5.
+-- Main statement: `sittings-kept`.
+use mathlib.Core.Path.{_≡_, refl, sym, _∙_, ap, subst}
+use mathlib.Core.Bool.{Bool, true, false, _&&_, not}
+use mathlib.Core.List.{List, [], _∷_}
+use mathlib.Core.Logic.{_⊎_, inl, inr, ⊎-elim, _↔_}
+use Prim.Native.Nat.{ℕ, zero, suc, _+_, _≤_}
+use native.Mathlib.Omega.{arith}
+use lib.Dec.{eqb, ltb}
+use lib.ListN.{length, getD}
+use borrow.Author.Tests.{eq-eqb, ne-eqb, eqb-true, ltb-true, lt-ltb}
+use Rattle.laws.specs.Bits.{one}
+use Rattle.laws.specs.Choice.{pick, when, firstOf, isIn}
+use Rattle.laws.proofs.Tests.{never, never-both, and-true, and-intro, or-true, or-left, or-right}
+use Rattle.paper_nests.specs.declared.Dependence as DE
+use Rattle.paper_nests.specs.Nests.{Nest}
+use Rattle.paper_nests.specs.Gaps.{isGap, hasGap}
+use Rattle.paper_nests.specs.Valid.{isValid}
+use Rattle.paper_nests.specs.Stored.{nestIn, depIn}
+use Rattle.paper_nests.proofs.Deps.{Fits}
+use Rattle.paper_placements.specs.Placements.{cuts, areGapsFrom}
+use Rattle.paper_placements.specs.Words.{gapsIn}
+use Rattle.paper_placements.specs.GapLists.{withGap, without}
+use Rattle.paper_placements.proofs.GapLists.{in-with, in-without}
+use Rattle.paper_placements.proofs.Rising.{rising-wider}
+use Rattle.desk_sitting.specs.Counts.{cutCount, countAt, uncutCount}
+use Rattle.desk_sitting.specs.Kept.{barriers}
+use Rattle.desk_sitting.specs.declared.Sitting as DS
+use Rattle.desk_moves.specs.declared.Move as DG
+use Rattle.desk_moves.specs.TakeBack.{most}
+use Rattle.desk_moves.specs.Game.{putAt, liftAt}
+use Rattle.desk.specs.declared.Desk as DD
+use Rattle.desk.specs.Desks.{Desk, deskIn, IsMade}
+use Rattle.desk.specs.Says.{Holds}
+use Rattle.desk.proofs.Made.{loaded-holds, made-plan}
+use Rattle.call_moves.specs.declared.Moved as DM
+use Rattle.call_moves.specs.Says.{putFault, liftFault, afterPut, afterLift, uncutOn, PutSays, LiftSays}
+use Rattle.call_moves.specs.Runs as R
+use Rattle.call_moves.proofs.Made.{made-put, made-lift, made-back}
+use Rattle.call_moves.proofs.Runs.{taken-back, none-refused}
+use Rattle.pages.specs.Demands.{At, In, HowMany, GapOf, Paper, paperIn, Cut, SetIn, KeyOn}
+use Rattle.pages.specs.Sitting.{Seat, Remain, IsGap, PutNumber, LiftNumber, Left, Undone, Sittings}
+use Rattle.pages.proofs.Lists.{in-is, is-in}
+use Rattle.pages.proofs.Placements.{mapped, nestOf, nest-of-paper, gap-is, is-gap, cut-is, is-cut}
+use Rattle.pages.proofs.Keys.{shaped, fit}
+use Rattle.pages.proofs.Texts.{unmapped, unmap}
+use Rattle.pages.proofs.Desks.{reached-made}
+use Rattle.pages.proofs.Kept.{paperOn, flagsOf, set-here, set-is, same-paper, key-same, key-wide}
+
+-- ---- the sitting as a set
+
+points-few : (d : DD.Desk) → IsMade d → length (nestIn (d .nest) .points) ≤ 256
+points-few d m = omega (arith, m .counted .count-is, m .counted .count-fits)
+
+seat-wide : (d : DD.Desk) → IsMade d → areGapsFrom 0 256 (barriers (d .sitting)) ≡ true
+seat-wide d m = rising-wider 0 (length (nestIn (d .nest) .points)) 256 (barriers (d .sitting)) (points-few d m) (m .kept .gaps-fit)
+
+seat-is : (d : DD.Desk) (gs : List ℕ) → IsMade d → Seat d gs → gs ≡ barriers (d .sitting)
+seat-is d gs m s = set-is (d .sitting .placement .words) gs (seat-wide d m) s
+
+-- another desk with the same barriers
+seat-on : (d e : DD.Desk) (gs : List ℕ) → IsMade d → IsMade e → barriers (e .sitting) ≡ barriers (d .sitting) → Seat d gs → Seat e gs
+seat-on d e gs m w q s =
+    subst (λ (x : List ℕ). Seat e x) (q ∙ sym (seat-is d gs m s)) (set-here (e .sitting .placement .words) (seat-wide e w))
+
+-- ---- fresh counts
+
+module _ (p : Paper) (fs : List ℕ) (valid : isValid (nestOf p fs) ≡ true) where
+  remain : (gs : List ℕ) (xs : List DE.Dependence) → ((x : DE.Dependence) → In x xs → Fits (p .points) (depIn x))
+      → HowMany (λ x. Cut (p .points) x gs → ⊥) xs (uncutCount (p .points) (mapped xs) gs)
+  remain gs [] f = HowMany.none
+  remain gs (x ∷ xs) f = go (cuts (p .points) (depIn x) gs) refl (remain gs xs (λ y i. f y (suc (i .0), i .1)))
+    where
+      go
+          : (t : Bool) → cuts (p .points) (depIn x) gs ≡ t
+          → HowMany (λ x. Cut (p .points) x gs → ⊥) xs (uncutCount (p .points) (mapped xs) gs)
+          → HowMany (λ x. Cut (p .points) x gs → ⊥) (x ∷ xs) (one (not t) + uncutCount (p .points) (mapped xs) gs)
+      go true h r =
+          let w : 0 + uncutCount (p .points) (mapped xs) gs ≡ uncutCount (p .points) (mapped xs) gs = omega arith in
+          rw w (HowMany.other (λ c. c (is-cut (p .points) (shaped p fs valid) x gs (f x (0, refl)) h)) r)
+      go false h r =
+          let w : 1 + uncutCount (p .points) (mapped xs) gs ≡ suc (uncutCount (p .points) (mapped xs) gs) = omega arith in
+          rw w (HowMany.one (λ c. never-both (cut-is (p .points) (shaped p fs valid) x gs c) h) r)
+
+  remains : (gs : List ℕ) → Remain p gs (uncutCount (p .points) (mapped (p .deps)) gs)
+  remains gs = remain gs (p .deps) (fit p fs valid)
+
+  cuts-counted : (x : DE.Dependence) → Fits (p .points) (depIn x) → (gs : List ℕ)
+      → HowMany (GapOf (p .points) x) gs (cutCount (p .points) (depIn x) gs)
+  cuts-counted x f [] = HowMany.none
+  cuts-counted x f (g ∷ gs) = go (hasGap (p .points) (depIn x) g) refl (cuts-counted x f gs)
+    where
+      go
+          : (t : Bool) → hasGap (p .points) (depIn x) g ≡ t → HowMany (GapOf (p .points) x) gs (cutCount (p .points) (depIn x) gs)
+          → HowMany (GapOf (p .points) x) (g ∷ gs) (one t + cutCount (p .points) (depIn x) gs)
+      go true h r =
+          let w : 1 + cutCount (p .points) (depIn x) gs ≡ suc (cutCount (p .points) (depIn x) gs) = omega arith in
+          rw w (HowMany.one (is-gap (p .points) (shaped p fs valid) x g f h) r)
+      go false h r =
+          let w : 0 + cutCount (p .points) (depIn x) gs ≡ cutCount (p .points) (depIn x) gs = omega arith in
+          rw w (HowMany.other (λ c. never-both (gap-is (p .points) (shaped p fs valid) x g c) h) r)
+
+count-at : (ps : List ℕ) (xs : List DE.Dependence) (gs : List ℕ) (i : ℕ) (x : DE.Dependence) → At xs i x
+    → countAt ps (mapped xs) gs i ≡ cutCount ps (depIn x) gs
+count-at ps [] gs i x a = absurd a
+count-at ps (y ∷ ys) gs zero x a = ap (λ (z : DE.Dependence). cutCount ps (depIn z) gs) a
+count-at ps (y ∷ ys) gs (suc i) x a = count-at ps ys gs i x a
+
+-- ---- a desk made by calls
+
+module _ (d : DD.Desk) (m : IsMade d) where
+  abbrev page : Paper
+  page = paperOn d
+
+  abbrev nest : Nest
+  nest = nestOf page (flagsOf d)
+
+  nest-same : nestIn (d .nest) ≡ nest
+  nest-same = nest-of-paper (d .nest)
+
+  right : d .loaded ≡ true → isValid nest ≡ true
+  right h = ap isValid (sym nest-same) ∙ m .paper .valid h
+
+  -- without a nest there is no dependence
+  no-deps : d .loaded ≡ false → page .deps ≡ []
+  no-deps h =
+      sym (unmap (page .deps)) ∙
+      ap unmapped (ap (λ (n : Nest). n .deps) (sym nest-same ∙ ap (λ (x : Desk). x .nest-is) (m .paper .no-nest h)))
+
+  uncut-here : (gs : List ℕ) → Remain page gs (uncutCount (nestIn (d .nest) .points) (nestIn (d .nest) .deps) gs)
+  uncut-here gs =
+      subst (λ (n : Nest). Remain page gs (uncutCount (n .points) (n .deps) gs)) (sym nest-same) (go (d .loaded) refl)
+    where
+      go : (t : Bool) → d .loaded ≡ t → Remain page gs (uncutCount (nest .points) (nest .deps) gs)
+      go true h = remains page (flagsOf d) (right h) gs
+      go false h =
+          subst (λ (xs : List DE.Dependence). HowMany (λ x. Cut (page .points) x gs → ⊥) xs (uncutCount (page .points) (mapped xs) gs))
+          (sym (no-deps h)) HowMany.none
+
+  kept-uncut : (gs : List ℕ) → Seat d gs → Remain page gs (d .sitting .uncut)
+  kept-uncut gs s =
+      let q = seat-is d gs m s in
+      subst (λ (k : ℕ). Remain page gs k)
+      (ap (λ (x : List ℕ). uncutCount (nestIn (d .nest) .points) (nestIn (d .nest) .deps) x) q ∙ sym (m .kept .uncut-is))
+      (uncut-here gs)
+
+  kept-counts : (gs : List ℕ) (i : ℕ) (x : DE.Dependence) → Seat d gs → At (page .deps) i x
+      → HowMany (GapOf (page .points) x) gs (getD (d .sitting .counts) i 0)
+  kept-counts gs i x s a = go (d .loaded) refl
+    where
+      go : (t : Bool) → d .loaded ≡ t → HowMany (GapOf (page .points) x) gs (getD (d .sitting .counts) i 0)
+      go true h =
+          let q = seat-is d gs m s in
+          let c : getD (d .sitting .counts) i 0 ≡ cutCount (page .points) (depIn x) gs =
+          m .kept .counts-are i ∙ ap (λ (n : Nest). countAt (n .points) (n .deps) (barriers (d .sitting)) i) nest-same ∙
+          ap (λ (y : List ℕ). countAt (page .points) (mapped (page .deps)) y i) (sym q) ∙
+          count-at (page .points) (page .deps) gs i x a in
+          subst (λ (k : ℕ). HowMany (GapOf (page .points) x) gs k) (sym c)
+          (cuts-counted page (flagsOf d) (right h) x (fit page (flagsOf d) (right h) x (i, a)) gs)
+      go false h = absurd (none (page .deps) (no-deps h) a)
+        where
+          none : (xs : List DE.Dependence) → xs ≡ [] → At xs i x → ⊥
+          none [] e b = b
+          none (y ∷ ys) e b = let z : _≡_ {A = ℕ} 0 1 = cc e in absurd (omega arith)
+
+  gap-here : (g : ℕ) → isGap (nestIn (d .nest) .points) g ≡ true → IsGap d g
+  gap-here g h =
+      let z = and-true (ltb 0 g) (ltb g (length (page .points))) h in
+      (ltb-true 0 g (z .0), ltb-true g (length (page .points)) (z .1))
+
+  here-gap : (g : ℕ) → IsGap d g → isGap (nestIn (d .nest) .points) g ≡ true
+  here-gap g h = and-intro (lt-ltb 0 g (h .0)) (lt-ltb g (length (page .points)) (h .1))
+
+  not-in : (g : ℕ) (xs : List ℕ) → isIn g xs ≡ false → In g xs → ⊥
+  not-in g xs h i = never-both (in-is g xs (i .0) (i .1)) h
+
+  put-numbers : (gs : List ℕ) (g n : ℕ) → Seat d gs → n ≡ putFault (deskIn d) g → PutNumber d gs g n
+  put-numbers gs g n s e =
+      let q = seat-is d gs m s in
+      subst (λ (k : ℕ). PutNumber d gs g k) (sym e)
+      (go (d .loaded) (isGap (page .points) g) (isIn g (barriers (d .sitting))) (isIn g (page .barred)) refl refl
+      (ap (isIn g) q) refl)
+    where
+      go
+          : (a b c f : Bool) → d .loaded ≡ a → isGap (page .points) g ≡ b → isIn g gs ≡ c → isIn g (page .barred) ≡ f
+          → PutNumber d gs g
+          (firstOf (firstOf (firstOf (when (not a) 10) 0) (when (not b) 8)) (firstOf (when c 12) (when f 16)))
+      go false b c f w x y z = PutNumber.no-nest w
+      go true false c f w x y z = PutNumber.no-gap w (λ i. never-both (here-gap g i) x)
+      go true true true f w x y z = PutNumber.there w (gap-here g x) (is-in g gs y)
+      go true true false true w x y z = PutNumber.barred w (gap-here g x) (not-in g gs y) (is-in g (page .barred) z)
+      go true true false false w x y z = PutNumber.none w (gap-here g x) (not-in g gs y) (not-in g (page .barred) z)
+
+  lift-numbers : (gs : List ℕ) (g n : ℕ) → Seat d gs → n ≡ liftFault (deskIn d) g → LiftNumber d gs g n
+  lift-numbers gs g n s e =
+      let q = seat-is d gs m s in
+      subst (λ (k : ℕ). LiftNumber d gs g k) (sym e)
+      (go (d .loaded) (isGap (page .points) g) (isIn g (barriers (d .sitting))) refl refl (ap (isIn g) q))
+    where
+      go
+          : (a b c : Bool) → d .loaded ≡ a → isGap (page .points) g ≡ b → isIn g gs ≡ c
+          → LiftNumber d gs g (firstOf (firstOf (firstOf (when (not a) 10) 0) (when (not b) 8)) (when (not c) 12))
+      go false b c w x y = LiftNumber.no-nest w
+      go true false c w x y = LiftNumber.no-gap w (λ i. never-both (here-gap g i) x)
+      go true true true w x y = LiftNumber.none w (gap-here g x) (is-in g gs y)
+      go true true false w x y = LiftNumber.not-there w (gap-here g x) (not-in g gs y)
+
+-- ---- a move that is made
+
+paper-same : (d e : DD.Desk) → nestIn (e .nest) ≡ nestIn (d .nest) → paperIn (e .nest) ≡ paperIn (d .nest)
+paper-same d e q =
+    let z : nestOf (paperOn e) (flagsOf e) ≡ nestOf (paperOn d) (flagsOf d) =
+    sym (nest-of-paper (e .nest)) ∙ q ∙ nest-of-paper (d .nest) in
+    same-paper (paperOn e .points) (paperOn d .points) (paperOn e .deps) (paperOn d .deps) (paperOn e .barred) (paperOn d .barred)
+    (ap (λ (n : Nest). n .points) z)
+    (sym (unmap (paperOn e .deps)) ∙ ap unmapped (ap (λ (n : Nest). n .deps) z) ∙ unmap (paperOn d .deps))
+    (ap (λ (n : Nest). n .barred) z)
+
+module _ (d : DD.Desk) (r : DM.Moved) (m : IsMade d) (w : IsMade (r .desk)) (hs : List ℕ)
+    (same-nest : deskIn (r .desk) .nest-is ≡ deskIn d .nest-is) (same-has : deskIn (r .desk) .hasKey ≡ deskIn d .hasKey)
+    (same-key : deskIn (r .desk) .key ≡ deskIn d .key) (now-is : deskIn (r .desk) .sitting ≡ hs)
+    (told : r .uncut ≡ uncutCount (deskIn d .nest-is .points) (deskIn d .nest-is .deps) hs) where
+  left : Left d r hs
+  left =
+      record {
+        seat =
+            subst (λ (x : List ℕ). Seat (r .desk) x) now-is
+            (set-here (r .desk .sitting .placement .words) (seat-wide (r .desk) w));
+        told = subst (λ (k : ℕ). Remain (paperIn (d .nest)) hs k) (sym told) (uncut-here d m hs);
+        paper-same = paper-same d (r .desk) same-nest;
+        key-same = λ key k. moved key k;
+      }
+    where
+      moved : (key : List ℕ) → KeyOn d key → KeyOn (r .desk) key
+      moved key k =
+          let e : gapsIn (r .desk .key .words) ≡ key = same-key ∙ sym (key-same d m key k) in
+          record {
+            planned = same-has ∙ k .planned;
+            set =
+                subst (λ (x : List ℕ). SetIn (r .desk .key .words) x) e
+                (set-here (r .desk .key .words) (subst (λ (x : List ℕ). areGapsFrom 0 256 x ≡ true) (sym same-key) (key-wide d m key k)));
+          }
+
+module _ (d : DD.Desk) (gs : List ℕ) (g : ℕ) (r : DM.Moved) (m : IsMade d) (s : Seat d gs) where
+  put-left
+      : PutSays d g r → r .number ≡ 0 → (hs : List ℕ) × (Left d r hs × ((x : ℕ) → In x hs ↔ ((x ≡ g) ⊎ In x gs)))
+  put-left h z =
+      let none : putFault (deskIn d) g ≡ 0 = sym (h .number-is) ∙ z in
+      let ok = eq-eqb (putFault (deskIn d) g) 0 none in
+      let p : Holds (r .desk) (afterPut (deskIn d) g) = rw ok at (h .desk-is) in
+      let u : r .uncut ≡ uncutOn (afterPut (deskIn d) g) = rw ok at (h .uncut-is) in
+      let hs = withGap g (barriers (d .sitting)) in
+      let q = seat-is d gs m s in (
+        hs,
+        (
+          left d r m (made-put d g r m h) hs (ap (λ (x : Desk). x .nest-is) (p .holds)) (ap (λ (x : Desk). x .hasKey) (p .holds))
+              (ap (λ (x : Desk). x .key) (p .holds)) (ap (λ (x : Desk). x .sitting) (p .holds)) u,
+          (λ x. (
+            (λ i.
+                ⊎-elim
+                (λ (y : eqb x g ≡ true). inl (eqb-true x g y))
+                (λ (y : isIn x (barriers (d .sitting)) ≡ true). inr (is-in x gs (ap (isIn x) q ∙ y)))
+                (or-true (eqb x g) (isIn x (barriers (d .sitting)))
+                (sym (in-with g x (barriers (d .sitting))) ∙ in-is x hs (i .0) (i .1)))),
+            (λ i.
+                is-in x hs
+                (in-with g x (barriers (d .sitting)) ∙
+                ⊎-elim
+                (λ (y : x ≡ g). or-left (isIn x (barriers (d .sitting))) (eq-eqb x g y))
+                (λ (y : In x gs). or-right (eqb x g) (ap (isIn x) (sym q) ∙ in-is x gs (y .0) (y .1)))
+                i)),
+          )),
+        ),
+      )
+
+  lift-left
+      : LiftSays d g r → r .number ≡ 0 → (hs : List ℕ) × (Left d r hs × ((x : ℕ) → In x hs ↔ ((x ≡ g → ⊥) × In x gs)))
+  lift-left h z =
+      let none : liftFault (deskIn d) g ≡ 0 = sym (h .number-is) ∙ z in
+      let ok = eq-eqb (liftFault (deskIn d) g) 0 none in
+      let p : Holds (r .desk) (afterLift (deskIn d) g) = rw ok at (h .desk-is) in
+      let u : r .uncut ≡ uncutOn (afterLift (deskIn d) g) = rw ok at (h .uncut-is) in
+      let hs = without g (barriers (d .sitting)) in
+      let q = seat-is d gs m s in
+      let law : (x : ℕ) → isIn x hs ≡ (not (eqb x g) && isIn x (barriers (d .sitting))) =
+      λ x. in-without 0 256 g x (barriers (d .sitting)) (seat-wide d m) in (
+        hs,
+        (
+          left d r m (made-lift d g r m h) hs (ap (λ (x : Desk). x .nest-is) (p .holds)) (ap (λ (x : Desk). x .hasKey) (p .holds))
+              (ap (λ (x : Desk). x .key) (p .holds)) (ap (λ (x : Desk). x .sitting) (p .holds)) u,
+          (λ x. (
+            (λ i.
+                let y = and-true (not (eqb x g)) (isIn x (barriers (d .sitting))) (sym (law x) ∙ in-is x hs (i .0) (i .1)) in
+                ((λ e. never (rw (eq-eqb x g e) at (y .0))), is-in x gs (ap (isIn x) q ∙ y .1))),
+            (λ i.
+                is-in x hs
+                (law x ∙
+                and-intro (ap not (ne-eqb x g (i .0))) (ap (isIn x) (sym q) ∙ in-is x gs (i .1 .0) (i .1 .1)))),
+          )),
+        ),
+      )
+
+-- ---- moves taken back
+
+-- the run of the project behind calls in which every move is taken back
+record Ran (d : DD.Desk) (ms : List DG.Move) (e : DD.Desk) : Type 0 where
+  peak : ℕ
+  few : peak ≤ 64
+  run : R.Run d peak ms e
+
+most-few : (a b c : ℕ) → a ≤ c → b ≤ c → most a b ≤ c
+most-few a b c x y = go (ltb a b)
+  where
+    go : (t : Bool) → pick t b a ≤ c
+    go true = y
+    go false = x
+
+ran
+    : (o : DD.Desk) → IsMade o → (ms : List DG.Move) (h : ℕ) (d e : DD.Desk) → length ms + h ≤ 64 → Undone h d e → Ran o ms d
+    → Ran o ms e
+ran o m ms h d e l (Undone.done q) u = subst (λ (x : DD.Desk). Ran o ms x) q u
+ran o m ms h d e l (Undone.plan r p q) u =
+    ran o m ms h (r .desk) e l q
+    (record { peak = u .peak; few = u .few; run = R.Run.other (u .peak) ms d (r .desk) (u .run) (R.Unmoved.planned r p) })
+ran o m ms h d e l (Undone.put {h = k} {b = b} g r q p z i f j) u =
+    let a = ran o m (putAt g ∷ ms) k (r .desk) b (omega arith) i
+    (record {
+      peak = most (u .peak) (suc (length ms));
+      few = most-few (u .peak) (suc (length ms)) 64 (u .few) (omega arith);
+      run = R.Run.put (u .peak) ms d g r (u .run) p z;
+    }) in
+    let n = none-refused o b b (a .peak) 0 (putAt g ∷ ms) q m (a .run) (a .few) R.Backs.start (omega arith) f in
+    ran o m ms (suc k) (q .desk) e l j
+    (record { peak = a .peak; few = a .few; run = R.Run.back (a .peak) ms (putAt g) b q (a .run) f n })
+ran o m ms h d e l (Undone.lift {h = k} {b = b} g r q p z i f j) u =
+    let a = ran o m (liftAt g ∷ ms) k (r .desk) b (omega arith) i
+    (record {
+      peak = most (u .peak) (suc (length ms));
+      few = most-few (u .peak) (suc (length ms)) 64 (u .few) (omega arith);
+      run = R.Run.lift (u .peak) ms d g r (u .run) p z;
+    }) in
+    let n = none-refused o b b (a .peak) 0 (liftAt g ∷ ms) q m (a .run) (a .few) R.Backs.start (omega arith) f in
+    ran o m ms (suc k) (q .desk) e l j
+    (record { peak = a .peak; few = a .few; run = R.Run.back (a .peak) ms (liftAt g) b q (a .run) f n })
+
+undone-made : (h : ℕ) (d e : DD.Desk) → Undone h d e → IsMade d → IsMade e
+undone-made h d e (Undone.done q) m = subst (λ (x : DD.Desk). IsMade x) q m
+undone-made h d e (Undone.plan r p q) m = undone-made h (r .desk) e q (made-plan d r m p)
+undone-made h d e (Undone.put {h = k} {b = b} g r q p z i f j) m =
+    undone-made (suc k) (q .desk) e j (made-back b q (undone-made k (r .desk) b i (made-put d g r m p)) f)
+undone-made h d e (Undone.lift {h = k} {b = b} g r q p z i f j) m =
+    undone-made (suc k) (q .desk) e j (made-back b q (undone-made k (r .desk) b i (made-lift d g r m p)) f)
+
+undone-seat : (d e : DD.Desk) (gs : List ℕ) → IsMade d → Undone 64 d e → Seat d gs → Seat e gs
+undone-seat d e gs m u s =
+    let a = ran d m [] 64 d e (omega arith) u (record { peak = 0; few = omega arith; run = R.Run.start }) in
+    let q = taken-back d e e (a .peak) [] m (a .run) (a .few) R.Backs.start in
+    seat-on d e gs m (undone-made 64 d e u m) (sym (q .placement-is)) s
+
+pub sittings-kept : Sittings
+sittings-kept =
+    record {
+      seated =
+          λ d q.
+          (barriers (d .sitting), set-here (d .sitting .placement .words) (seat-wide d (reached-made d q)));
+      fresh = λ d t r h z. empty-seat (r .desk) (ap (λ (x : Desk). x .sitting) (loaded-holds d t r h z .holds));
+      plan = λ d r gs h s. subst (λ (x : DS.Sitting). SetIn (x .placement .words) gs) (sym (h .sitting-is)) s;
+      counts = λ d gs i x q s a. kept-counts d (reached-made d q) gs i x s a;
+      uncut = λ d gs q s. kept-uncut d (reached-made d q) gs s;
+      put-number = λ d gs g r q s h. put-numbers d (reached-made d q) gs g (r .number) s (h .number-is);
+      put = λ d gs g r q s h z. put-left d gs g r (reached-made d q) s h z;
+      lift-number = λ d gs g r q s h. lift-numbers d (reached-made d q) gs g (r .number) s (h .number-is);
+      lift = λ d gs g r q s h z. lift-left d gs g r (reached-made d q) s h z;
+      taken-back = λ d e gs q u s. undone-seat d e gs (reached-made d q) u s;
+    }
+  where
+    empty-seat : (d : DD.Desk) → barriers (d .sitting) ≡ [] → Seat d []
+    empty-seat d e =
+        subst (λ (x : List ℕ). Seat d x) e
+        (set-here (d .sitting .placement .words) (subst (λ (x : List ℕ). areGapsFrom 0 256 x ≡ true) (sym e) refl))

@@ -1,0 +1,1 @@
+// The planner's method: definitions in specs/, the theorem in proofs/; no code.

@@ -1,0 +1,209 @@
+// The row of one loop: its values for each suffix, and from them the fronts and choices.
+use plan_starts::Front;
+ghost use Prim.Native.Nat.{_+_, _<_};
+ghost use lib.ListN.{length};
+ghost use Rattle.plan_starts.specs.Grounds.{Kept};
+ghost use Rattle.plan_rows.specs.Valued.{CloseSays, CeilingSays, ClosedSays, FrontsIn, ValuesRoom};
+ghost use Rattle.plan_rows.specs.Made.{Copied, Cleared, BetterSays, ChooseSays, RowRoom, RowMade};
+
+// The places of a row, one for each point.
+pub const ROW: usize = 256;
+
+// The row of the loop d with its ENDDO e, from the row of the loops directly inside it, which is the one before.
+pub fn make_row(
+    points: &[u8],
+    own: &[usize],
+    reach: &[usize],
+    limit: &[usize],
+    left: &mut [usize],
+    choice: &mut [usize],
+    base: usize,
+    d: usize,
+    e: usize,
+    some: usize,
+)
+    requires { ⌜ RowRoom (now points) (now own) (now reach) (now limit) (now left) (now choice) base d e ⌝ }
+    ensures { λ r. ⌜ RowMade (now (points .entry)) (now (own .entry)) (now (reach .entry)) (now (limit .entry))
+        (now (left .entry)) (now (choice .entry)) (now (left .exit)) (now (choice .exit)) base d e some ⌝ }
+{
+    if some == 0 {
+        clear(left, base, d, e);
+        clear(choice, base, d, e);
+        return;
+    }
+    let kids = base - ROW;
+    let mut need = [0; ROW];
+    let mut cs = [0; ROW];
+    let mut fs = [0; ROW];
+    let mut link = [0; ROW];
+    plan_starts::mark(points, own, reach, base, left, kids, d, e, &mut need);
+    let first = plan_starts::follow_all(
+        points,
+        own,
+        &need,
+        left,
+        kids,
+        d,
+        e,
+        &mut cs,
+        &mut fs,
+        &mut link,
+    );
+    let m = values(limit, base, d, e, first, &mut cs, &mut fs);
+    choose(&cs, &fs, m, left, choice, base, d, e);
+}
+
+// The entries from d + 1 to e of the row that starts at base.
+pub fn copy_row(from: &[usize], base: usize, d: usize, e: usize, xs: &mut [usize])
+    requires { ⌜ base + e < length (now from) ⌝ }
+    requires { ⌜ e < length (now xs) ⌝ }
+    requires { ⌜ d < e ⌝ }
+    ensures { λ r. ⌜ Copied (now (from .entry)) base d e (now (xs .exit)) ⌝ }
+{
+    let mut p = d;
+    while p < e {
+        let q = p + 1;
+        xs[q] = from[base + q];
+        p = q;
+    }
+}
+
+// The same entries set to 0.
+fn clear(xs: &mut [usize], base: usize, d: usize, e: usize)
+    requires { ⌜ base + e < length (now xs) ⌝ }
+    requires { ⌜ d < e ⌝ }
+    ensures { λ r. ⌜ Cleared (now (xs .entry)) (now (xs .exit)) base d e ⌝ }
+{
+    let mut p = d;
+    while p < e {
+        let q = p + 1;
+        xs[base + q] = 0;
+        p = q;
+    }
+}
+
+// The leftmost front so far, 0 for none, and the suffix that gives it.
+pub struct Leftmost {
+    pub f: usize,
+    pub at: usize,
+}
+
+// The fronts of the suffixes from e down to d + 1 with m barriers, and where they come from, into the loop's row.
+fn choose(
+    cs: &[usize],
+    fs: &[usize],
+    m: usize,
+    left: &mut [usize],
+    choice: &mut [usize],
+    base: usize,
+    d: usize,
+    e: usize,
+)
+    requires { ⌜ e < length (now cs) ⌝ }
+    requires { ⌜ e < length (now fs) ⌝ }
+    requires { ⌜ base + e < length (now left) ⌝ }
+    requires { ⌜ base + e < length (now choice) ⌝ }
+    requires { ⌜ d < e ⌝ }
+    ensures { λ r. ⌜ ChooseSays (now (cs .entry)) (now (fs .entry)) m
+        (now (left .exit)) (now (choice .exit)) base d e ⌝ }
+    ensures { λ r. ⌜ Kept (now (left .entry)) (now (left .exit)) (base + d) (base + e) ⌝ }
+    ensures { λ r. ⌜ Kept (now (choice .entry)) (now (choice .exit)) (base + d) (base + e) ⌝ }
+{
+    let mut f = 0;
+    let mut at = 0;
+    let mut q = e;
+    while d < q {
+        let best = better(f, at, m, q, cs[q], fs[q]);
+        f = best.f;
+        at = best.at;
+        left[base + q] = f;
+        choice[base + q] = at;
+        q -= 1;
+    }
+}
+
+// The front so far, or that of the suffix q where it has m barriers and its front is no further right.
+fn better(f: usize, at: usize, m: usize, q: usize, c: usize, here: usize) -> Leftmost
+    ensures { λ r. ⌜ BetterSays f at m q c here (r .f) (r .at) ⌝ }
+{
+    if c == m {
+        if f == 0 {
+            return Leftmost { f: here, at: q };
+        }
+        if here <= f {
+            return Leftmost { f: here, at: q };
+        }
+    }
+    Leftmost { f: f, at: at }
+}
+
+// The values of all suffixes, d + 1 to e, in place of what is made from each start on; gives the least number of
+// barriers among them. The sweep for q starts at q, or at `first` if that lies further right: before it all have the
+// barriers of `first`, or one more.
+fn values(
+    limit: &[usize],
+    base: usize,
+    d: usize,
+    e: usize,
+    first: usize,
+    cs: &mut [usize],
+    fs: &mut [usize],
+) -> usize
+    requires { ⌜ ValuesRoom (now limit) base d e first (now cs) (now fs) ⌝ }
+    ensures { λ r. ⌜ ClosedSays (now (limit .entry)) base d e first (now (cs .entry)) (now (fs .entry))
+        (now (cs .exit)) (now (fs .exit)) e r ⌝ }
+    ensures { λ r. ⌜ FrontsIn d e (now (fs .exit)) e ⌝ }
+{
+    let c = cs[first];
+    let f = fs[first];
+    let mut m = ceiling(c, d, e, first);
+    let mut p = d;
+    while p + 1 < first {
+        let q = p + 1;
+        if f <= limit[base + q] {
+            cs[q] = c;
+            fs[q] = f;
+            m = c;
+            p = q;
+        } else {
+            cs[q] = c + 1;
+            fs[q] = d + 1;
+            p = q;
+        }
+    }
+    while p < e {
+        let q = p + 1;
+        let v = closed(cs[q], fs[q], limit[base + q], d);
+        cs[q] = v.c;
+        fs[q] = v.f;
+        m = plan_sweeps::smaller(m, v.c);
+        p = q;
+    }
+    m
+}
+
+// No less than the barriers of the first value: one more than those of `first` where it is read there, else more than
+// there are gaps.
+fn ceiling(c: usize, d: usize, e: usize, first: usize) -> usize
+    requires { ⌜ (d + 1 < first → c < 256) ⌝ }
+    requires { ⌜ d < e ⌝ }
+    requires { ⌜ e < 256 ⌝ }
+    ensures { λ r. ⌜ CeilingSays c d e first r ⌝ }
+{
+    if d + 1 < first {
+        return c + 1;
+    }
+    e + 1
+}
+
+// A sweep's barriers and front, with a barrier right after the DO where the front lies beyond the limit.
+fn closed(c: usize, f: usize, limit: usize, d: usize) -> Front
+    requires { ⌜ c < 256 ⌝ }
+    requires { ⌜ d < 256 ⌝ }
+    ensures { λ r. ⌜ CloseSays d limit c f (r .c) (r .f) ⌝ }
+{
+    if f <= limit {
+        return Front { c: c, f: f };
+    }
+    Front { c: c + 1, f: d + 1 }
+}

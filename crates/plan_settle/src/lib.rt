@@ -1,0 +1,43 @@
+// Settling a loop: its row and the rows of all loops inside it, the inner ones first.
+ghost use mathlib.Core.Path.{_≡_};
+ghost use mathlib.Core.Bool.{true};
+ghost use Rattle.paper_nests.specs.Loops.{isDo};
+ghost use Rattle.plan_settle.specs.Settled.{HasHeight, Charts, Room, SettleSays};
+
+// A loop's row is made after the rows of the loops directly inside it.
+pub fn settle(
+    points: &[u8],
+    own: &[usize],
+    ends: &[usize],
+    reach: &[usize],
+    limit: &[usize],
+    has: &[usize],
+    left: &mut [usize],
+    choice: &mut [usize],
+    d: usize,
+    h: usize,
+)
+    requires { ⌜ Charts (now points) (now own) (now ends) ⌝ }
+    requires { ⌜ Room (now reach) (now limit) (now has) (now left) (now choice) ⌝ }
+    requires { ⌜ isDo (now points) d ≡ true ⌝ }
+    requires { ⌜ HasHeight (now points) d h ⌝ }
+    ensures { λ r. ⌜ SettleSays (now (points .entry)) (now (reach .entry)) (now (limit .entry)) (now (has .entry))
+        (now (left .entry)) (now (choice .entry)) (now (left .exit)) (now (choice .exit)) d ⌝ }
+{
+    let e = ends[d];
+    let base = h * plan_rows::ROW;
+    let kids = base - plan_rows::ROW;
+    let mut some = has[d];
+    let mut i = d + 1;
+    while i < e {
+        if points[i] == paper_nests::DO {
+            settle(points, own, ends, reach, limit, has, left, choice, i, h - 1);
+            let first = left[kids + (i + 1)];
+            some = plan_sweeps::first_or(first, some);
+            i = ends[i] + 1;
+        } else {
+            i += 1;
+        }
+    }
+    plan_rows::make_row(points, own, reach, limit, left, choice, base, d, e, some);
+}

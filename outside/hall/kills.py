@@ -1,0 +1,88 @@
+"""A hall that is killed again and again among random clicks, and what must be there afterwards."""
+import pathlib
+import random
+import threading
+import time
+
+from office.library import Desk
+from office.paper import placed
+from office.refusal import Refused
+from outside.hall.opened import Candidate, Hall
+from outside.trying import EXAMPLES, Tally
+
+KILLS = 50
+
+
+class Clicker:
+    """Clicks at random until no answer comes. Holds a desk of the library with all that was answered."""
+
+    def __init__(self, hall: Hall, name: str):
+        self.candidate, self.desk, self.rng = Candidate(hall, name), Desk(), random.Random(name)
+        self.desk.load(hall.paper)
+        self.moves = self.answered = 0
+        self.pending, self.wrong, self.thread = '', [], None
+
+    def make(self, move: str) -> bool:
+        """Makes a move on the library's desk; whether it is accepted."""
+        word, _, gap = move.partition(' ')
+        try:
+            if word == 'take':
+                self.desk.take_back()
+            else:
+                (self.desk.put if word == 'put' else self.desk.lift)(int(gap))
+        except Refused:
+            return False
+        self.moves += 1
+        return True
+
+    def begin(self) -> None:
+        self.answered, self.thread = 0, threading.Thread(target=self.click)
+        self.thread.start()
+
+    def click(self) -> None:
+        """Clicks until the hall is gone."""
+        while True:
+            gap = self.rng.randrange(1, 15)
+            self.pending = self.rng.choice([f'put {gap}', f'put {gap}', f'lift {gap}', 'take back'])
+            try:
+                status, told = self.candidate.move(self.pending)
+            except OSError:
+                return
+            accepted = self.make(self.pending)
+            if not self.same(told) or (status == 200) != accepted:
+                self.wrong.append((self.pending, status, told))
+            self.answered += 1
+
+    def same(self, told: dict) -> bool:
+        """Whether what is told is the library's sitting."""
+        return (told['gaps'], told['moves'], bytes.fromhex(told['cuts'])) == (
+            placed(self.desk, self.desk.sitting()).gaps, self.moves, self.desk.cuts)
+
+    def after(self, told: dict) -> bool:
+        """Whether all that was answered is there after a kill, and of the rest at most the move that was under way."""
+        if told['moves'] == self.moves + 1:
+            self.make(self.pending)
+        return self.same(told)
+
+
+def killed(tally: Tally, folder: pathlib.Path) -> None:
+    """Killed again and again among clicks, the hall loses no move that was answered."""
+    hall, rng = Hall(folder / 'killed', EXAMPLES['p'], ['anna', 'bert', 'cleo', 'dora']).start(), random.Random(2)
+    clickers, answered, begun = [Clicker(hall, name) for name in hall.names], 0, time.monotonic()
+    for turn in range(KILLS):
+        for clicker in clickers:
+            clicker.begin()
+        while not all(clicker.answered for clicker in clickers):
+            time.sleep(0.001)
+        time.sleep(rng.random() * 0.1)
+        hall.end()
+        for clicker in clickers:
+            clicker.thread.join()
+        hall.start()
+        for clicker in clickers:
+            held = clicker.after(clicker.candidate.ask('/sitting')[1])
+            tally.check(f'kill {turn}: {clicker.candidate.name}', held and not clicker.wrong, clicker.wrong)
+            answered += clicker.answered
+    hall.end()
+    print(f'{KILLS} kills among {answered:,} clicks: {time.monotonic() - begun:.0f} s')
+    tally.check('nothing to complain about', hall.complaints() == '', hall.complaints())

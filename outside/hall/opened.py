@@ -1,0 +1,142 @@
+"""A hall for tests: ./desk sit on a paper, as a process that may be killed and started again, and its candidates.
+
+The process must never plan: in it every call that needs a key, or gives a placement away, ends it at once.
+"""
+import atexit
+import csv
+import http.client
+import json
+import os
+import pathlib
+import re
+import signal
+import subprocess
+import time
+from collections.abc import Callable
+from dataclasses import dataclass, field
+
+from outside.trying import DESK, ROOT
+
+FORBIDDEN = ['plan', 'key', 'mark', 'count', 'textbook', 'examiner_slip']
+GUARD = f"""
+import os, sys
+sys.path.insert(0, {str(ROOT)!r})
+from office.library import Desk
+def forbidden(*_):
+    os.write(2, b'a desk of the hall was asked for a key')
+    os._exit(86)
+for call in {FORBIDDEN}:
+    assert hasattr(Desk, call)
+    setattr(Desk, call, forbidden)
+"""
+
+
+@dataclass
+class Hall:
+    """A hall in a folder of its own: the paper, the names, the answers."""
+    folder: pathlib.Path
+    paper: bytes
+    names: list[str]
+    file: str = 'paper.hex'
+    more: list[str] = field(default_factory=list)
+    process: subprocess.Popen | None = None
+    port: int = 0
+    said: str = ''
+
+    def __post_init__(self) -> None:
+        self.folder.mkdir(exist_ok=True)
+        self.answers = self.folder / 'answers'
+        (self.folder / self.file).write_bytes(self.paper)
+        (self.folder / 'names.txt').write_text(''.join(f'{name}\n' for name in self.names))
+        (self.folder / 'sitecustomize.py').write_text(GUARD)
+
+    def altered(self, lines: str) -> 'Hall':
+        """Has the process begin with some lines of Python."""
+        with open(self.folder / 'sitecustomize.py', 'a') as opened:
+            opened.write(lines)
+        return self
+
+    @property
+    def command(self) -> list[str]:
+        return [str(DESK), 'sit', str(self.folder / self.file), '--candidates', str(self.folder / 'names.txt'),
+                '--answers', str(self.answers), '--port', str(self.port), *self.more]
+
+    def start(self, limit: str = '') -> 'Hall':
+        """Opens the hall; at the same port as before, if it was open."""
+        with open(self.folder / 'said', 'ab') as said:
+            self.process = subprocess.Popen(
+                ['bash', '-c', f'{limit} exec "$@"', 'bash', *self.command], stdout=subprocess.PIPE, stderr=said,
+                env={**os.environ, 'PYTHONPATH': str(self.folder)}, text=True)
+        atexit.register(self.process.kill)
+        self.said = self.process.stdout.readline() + self.process.stdout.readline()
+        opened = re.match(r'http://[^/]*:(\d+)/ is open', self.said)
+        if not opened:
+            raise RuntimeError(f'the hall did not open: {self.complaints()}')
+        self.port = int(opened[1])
+        return self
+
+    def end(self, by: int = signal.SIGKILL) -> int:
+        """Ends the hall by a signal; gives the status."""
+        self.process.send_signal(by)
+        self.process.stdout.close()
+        return self.process.wait(60)
+
+    def complaints(self) -> str:
+        """What it wrote to standard error."""
+        return (self.folder / 'said').read_text()
+
+    def lives(self) -> bool:
+        return self.process.poll() is None
+
+    @property
+    def address(self) -> str:
+        return f'http://127.0.0.1:{self.port}/'
+
+    @property
+    def tickets(self) -> dict[str, str]:
+        with open(self.answers / 'tickets.csv', newline='') as opened:
+            return dict([*csv.reader(opened)][1:])
+
+    def moves(self, name: str) -> list[str]:
+        """The moves that the log has of a candidate."""
+        lines = (self.answers / 'sitting.log').read_text().splitlines()[1:]
+        return [move for _, candidate, move in (line.split('\t') for line in lines) if candidate == name]
+
+
+def until_there(seen: Callable[[], bool], patience: float = 30) -> bool:
+    """Whether something is seen, waited for with much patience."""
+    begun = time.monotonic()
+    while not (there := seen()) and time.monotonic() - begun < patience:
+        time.sleep(0.001)
+    return there
+
+
+class Candidate:
+    """A candidate without a browser: asks over one connection, with a cookie."""
+
+    def __init__(self, hall: Hall, name: str):
+        self.hall, self.headers = hall, {'Cookie': f'ticket={hall.tickets[name]}'}
+        self.name, self.connection = name, None
+
+    def ask(self, path: str, body: str | None = None) -> tuple[int, dict]:
+        """The status and what is told. An OSError says that no whole answer came."""
+        try:
+            if self.connection is None:
+                self.connection = http.client.HTTPConnection('127.0.0.1', self.hall.port, timeout=30)
+            self.connection.request('GET' if body is None else 'POST', path, body, self.headers)
+            reply = self.connection.getresponse()
+            return reply.status, json.loads(reply.read())
+        except (http.client.HTTPException, ValueError) as fault:
+            self.leave()
+            raise ConnectionError from fault
+        except OSError:
+            self.leave()
+            raise
+
+    def move(self, move: str) -> tuple[int, dict]:
+        return self.ask('/move', move)
+
+    def leave(self) -> None:
+        if self.connection is not None:
+            self.connection.close()
+        self.connection = None

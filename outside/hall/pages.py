@@ -1,0 +1,90 @@
+"""A candidate's page in a browser: what is done on it, and what it shows beside the library's sitting."""
+
+from office.library import Desk
+from office.paper import placed
+from office.refusal import Refused
+from office.words import RULES
+from outside.hall.browser import ENTER, Browser, until
+from outside.hall.opened import Hall
+from outside.trying import Tally
+
+# What a person sees: bars and empty gaps that are drawn, buttons that are pressed, hollow numbers, words and counts.
+SHOWN = """
+const all = (selector) => [...document.querySelectorAll(selector)];
+const drawn = (place, selector) => [...place.querySelectorAll(selector)].some((piece) => piece.getClientRects().length);
+const places = all('[data-barrier]');
+const number = (place) => Number(Object.values(place.dataset)[0]);
+return {
+    bars: places.filter((place) => drawn(place, '.bar')).map(number),
+    empty: places.filter((place) => drawn(place, '.gap, .barred')).map(number),
+    pressed: all('button[data-gap][aria-pressed="true"]').map(number),
+    hollow: all('g[data-cut]').filter((place) => getComputedStyle(place.querySelector('circle')).fill ===
+        'rgb(255, 255, 255)').map(number),
+    words: all('li[data-cut] span').map((words) => words.textContent),
+    counts: all('[data-count]').map((place) => [number(place), place.textContent.trim()]),
+    state: document.getElementById('state')?.textContent,
+    said: document.getElementById('said')?.textContent,
+};
+"""
+GAP = 'button[data-gap="{}"]'.format
+
+
+class Page:
+    """A candidate's page, and beside it a desk of the library on which the same moves are made."""
+
+    def __init__(self, tally: Tally, browser: Browser, hall: Hall, name: str):
+        self.tally, self.hall, self.name = tally, hall, name
+        self.browser, self.desk, self.handed_in = browser, Desk(), ''
+        self.desk.load(hall.paper)
+
+    def enter(self, ticket: str = '') -> None:
+        self.browser.open(self.hall.address)
+        until(lambda: self.browser.at('#ticket'), True)
+        self.browser.press(*(ticket or self.hall.tickets[self.name]), ENTER)
+
+    def wanted(self, said: str) -> dict[str, object]:
+        """What the page must show of the library's sitting."""
+        now, cuts = placed(self.desk, self.desk.sitting()), self.desk.cuts
+        return {'bars': now.gaps, 'pressed': now.gaps, 'said': said,
+                'empty': [gap for gap in range(1, len(self.desk.nest.points)) if gap not in now.gaps],
+                'hollow': [number for number, many in enumerate(cuts) if not many],
+                'words': [f'; cut, barriers: {many}' if many else '; UNCUT' for many in cuts],
+                'counts': [[d, f'count {count}'] for d, count in now.counts.items()],
+                'state': f'{self.handed_in}Barriers: {len(now.gaps)}. Dependences uncut: {self.desk.uncut} of '
+                         f'{len(cuts)}.'}
+
+    def shows(self, step: str, said: str = '') -> None:
+        wanted = self.wanted(said)
+        found = until(lambda: self.browser.script(SHOWN), wanted)
+        differ = {key: (found[key], wanted[key]) for key in wanted if found[key] != wanted[key]}
+        self.tally.check(f'{self.name}: {step}', not differ, differ)
+
+    def turn(self, gap: int, by: str = 'mouse') -> None:
+        """Puts or lifts, as the library's sitting says, and looks."""
+        there = gap in placed(self.desk, self.desk.sitting()).gaps
+        if by == 'mouse':
+            self.browser.click(GAP(gap))
+        else:
+            self.browser.press(by)
+        try:
+            (self.desk.lift if there else self.desk.put)(gap)
+            said = f'The barrier in gap {gap} is lifted.' if there else f'A barrier stands in gap {gap}.'
+        except Refused as refused:
+            said = self.refused(refused)
+        self.shows(f'gap {gap} {"lifted" if there else "put"}', said)
+
+    def take_back(self, by: str = 'mouse') -> None:
+        if by == 'mouse':
+            self.browser.click('#back')
+        else:
+            self.browser.press(by)
+        try:
+            self.desk.take_back()
+            said = 'The latest move is taken back.'
+        except Refused as refused:
+            said = self.refused(refused)
+        self.shows('take back', said)
+
+    @staticmethod
+    def refused(refused: Refused) -> str:
+        return f'Refused, number {refused.refusal.number}: {RULES[refused.refusal.number]}.'

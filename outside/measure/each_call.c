@@ -1,0 +1,34 @@
+/* Calls for measuring: loads the paper on standard input, plans it, writes the key and marks what was written; then puts
+   and lifts a gap 20 times, and takes the 40 moves back. outside/measure/instructions counts the instructions inside the calls. */
+#include "desk.h"
+#include <stdio.h>
+#include <stdlib.h>
+
+enum { TURNS = 20 };
+
+int main(int argc, char **argv) {
+    static uint8_t text[8192], out[DESK_TEXT];
+    size_t length = fread(text, 1, sizeof text, stdin);
+    DeskReply loaded = desk_load(desk_new(), text, length);
+    DeskReply planned = desk_plan(loaded.desk);
+    DeskAnswer written = desk_write(planned.desk, out, sizeof out);
+    DeskMark marked = desk_mark(planned.desk, out, written.value);
+    Desk desk = planned.desk;
+    size_t gap = argc == 2 ? strtoul(argv[1], NULL, 16) : 0;
+    int refused = loaded.number | planned.number | written.number | marked.number;
+    for (int i = 0; i < TURNS; i++) {
+        DeskMoved put = desk_put(desk, gap);
+        DeskMoved lifted = desk_lift(put.desk, gap);
+        refused |= put.number | lifted.number;
+        desk = lifted.desk;
+    }
+    for (int i = 0; i < 2 * TURNS; i++) {
+        DeskMoved back = desk_take_back(desk);
+        refused |= back.number;
+        desk = back.desk;
+    }
+    if (refused) {
+        fprintf(stderr, "calls: a call was refused\n");
+    }
+    return refused != 0;
+}

@@ -1,0 +1,112 @@
+"""The C boundary from outside: the header beside the archive, and the examples in C, Rust and Python.
+
+  python3 -m outside.tests.hosts    needs target/staticlib/libhost.a (rt staticlib host), gcc, rustc and nm
+
+The last line is 'N passed, M failed', and the status is 0 only if nothing failed.
+"""
+import pathlib
+import re
+import resource
+import subprocess
+import sys
+import tempfile
+
+from outside.measure import papers
+from outside.trying import ROOT, Tally
+
+ARCHIVE = ROOT / 'target/staticlib/libhost.a'
+HEADER = ROOT / 'crates/host/desk.h'
+C = ['gcc', '-std=c11', '-Wall', '-Wextra', '-Werror', '-Wno-cast-function-type', '-I', HEADER.parent]
+STACK = 160 * 1024  # what desk.h says
+PAPERS = {
+    'p.hex': (0, '2105\n210b\nUncut 4 0 0\ngap 5 put: 3 uncut\n'),
+    'q.hex': (0, '2102\n2106\nUncut 1 0 0\ngap 5 put: 1 uncut\n'),
+    'faulty.hex': (1, 'refused: number 4, line 2\n'),
+    'blocked.hex': (1, 'refused: number 15, line 0\n'),
+}
+MADE = {'faulty.hex': '01\n', 'blocked.hex': '01\n03\n02\n110001\n1301\n'}
+
+
+def run(*command: object) -> tuple[int, str]:
+    """The status of a command and what it wrote, standard error too where it failed."""
+    done = subprocess.run([str(word) for word in command], cwd=ROOT, capture_output=True, text=True)
+    return done.returncode, done.stdout + (done.stderr if done.returncode else '')
+
+
+def check_names(tally: Tally) -> None:
+    """Every function of the archive is in the header, and the other way round."""
+    declared = set(re.findall(r'^\w+ (\w+)\([^;]*\);$', HEADER.read_text(), re.M))
+    status, symbols = run('nm', '--defined-only', '--extern-only', ARCHIVE)
+    exported = set(re.findall(r'^[0-9a-f]+ [A-Z] (\w+)$', symbols, re.M))
+    tally.check('the archive has names', status == 0 and bool(exported), symbols)
+    for name in sorted(declared | exported):
+        tally.check(f'{name} is in the header', name in declared)
+        tally.check(f'{name} is in the archive', name in exported)
+
+
+def check_words(tally: Tally) -> None:
+    """The examples that hand a desk on give it the header's number of words."""
+    words = re.search(r'DESK_WORDS = (\d+)', HEADER.read_text()).group(1)
+    for name, form in {'desk.rs': f'[u64; {words}]', 'desk.py': f'c_uint64 * {words})'}.items():
+        tally.check(f'{name}: a desk of {words} words', form in (ROOT / 'examples' / name).read_text())
+
+
+def check_layout(tally: Tally, work: pathlib.Path) -> None:
+    """Sizes and offsets of every struct, in C."""
+    status, said = run(*C, 'outside/tests/layout.c', ARCHIVE, '-o', work / 'layout')
+    tally.check('layout.c compiles', status == 0, said)
+    if status == 0:
+        status, said = run(work / 'layout')
+        tally.check('layout.c', status == 0 and re.fullmatch(r'\d+ passed, 0 failed\n', said) is not None, said)
+
+
+def check_examples(tally: Tally, work: pathlib.Path) -> None:
+    """The same papers through the three examples."""
+    for name, text in MADE.items():
+        (work / name).write_text(text)
+    rust = ['rustc', '-D', 'warnings', '-L', ARCHIVE.parent, '-l', 'static=host']
+    whole = ['-Wl,--whole-archive', ARCHIVE, '-Wl,--no-whole-archive']
+    built = {
+        'C': run(*C, 'examples/desk.c', ARCHIVE, '-o', work / 'desk_c'),
+        'Rust': run(*rust, 'examples/desk.rs', '-o', work / 'desk_rust'),
+        'Python': run('gcc', '-shared', '-o', ROOT / 'target/libdesk.so', *whole),
+    }
+    commands = {'C': [work / 'desk_c'], 'Rust': [work / 'desk_rust'], 'Python': [sys.executable, 'examples/desk.py']}
+    for language, (status, said) in built.items():
+        tally.check(f'the example in {language} is built', status == 0, said)
+        for paper, wanted in PAPERS.items() if status == 0 else []:
+            path = work / paper if paper in MADE else ROOT / 'examples' / paper
+            answer = run(*commands[language], path)
+            tally.check(f'{language}, {paper}: {wanted}', answer == wanted, str(answer))
+        if status == 0:
+            tally.check(f'{language}: no paper', run(*commands[language], work / 'none.hex')[0] != 0)
+
+
+def check_stack(tally: Tally, work: pathlib.Path) -> None:
+    """Full-size papers with no more stack than the header asks for."""
+    def narrow() -> None:
+        resource.setrlimit(resource.RLIMIT_STACK, (STACK, STACK))
+
+    for kind in ('deep', 'one', 'pairs', 'barred'):
+        (work / 'paper.hex').write_bytes(papers.text(kind))
+        done = subprocess.run([work / 'desk_c', work / 'paper.hex'], env={}, preexec_fn=narrow, capture_output=True)
+        tally.check(f'{kind} with {STACK} bytes of stack', done.returncode == 0 and done.stdout.startswith(b'21'))
+
+
+def main() -> None:
+    tally = Tally()
+    if ARCHIVE.exists():
+        with tempfile.TemporaryDirectory() as name:
+            check_names(tally)
+            check_words(tally)
+            check_layout(tally, pathlib.Path(name))
+            check_examples(tally, pathlib.Path(name))
+            if (pathlib.Path(name) / 'desk_c').exists():
+                check_stack(tally, pathlib.Path(name))
+    else:
+        tally.check(f'{ARCHIVE} is there: rt staticlib host builds it', False)
+    tally.close()
+
+
+if __name__ == '__main__':
+    main()

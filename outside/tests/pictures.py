@@ -1,0 +1,164 @@
+"""./draw: which papers are drawn, what a picture has, and faults. The last line is 'N passed, M failed'."""
+import os
+import pathlib
+import random
+import re
+import tempfile
+import xml.etree.ElementTree as tree
+
+from office.lanes import packed
+from outside.measure import papers
+from outside.trying import DRAW, EXAMPLES, KEY, ROOT, VERSION, Seen, Tally, run
+
+MEGABYTE = 1_000_000
+PICTURES = {'p': ['p'], 'q-best': ['q'], 'q-dearer': ['q', '4,7'], 'r': ['r'], 'foundation': ['foundation']}
+SVG = '{http://www.w3.org/2000/svg}'
+
+
+def texts_of(seen: Seen) -> list[tree.Element]:
+    """The texts of a picture; none where it is no picture."""
+    try:
+        return list(tree.fromstring(seen.out).iter(f'{SVG}text'))
+    except tree.ParseError:
+        return []
+
+
+def words_of(texts: list[tree.Element], kind: str = '') -> list[str]:
+    """The words of all texts, or of those of a kind."""
+    return [text.text for text in texts if not kind or kind in text.get('class', '').split()]
+
+
+def drawn(tally: Tally, folder: pathlib.Path) -> None:
+    """The barriers of the key, those of a list, those of a placement text."""
+    for name, (paper, *gaps) in PICTURES.items():
+        seen = run(DRAW, ROOT / 'examples' / f'{paper}.hex', *gaps)
+        picture = (ROOT / 'docs' / f'{name}.svg').read_bytes()
+        tally.check(f'docs/{name}.svg is drawn so', (seen.out, seen.err, seen.status) == (picture, '', 0), seen.err)
+    answer, paper = folder / 'answer.hex', ROOT / 'examples' / 'q.hex'
+    answer.write_bytes(b'2104\n2107\n')
+    by_list = run(DRAW, paper, '4,7')
+    tally.check('a placement text', run(DRAW, paper, answer) == by_list and by_list.status == 0, by_list)
+    tally.check('a list in any order', run(DRAW, paper, '7, 4,4') == by_list, by_list)
+    none = run(DRAW, paper, '')
+    answer.write_bytes(b'')
+    tally.check('no barriers', words_of(texts_of(none), 'title') == ['q, barriers none'], none)
+    tally.check('an empty placement text', run(DRAW, paper, answer) == none, none)
+    tally.check('uncut', sum('UNCUT' in word for word in words_of(texts_of(none))) == 3, none)
+    blank = run(DRAW, '/dev/null')
+    tally.check('the empty paper', 'ENDDO loop 0' in words_of(texts_of(blank)) and blank.status == 0, blank)
+    link = folder / 'drawer'
+    link.symlink_to(DRAW)
+    tally.check('by a link, elsewhere', run(link, paper, '4,7', shell='cd / && "$@"') == by_list, by_list)
+    strange = os.fsencode(folder) + b'/\xff<&.hex'
+    with open(strange, 'wb') as opened:
+        opened.write(EXAMPLES['q'])
+    seen = run(DRAW, os.fsdecode(strange), '4')
+    tally.check('a strange name', words_of(texts_of(seen), 'title') == ['?<&, barriers 4'] and seen.status == 0, seen)
+    for option, word in [('--help', b'usage: ./draw '), ('--version', b'draw %d\n' % VERSION)]:
+        seen = run(DRAW, option)
+        tally.check(option, seen.status == 0 and word in seen.out, seen)
+
+
+def barred(tally: Tally, folder: pathlib.Path) -> None:
+    """Barred gaps have a band and a red number; the signs and the captions say so. Other papers have none of this."""
+    paper = ROOT / 'examples' / 'foundation.hex'
+    seen = run(DRAW, paper, '6')
+    words = words_of(texts_of(seen))
+    tally.check('three bands', seen.out.count(b'class="barred"') == 3 and seen.status == 0, seen)
+    tally.check('red numbers', words_of(texts_of(seen), 'red') == ['1', '2', '4'], seen)
+    tally.check('the sign', any('barred gap' in word for word in words), words)
+    told = 'carried by loop 0, 4 to 1: gaps 1 and 5 to 6; barred 1; cut by 6'
+    tally.check('a caption', told in words and 'barred 1 to 2, 4; UNCUT' in ' '.join(words), words)
+    seen = run(DRAW, ROOT / 'examples' / 'r.hex')
+    tally.check('no band', b'barred' not in seen.out and seen.status == 0, seen)
+    blocked, answer = folder / 'blocked.hex', folder / 'answer.hex'
+    blocked.write_bytes(b'01\n03\n02\n110001\n1301\n')
+    seen = run(DRAW, blocked)
+    tally.check('no key to draw', seen.out == b'' and 'all its gaps barred' in seen.err and seen.status == 1, seen)
+    seen = run(DRAW, blocked, '2')
+    tally.check('a blocked paper', 'barred 1; UNCUT' in ' '.join(words_of(texts_of(seen))) and seen.status == 0, seen)
+    seen = run(DRAW, paper, '2,3,4,5,1')
+    tally.check('a list with barred gaps', seen.failed('barred on this paper') and '1 to 2, 4\n' in seen.err, seen)
+    for typed, word in [(b'2104\n', 'number 16'), (b'2103\n2104\n2102\n', 'number 16'), (b'2103\n2102\n', 'number 8')]:
+        answer.write_bytes(typed)
+        seen = run(DRAW, paper, answer)
+        tally.check(f'{typed!r} beside barred gaps', seen.out == b'' and word in seen.err and seen.status == 1, seen)
+
+
+def full_size(tally: Tally, folder: pathlib.Path) -> None:
+    """A paper of 256 points and 512 dependences: under a megabyte, every number at both ends and in words."""
+    every, other = ','.join(map(str, range(1, 256))), ','.join(map(str, range(1, 256, 2)))
+    for kind in ['mixed', 'one', 'deep', 'barred']:
+        paper = folder / f'{kind}.hex'
+        paper.write_bytes(papers.text(kind))
+        for gaps in [[]] if kind == 'barred' else [[], [every], [other]]:
+            name, seen = f'full size, {kind}, {gaps[0][:8] if gaps else "its key"}', run(DRAW, paper, *gaps)
+            tally.check(f'{name}: size', 0 < len(seen.out) < MEGABYTE and seen.status == 0, len(seen.out))
+            texts = texts_of(seen)
+            numbers = words_of(texts, 'n')
+            tally.check(f'{name}: numbers', sorted(map(int, numbers)) == sorted(list(range(512)) * 3), len(numbers))
+            wide = float(re.search(rb'width="([0-9.]+)"', seen.out + b'width="0"').group(1))
+            over = [text.text for text in texts if text.get('class', '') in ('title', 'word', 'pale')
+                    and float(text.get('x')) + 5 * len(text.text) > wide]
+            tally.check(f'{name}: captions', wide > 0 and not over, over)
+    seen = run(DRAW, folder / 'one.hex', other)
+    title = words_of(texts_of(seen), 'title')
+    tally.check('a long title wraps', ' '.join(title).endswith('253, 255') and len(title) > 1, title)
+    seen = run(DRAW, folder / 'mixed.hex', shell='"$@" | head -c 100; exit ${PIPESTATUS[1]}')
+    tally.check('a reader who leaves', (len(seen.out), seen.err, seen.status) == (100, '', 0), seen)
+
+
+def lanes(tally: Tally) -> None:
+    """No two stretches of a lane touch, and there are as many lanes as stretches over some row."""
+    rng = random.Random(1)
+    for turn in range(50):
+        rows = [tuple(sorted(rng.choices(range(40), k=2))) for _ in range(rng.randrange(60))]
+        lane = packed(rows)
+        apart = all(lane[i] != lane[j] or rows[i][1] < rows[j][0] or rows[j][1] < rows[i][0]
+                    for i in range(len(rows)) for j in range(i))
+        most = max((sum(low <= row <= high for low, high in rows) for row in range(40)), default=0)
+        tally.check(f'lanes, turn {turn}', apart and len(set(lane)) == most == max(lane, default=-1) + 1, rows)
+
+
+def faults(tally: Tally, folder: pathlib.Path) -> None:
+    """What is not drawn gives no picture, a reason and a status."""
+    paper, bad, text = ROOT / 'examples' / 'q.hex', folder / 'bad.hex', folder / 'text.hex'
+    for typed in [b'01\n', b'01\r\n02\r\n', b'01\n02\n110001\n03\n']:
+        bad.write_bytes(typed)
+        seen, asked = run(DRAW, bad), run(KEY, given=typed)
+        same = seen.err.replace(f'draw: {bad}: ', 'key: ').replace('draw: ', 'key: ') == asked.err
+        tally.check(f'{typed!r} refused', same and (seen.out, seen.status) == (b'', 1), seen)
+        tally.check(f'{typed!r} refused with gaps', run(DRAW, bad, '1') == seen, seen)
+    for typed, word in [(b'2104\n2102\n', 'number 8'), (b'2100\n', 'number 8'), (b'210a\n', 'number 8'),
+                        (b'2204\n', 'number 2'), (b'21\n', 'number 2'), (b'210A\n', 'capital digits'),
+                        (b'2104', 'no line feed')]:
+        text.write_bytes(typed)
+        seen = run(DRAW, paper, text)
+        tally.check(f'{typed!r} as a placement', seen.out == b'' and word in seen.err and seen.status == 1, seen)
+    for name, word, seen in [
+            ('a gap too high', 'no gaps of this paper', run(DRAW, paper, '4,10')),
+            ('gap 0', 'no gaps of this paper', run(DRAW, paper, '0')),
+            ('a long number', 'no gaps of this paper', run(DRAW, paper, '1' * 5000)),
+            ('no paper', 'cannot read', run(DRAW, folder / 'none.hex')),
+            ('a folder', 'cannot read', run(DRAW, folder)),
+            ('a paper without end', 'more than 1,048,576 bytes', run(DRAW, '/dev/zero')),
+            ('nothing asked', './draw --help', run(DRAW)),
+            ('no placement', 'cannot read', run(DRAW, paper, folder / 'none.hex')),
+            ('output full', 'not written', run(DRAW, paper, shell='"$@" > /dev/full')),
+            ('output closed', 'not written', run(DRAW, paper, shell='"$@" >&-'))]:
+        tally.check(name, seen.failed(word), seen)
+
+
+def main() -> None:
+    tally = Tally()
+    with tempfile.TemporaryDirectory() as name:
+        folder = pathlib.Path(name)
+        drawn(tally, folder)
+        barred(tally, folder)
+        full_size(tally, folder)
+        lanes(tally)
+        faults(tally, folder)
+    tally.close()
+
+
+main()

@@ -1,0 +1,296 @@
+"""What ./desk tells: usage, numbers in words, listings, keys, reasons. The last line is 'N passed, M failed'.
+
+Needs gcc, target/bin/key and the library's archive (rt staticlib host).
+"""
+import ctypes
+import math
+import pathlib
+import random
+import re
+import subprocess
+import tempfile
+
+from office.day import COMMANDS
+from office.frames import placement_text
+from office.header import DECLARED, HEADER
+from office.library import Desk
+from office.paper import nest_text, paper_on, placed
+from office.refusal import Refused
+from office.show import listing_of
+from office.spell import spelled
+from office.words import RULES
+from outside.measure import papers
+from outside.trying import DESK, DRAW, EXAMPLES, PROGRAM, ROOT, VERSION, Seen, Tally, run
+
+FULL = '"$@" > /dev/full'
+KINDS = ['deep', 'one', 'many', 'mixed', 'carried', 'tails', 'pairs', 'barred']
+
+# Papers with a fault: the text, the number, the line or 0, and words that quote the line or say what is missing.
+FAULTS = [
+    (b'01\n02\n110A05\n', 1, 3, '"110A05"'), (b'01\r\n02\r\n', 1, 1, 'CRLF'), (b'05\n', 2, 1, '"05"'),
+    (b'01\n02\n1100\n', 2, 3, '"1100"'), (b'01\n02\n110001\n03\n', 3, 4, '"03"'), (b'03\n', 4, 1, '"03"'),
+    (b'01\n', 4, 2, 'the end of the text'), (b'01\n' + b'03\n' * 300, 5, 257, '"03"'), (b'01\n' * 9, 5, 9, '"01"'),
+    (b'01\n03\n02\n110105\n', 6, 4, '"110105"'), (b'01\n03\n02\n110101\n', 7, 4, '"110101"'),
+    (b'01\n03\n02\n1303\n', 8, 4, '"1303"'), (b'01\n01\n02\n02\n1301\n', 14, 5, '"1301"'),
+    (b'01\n03\n02\n110001\n1301\n', 15, 0, 'as a whole')]
+
+# A listing as a setter types it, and the text; then the same with a fault: what takes whose place, the line, words.
+TYPED = """# two loops in a row
+DO year
+  DO month          # the first
+    rent
+    bread
+  enddo month
+  do
+    shoes
+  ENDDO
+ENDDO
+rent -> bread
+3: shoes -> rent round year
+DO month -> ENDDO month
+month -> month round year
+"""
+TYPED_TEXT = b'01\n01\n03\n03\n02\n01\n03\n02\n02\n110203\n12000602\n110104\n12000104\n'
+TYPED_FAULTS = [
+    ('bread\n  enddo', 'rent\n  enddo', 5, 'a rent already'), ('enddo month', 'enddo year', 6, 'loop month is open'),
+    ('rent -> bread', 'rent -> cake', 11, 'nothing is called cake'), ('rent -> bread', 'rent => bread', 11, 'no DO'),
+    ('rent -> bread', 'bread -> rent', 11, 'number 7'), ('round year\nDO', 'round week\nDO', 12, 'called week'),
+    ('DO month -> ENDDO', 'ENDDO month -> DO', 13, 'number 6'), ('ENDDO\nrent', 'rent', 10, 'number 4'),
+    ('    shoes', 'barred | shoes', 8, 'number 14'), ('3: shoes', 'barred | 3: shoes', 12, 'before a point'),
+    ('DO year', 'year', 2, 'number 4'), ('month -> month', 'rent ->', 14, 'no DO'), ('    rent', 'r\xe4nt', 4, 'no DO'),
+    ('month -> month round year\n', 'late\n', 14, 'number 4')]
+
+
+def told(seen: Seen, *words: str) -> bool:
+    """All the words stand in what was written, whatever the lines."""
+    out = ' '.join(seen.out.decode().split())
+    return seen.status == 0 and seen.err == '' and all(word in out for word in words)
+
+
+def usage(tally: Tally) -> None:
+    """Help and version for all; what is asked wrongly gets one line that says what to do."""
+    seen = run(DESK, '--version')
+    tally.check('--version', (seen.out, seen.err, seen.status) == (b'desk %d\n' % VERSION, '', 0), seen)
+    seen = run(DESK, '--help')
+    tally.check('--help', told(seen, *COMMANDS, 'Status: 0 done, 1 refused, 2'), seen)
+    for name in COMMANDS:
+        tally.check(f'{name} --help', told(run(DESK, name, '--help'), f'usage: ./desk {name} ', 'Status: 0'), name)
+    for name, asked in [('nothing', []), ('no command', ['marks']), ('no option', ['key', '--all']),
+                        ('no paper', ['check']), ('too many', ['key', 'a', 'b'])]:
+        seen = run(DESK, *asked)
+        tally.check(f'asked wrongly, {name}', seen.failed('--help says how to ask'), seen)
+    for asked in [['--help'], ['--version'], ['key', '--help'], ['key', ROOT / 'examples' / 'p.hex']]:
+        seen = run(DESK, *asked, shell=FULL)
+        tally.check(f'{asked}, output full', seen.failed('standard output was not written'), seen)
+
+
+def form(tally: Tally, folder: pathlib.Path) -> None:
+    """Every struct as C lays it out, and every function with its arguments."""
+    lines = ['#include "desk.h"', '#include <stdio.h>', 'int main(void) {']
+    wanted = []
+    for name, kind in DECLARED.types.items():
+        if issubclass(kind, ctypes.Structure):
+            wanted.append(f'{name} {ctypes.sizeof(kind)}')
+            lines.append(f'printf("{name} %zu\\n", sizeof({name}));')
+            for field, _ in kind._fields_:
+                at = getattr(kind, field)
+                wanted.append(f'{name}.{field} {at.offset} {at.size}')
+                place = f'offsetof({name}, {field}), sizeof((({name} *)0)->{field})'
+                lines.append(f'printf("{name}.{field} %zu %zu\\n", {place});')
+    source, program = folder / 'form.c', folder / 'form'
+    source.write_text('\n'.join([*lines, 'return 0; }']))
+    subprocess.run(['gcc', '-I', HEADER.parent, source, '-o', program], check=True)
+    seen = subprocess.run([program], capture_output=True, text=True, check=True).stdout.splitlines()
+    tally.check('the structs are those of C', seen == wanted and len(wanted) > 50, set(seen) ^ set(wanted))
+    declared = HEADER.read_text()
+    structs = re.findall(r'^typedef struct (\w+)', declared, re.M)
+    functions = set(re.findall(r'\b(desk_\w+)\(', declared))
+    tally.check('all structs', all(name in DECLARED.types for name in structs), structs)
+    tally.check('all functions', set(DECLARED.functions) == functions, functions)
+
+
+def numbers(tally: Tally, folder: pathlib.Path) -> None:
+    """Every number has words; every fault of a paper is told by its number with the line quoted."""
+    tally.check('words for 1 to 20', sorted(RULES) == list(range(1, 21)) and all(RULES.values()), RULES)
+    paper = folder / 'faulty.hex'
+    for text, number, line, word in FAULTS:
+        paper.write_bytes(text)
+        seen = run(DESK, 'check', paper)
+        where = f'line {line} is refused' if line and '"' in word else word
+        held = all(part in seen.err for part in [f'number {number}: {RULES[number]}', where, word])
+        blocked = seen.out.startswith(b'accepted') if number == 15 else seen.out == b''
+        tally.check(f'{text[:16]!r} checked', held and blocked and seen.status == 1, seen)
+    for name, parts in [('p', '14 points, 3 loops, 2 deep, 6 dependences'),
+                        ('r', '8 points, 1 loop, 1 deep, 3 dependences'),
+                        ('foundation', '7 points, 1 loop, 1 deep, 3 dependences, 3 barred gaps')]:
+        seen = run(DESK, 'check', ROOT / 'examples' / f'{name}.hex')
+        tally.check(f'{name} checked', seen == Seen(f'accepted: {parts}\n'.encode(), '', 0), seen)
+    tally.check('the blank paper', told(run(DESK, 'check', '/dev/null'), 'blank paper', '2 points'))
+    tally.check('a paper by standard input', told(run(DESK, 'check', '-', given=EXAMPLES['q']), '10 points'))
+    for call, refusals in {Desk.plan: [10], Desk.key: [10, 11], Desk.take_back: [10, 13]}.items():
+        desk = Desk()
+        for number in refusals:
+            try:
+                call(desk)
+                tally.check(f'{call.__name__} is refused by {number}', False)
+            except Refused as refused:
+                tally.check(f'{call.__name__} gives {number}', refused.refusal.number == number, refused)
+            desk.load(EXAMPLES['p'])
+
+
+def listings(tally: Tally, folder: pathlib.Path) -> None:
+    """What show writes spell reads, and the other way round; a setter's own names; faults by their line."""
+    texts = {name: text for name, text in EXAMPLES.items()}
+    texts['foundation'] = (ROOT / 'examples' / 'foundation.hex').read_bytes()
+    for kind in KINDS:
+        texts[kind] = papers.text(kind)
+    for name, text in texts.items():
+        desk = Desk()
+        desk.load(text)
+        listing = listing_of(paper_on(desk)).encode()
+        again = spelled(listing, name)
+        tally.check(f'{name} shown and spelled', again == nest_text(desk.nest), again[:200])
+        tally.check(f'{name} spelled in order', sorted(again.split()) == sorted(text.split()), again[:200])
+        desk.load(again)
+        tally.check(f'{name} shown again', listing_of(paper_on(desk)).encode() == listing, listing[:200])
+        (folder / 'listing').write_bytes(listing)
+    seen = run(DESK, 'show', ROOT / 'examples' / 'foundation.hex')
+    lines = seen.out.decode().splitlines()
+    for line in ['           | DO L0', '  1 barred |   S1', '  3        |   S3', '  6        | ENDDO L0']:
+        tally.check(f'shown: {line}', line in lines, seen)
+    words = '1: S4 -> S1 round L0  # carried by loop 0, 4 to 1: gaps 1 and 5 to 6; barred 1'
+    tally.check('a dependence shown in words', words in lines, seen)
+    again = run(DESK, 'spell', '-', given=seen.out)
+    tally.check('spelled by standard input', again == Seen(texts['foundation'], '', 0), again)
+    tally.check('a listing by hand', spelled(TYPED.encode(), 'typed') == TYPED_TEXT, spelled(TYPED.encode(), 'typed'))
+    windows = b'\xef\xbb\xbf' + TYPED.replace('\n', '\r\n').replace('  ', '\t').encode()
+    tally.check('with tabs, CRLF and a byte order mark', spelled(windows, 'typed') == TYPED_TEXT)
+    typed = folder / 'typed'
+    for old, new, line, word in TYPED_FAULTS:
+        typed.write_text(TYPED.replace(old, new, 1), encoding='latin-1')
+        seen = run(DESK, 'spell', typed)
+        held = f'line {line} of the listing is refused' in seen.err and word in seen.err
+        tally.check(f'{new!r} for {old!r}', held and (seen.out, seen.status) == (b'', 1), seen)
+    for text, word in [(b'', 'no point'), (b'# nothing\n', 'no point'), (b'DO\n', 'the end of the listing')]:
+        seen = run(DESK, 'spell', '-', given=text)
+        tally.check(f'{text!r} spelled', word in seen.err and (seen.out, seen.status) == (b'', 1), seen)
+    many = b'DO\n' + b''.join(b's%d\n' % i for i in range(300)) + b'ENDDO\ns299 -> s299\n'
+    tally.check('300 statements', 'line 257' in run(DESK, 'spell', '-', given=many).err)
+
+
+def keys(tally: Tally, folder: pathlib.Path) -> None:
+    """The program's bytes, refusals too; in words; the textbook's placement; the picture."""
+    paper = folder / 'paper.hex'
+    for text in [*EXAMPLES.values(), b'', b'01\n' * 3000, *(text for text, *_ in FAULTS)]:
+        paper.write_bytes(text)
+        seen, own = run(DESK, 'key', paper), run(PROGRAM, given=text)
+        status = int(own.out.startswith(b'2f'))
+        tally.check(f'the key of {text[:16]!r}', (seen.out, seen.status) == (own.out, status), seen)
+    p, q, r = (ROOT / 'examples' / f'{name}.hex' for name in 'pqr')
+    seen = run(DESK, 'key', p, '--words')
+    tally.check('in words', seen.out.decode() == 'key: gaps 5, 11\nloop 0: 0\n├ loop 1: 1\n└ loop 7: 1\n', seen)
+    tally.check('the textbook', run(DESK, 'textbook', r) == Seen(b'2101\n2104\n', '', 0))
+    tally.check('the textbook in words', told(run(DESK, 'textbook', r, '--words'), 'textbook: gaps 1, 4'))
+    seen = run(DESK, 'textbook', p)
+    tally.check('the textbook of several loops', 'number 14' in seen.err and seen.status == 1, seen)
+    tally.check('the picture', run(DESK, 'draw', q, '4,7') == run(DRAW, q, '4,7'))
+
+
+def as_good(paper, first: dict[int, int], second: dict[int, int], d: int = 0) -> bool:
+    """001, definition 1, tree by tree."""
+    under = [k for k in paper.end if k and paper.owner[k] == d]
+    equal = all(first[k] == second[k] for k in paper.inside(d))
+    return all(as_good(paper, first, second, k) for k in under) and (not equal or first[d] <= second[d])
+
+
+def deciding(paper, first: dict[int, int], second: dict[int, int]) -> list[int]:
+    """The loops where two trees differ while all loops inside agree, by rising DO."""
+    differ = {d for d in paper.end if first[d] != second[d]}
+    return sorted(d for d in differ if not differ.intersection(paper.inside(d)))
+
+
+def trees(tally: Tally) -> None:
+    """Which of two placements is better, which loops decide, and the calls of a placement, on random nests."""
+    rng = random.Random(1)
+    for turn in range(300):
+        points, opened = [1], 1
+        while opened:
+            kind = rng.choice([1, 2, 3]) if len(points) < 16 and opened < 8 else 2
+            opened += {1: 1, 2: -1, 3: 0}[kind]
+            points.append(kind)
+        desk = Desk()
+        desk.load(''.join(f'{kind:02x}\n' for kind in points).encode())
+        paper = paper_on(desk)
+        texts = [placement_text(g for g in range(1, len(points)) if rng.random() < 0.3) for _ in range(2)]
+        first, second = (placed(desk, text).counts for text in texts)
+        wanted = as_good(paper, first, second), as_good(paper, second, first)
+        held = desk.compare(*texts)
+        tally.check(f'trees, turn {turn}', (held.first, held.second) == wanted, (points, texts))
+        tally.check(f'deciding loops, turn {turn}', held.deciding == deciding(paper, first, second), (points, texts))
+        turns = bytes(rng.randrange(1, 17) for _ in paper.end)
+        gaps = [gap for gap in range(1, len(points)) if rng.random() < 0.3]
+        by_hand = sum(math.prod(many for k, many in zip(paper.end, turns) if k < gap <= paper.end[k]) for gap in gaps)
+        made = desk.placement_calls(placement_text(gaps), turns)
+        tally.check(f'calls, turn {turn}', made == by_hand, (points, gaps, turns))
+
+
+def reasons(tally: Tally, folder: pathlib.Path) -> None:
+    """Why on P, Q, R, the paper with gap 4, and two placements that cannot be compared; the page."""
+    p, q, r, four = (*(ROOT / 'examples' / f'{name}.hex' for name in 'pqr'), folder / 'four.hex')
+    four.write_bytes(b'01\n03\n01\n03\n03\n03\n02\n03\n02\n110104\n110307\n')
+    dearer = ['So the key is better.', 'and this decides']
+    for paper, asked, words in [
+            (q, ['4,7'], [*dearer, '└ loop 2: 1 < └ loop 2: 0 <', 'Loop 2: 1 against 0', 'loop 3 has 1 each',
+                          'The desk says of gaps 4, 7: Dearer, loop 2, 1 against 0.', '1,100 times', '1,010 with']),
+            (p, ['3,9'], ['With gaps 3, 9 dependence 4 is not cut', '1 to 2 and 11 to 13', 'gaps 3, 9: Uncut 4.']),
+            (p, [''], ['With no gap dependence 0, the first of 6, is not cut']),
+            (p, ['3,9,13'], [*dearer, 'loop 0: 1 < loop 0: 0 <', 'Dearer, loop 0, 1 against 0', '210 times', '200']),
+            (p, ['4,5,10,11'], [*dearer, 'Loop 1: 2 against 1', 'Loop 7 would decide the same way']),
+            (p, ['4,5,11', '5,10,11'], ['Neither is as good or better than the other', 'at loop 1 it is 2 against 1',
+                                        'at loop 7 it is 1 against 2', '300 times with gaps 4, 5, 11 and 300']),
+            (p, ['5,11', '4,5,11'], ['So gaps 5, 11 are better.', 'gaps 5, 11: Best.', 'Dearer, loop 1, 2 against 1']),
+            (r, ['2,5'], ['the same count in both', 'wherever their barriers stand', 'gaps 2, 5: Best.']),
+            (four, ['4'], [*dearer, 'Loop 2: 1 against 0', '100 times with gap 4 and 20 with the key']),
+            (four, ['4', '--turns', '3,2'], ['3 of loop 0, 2 of loop 2', '6 times with gap 4 and 6 with']),
+            (four, ['4', '--turns', '1'], ['1 time with gap 4 and 2 with the key', 'at least two turns'])]:
+        seen = run(DESK, 'why', paper, *asked)
+        tally.check(f'why {paper.name} {asked}', told(seen, *words), seen)
+    (folder / 'key.hex').write_bytes(b'2105\n210b\n')
+    tally.check('a file', run(DESK, 'why', p, folder / 'key.hex') == run(DESK, 'why', p, '5,11'))
+    blocked = folder / 'blocked.hex'
+    blocked.write_bytes(b'01\n03\n03\n02\n110001\n1301\n')
+    tally.check('no key', 'number 15' in run(DESK, 'why', blocked, '2').err)
+    barred = folder / 'barred.hex'
+    barred.write_bytes(b'01\n03\n03\n02\n110102\n1301\n')
+    tally.check('no calls counted', told(run(DESK, 'why', barred, '2'), 'Calls are not counted'))
+    tally.check('two without a key', told(run(DESK, 'why', blocked, '2', '3'), 'With gap 2 dependence 0 is not cut'))
+    for asked, word in [(['14'], 'no gaps of this paper'), (['5', '--turns', '0'], '3 numbers of turns from 1 to 16'),
+                        (['5', '--turns', '2,2'], '3 numbers of turns'), (['5', '--turns', 'x'], 'up to 16')]:
+        seen = run(DESK, 'why', p, *asked)
+        tally.check(f'why {asked}', seen.failed(word), seen)
+    page = folder / 'why.html'
+    seen = run(DESK, 'why', q, '4,7', '--html', page)
+    html = page.read_text()
+    tally.check('a page', seen == Seen(b'', '', 0) and html.count('src="data:image/svg+xml;base64,') == 2, seen)
+    tally.check('no network, no script', not re.search(r'https?:|<script|<link|@import', html), html[:300])
+    for word in ['size: A4', 'and this decides', 'loop 2: 1  &lt;', 'alt="q, barriers 4, 7"', '1,100 times']:
+        tally.check(f'the page has {word}', word in html, html[:300])
+    seen = run(DESK, 'why', q, '4,7', '--html', folder)
+    tally.check('no page', seen.failed('no plain file'), seen)
+
+
+def main() -> None:
+    tally = Tally()
+    with tempfile.TemporaryDirectory() as name:
+        folder = pathlib.Path(name)
+        usage(tally)
+        form(tally, folder)
+        numbers(tally, folder)
+        listings(tally, folder)
+        keys(tally, folder)
+        trees(tally)
+        reasons(tally, folder)
+    tally.close()
+
+
+main()
