@@ -1,6 +1,7 @@
 """What the arguments of a command name: a paper, a placement, turns. What is wrong with one is a fault in words."""
 import re
 from collections.abc import Callable
+from typing import TypeVar
 
 from office.command import REFUSED, Fault, printable, read_in
 from office.frames import DO, placement_text
@@ -8,6 +9,7 @@ from office.library import Desk
 from office.refusal import Refused
 from office.words import RULES, ranges
 
+Given = TypeVar('Given')
 TURNS, TURNS_HELP = 16, 'the turns of the loops in the order of their DOs, with commas between, or one number for all'
 GAPS_HELP = "gaps in decimal with commas between, '' for none, or a file with a placement text"
 PAPER_HELP = 'a file with a nest text; - for standard input'
@@ -70,7 +72,7 @@ def turns_asked(argument: str, loops: int) -> bytes:
     return bytes(map(int, words * loops if len(words) == 1 else words))
 
 
-def turned(desk: Desk, argument: str, call: Callable[[Desk, bytes], object]) -> object:
+def turned(desk: Desk, argument: str, call: Callable[[Desk, bytes], Given]) -> Given:
     """What a call gives under the turns that an argument names."""
     try:
         return call(desk, turns_asked(argument, desk.nest.points.count(DO)))

@@ -6,6 +6,7 @@ import pathlib
 import signal
 import sys
 from collections.abc import Callable
+from typing import NoReturn
 
 ROOT = pathlib.Path(__file__).resolve().parent.parent
 REFUSED, FAILED, INTERRUPTED = 1, 2, 130
@@ -24,7 +25,7 @@ class Fault(Exception):
 class Parser(argparse.ArgumentParser):
     """Reads arguments; what is wrong with them is a fault like any other, and the help is written like any result."""
 
-    def error(self, message: str) -> None:
+    def error(self, message: str) -> NoReturn:
         raise Fault(f'{message}; {self.prog} --help says how to ask')
 
     def _print_message(self, message: str, file: object = None) -> None:
@@ -33,7 +34,7 @@ class Parser(argparse.ArgumentParser):
 
 def version() -> int:
     """The number of the last change request that has landed."""
-    return max(int(note.stem) for note in (ROOT / 'docs' / 'changes').glob('*.md'))
+    return max(int(note.stem) for note in (ROOT / 'docs' / 'changes').glob('[0-9]*.md'))
 
 
 def printable(name: str) -> str:

@@ -21,10 +21,18 @@ class Connection(asyncio.Protocol):
 
     def __init__(self, others: 'Connections'):
         self.others, self.unread = others, b''
-        self.request: Request | None = None
+        self.under_way: Request | None = None
         self.ended = self.over = self.full = False
 
-    def connection_made(self, transport: asyncio.Transport) -> None:
+    @property
+    def request(self) -> Request:
+        """The request under way, for who answers it."""
+        if self.under_way is None:
+            raise LookupError('no request is under way')
+        return self.under_way
+
+    def connection_made(self, transport: asyncio.BaseTransport) -> None:
+        assert isinstance(transport, asyncio.Transport)  # as every one over a socket is
         self.transport = transport
         transport.set_write_buffer_limits(0)
         self.others.make_room()
@@ -58,7 +66,7 @@ class Connection(asyncio.Protocol):
 
     def look(self) -> None:
         """Takes the next request, if it is there and its turn has come."""
-        if self.request or self.over or self.full or self.others.closed:
+        if self.under_way or self.over or self.full or self.others.closed:
             return
         try:
             found = request_in(self.unread, self.ended) if self.unread else None
@@ -66,7 +74,7 @@ class Connection(asyncio.Protocol):
             self.refuse(unfit)
             return
         if found:
-            self.request, length = found
+            self.under_way, length = found
             self.unread = self.unread[length:]
             if len(self.unread) <= ROOM:
                 self.transport.resume_reading()
@@ -90,7 +98,7 @@ class Connection(asyncio.Protocol):
         self.send(refusal(unfit.status), last=True)
 
     def send(self, reply: Reply, last: bool) -> None:
-        self.request = None
+        self.under_way = None
         if self.transport.is_closing():
             return
         self.others.heard_of(self)
@@ -127,7 +135,7 @@ class Connections:
     def make_room(self) -> None:
         """Ends the connection that was silent longest, if there is no room for one more."""
         if len(self.since) >= MOST:
-            silent = (connection for connection in self.since if not connection.request)
+            silent = (connection for connection in self.since if not connection.under_way)
             ended = next(silent, next(iter(self.since)))
             del self.since[ended]
             ended.transport.abort()
@@ -136,6 +144,6 @@ class Connections:
         """Ends all that were silent too long, now and again and again."""
         early = self.loop.time() - IDLE
         for connection, since in self.since.items():
-            if since < early and not connection.request:
+            if since < early and not connection.under_way:
                 connection.transport.abort()
         self.loop.call_later(IDLE / 4, self.cut_off)

@@ -9,7 +9,8 @@ def packed(rows: list[tuple[int, int]]) -> list[int]:
         low, _ = rows[number]
         free = next((lane for lane in lanes if rows[lane[-1]][1] < low), None)
         if free is None:
-            lanes.append(free := [])
-        free.append(number)
+            lanes.append([number])
+        else:
+            free.append(number)
     lanes.sort(key=lambda lane: max(rows[i][1] - rows[i][0] for i in lane))
     return [next(k for k, lane in enumerate(lanes) if i in lane) for i in range(len(rows))]

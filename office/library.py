@@ -9,7 +9,7 @@ import pathlib
 import shutil
 import subprocess
 import sys
-from collections.abc import Iterator
+from collections.abc import Callable, Iterable, Iterator
 from dataclasses import dataclass
 
 from office.command import ROOT, Fault
@@ -63,7 +63,7 @@ class Desk:
     """A desk, empty at first. A call that is refused raises Refused and leaves the desk as it was."""
 
     def __init__(self) -> None:
-        self.held = library().desk_new()
+        self.held: ctypes.Structure = library().desk_new()
 
     def load(self, text: bytes) -> None:
         self.held = given(library().desk_load(self.held, text, len(text))).desk
@@ -72,7 +72,7 @@ class Desk:
         self.held = given(library().desk_plan(self.held)).desk
 
     def count(self, point: int) -> int:
-        return given(library().desk_count(self.held, point)).value
+        return int(given(library().desk_count(self.held, point)).value)
 
     def mark(self, text: bytes) -> Mark:
         mark = given(library().desk_mark(self.held, text, len(text)))
@@ -109,11 +109,11 @@ class Desk:
 
     def count_calls(self, turns: bytes) -> int:
         """The key's barrier calls, with a number of turns for each loop in order of its DO."""
-        return given(library().desk_count_calls(self.held, turns, len(turns))).calls
+        return int(given(library().desk_count_calls(self.held, turns, len(turns))).calls)
 
     def placement_calls(self, text: bytes, turns: bytes) -> int:
         """The barrier calls of a placement text, with a number of turns for each loop in order of its DO."""
-        return given(library().desk_placement_calls(self.held, text, len(text), turns, len(turns))).calls
+        return int(given(library().desk_placement_calls(self.held, text, len(text), turns, len(turns))).calls)
 
     def improve(self, turns: bytes, budget: int) -> Improved:
         """Tries from the key, within a budget."""
@@ -135,8 +135,8 @@ class Desk:
     def nest(self) -> Nest:
         nest = self.held.nest
         dependences = [(e.kind, e.d, e.s, e.t) for e in nest.deps[:nest.many]]
-        flagged = list(nest.flagged[:nest.flags]) if hasattr(nest, 'flags') else []
-        return Nest(list(nest.points[:nest.count]), dependences, list(nest.barred[:nest.bars]), flagged)
+        return Nest(list(nest.points[:nest.count]), dependences, list(nest.barred[:nest.bars]),
+                    list(nest.flagged[:nest.flags]))
 
     @property
     def cuts(self) -> bytes:
@@ -146,13 +146,13 @@ class Desk:
     @property
     def uncut(self) -> int:
         """How many dependences no barrier of the sitting cuts."""
-        return self.held.sitting.uncut
+        return int(self.held.sitting.uncut)
 
     def moved(self, reply: ctypes.Structure) -> int:
         self.held = given(reply).desk
-        return reply.uncut
+        return int(reply.uncut)
 
-    def written(self, call: object, room: int, *told: object) -> bytes:
+    def written(self, call: Callable[..., ctypes.Structure], room: int, *told: object) -> bytes:
         out = ctypes.create_string_buffer(room)
         length = given(call(self.held, *told, out, room)).value
         return out.raw[:length]
@@ -220,7 +220,7 @@ def sources() -> Iterator[pathlib.Path]:
         yield from (pathlib.Path(folder, file) for file in files)
 
 
-def newer(files: Iterator[pathlib.Path], than: pathlib.Path) -> Iterator[pathlib.Path]:
+def newer(files: Iterable[pathlib.Path], than: pathlib.Path) -> Iterator[pathlib.Path]:
     made = than.stat().st_mtime
     return (file for file in files if file.stat().st_mtime > made)
 

@@ -48,7 +48,8 @@ class Logbook:
             fields = line.split('\t')
             if len(fields) != FIELDS:
                 raise self.damaged(number)
-            found.append((number, *fields[1:]))
+            _, candidate, move = fields
+            found.append((number, candidate, move))
         return found
 
     def damaged(self, number: int) -> Fault:

@@ -48,10 +48,11 @@ class Marking:
         try:
             mark = self.desk.mark(text)
         except Refused as refused:
-            fault, (where, *rules) = refused.refusal, refused.refusal.words(text)
+            refusal = refused.refusal
+            where, *rules = refusal.words(text)
             self.say(f'{printable(file)}: {where}: {"; ".join(rules)}', REFUSED)
             self.hand_out(candidate, None)
-            return Row(candidate, REFUSED_WORD, number=str(fault.number), line=str(fault.line), **hashes)
+            return Row(candidate, REFUSED_WORD, number=str(refusal.number), line=str(refusal.line), **hashes)
         self.hand_out(candidate, text)
         told = {name: '' if value is None else str(value) for name, value in vars(mark).items()}
         certificate = YES if mark.verdict == BEST else NO
@@ -59,7 +60,9 @@ class Marking:
 
     def hand_out(self, candidate: str, text: bytes | None) -> None:
         """Writes both slips of an answer. One that has no verdict has none, and loses those of a time before."""
-        for reader, slip in SLIPS.items() if self.slips is not None else ():
+        if self.slips is None:
+            return
+        for reader, slip in SLIPS.items():
             file = os.path.join(self.slips, f'{candidate}.{self.name}.{reader}.hex')
             try:
                 if text is None:

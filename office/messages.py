@@ -96,8 +96,8 @@ def head_of(head: bytes) -> tuple[str, str, str, dict[str, list[str]]]:
     first, *rest = head.split(b'\r\n')
     if len(rest) > MANY:
         raise Unfit(HTTPStatus.REQUEST_HEADER_FIELDS_TOO_LARGE)
-    line, lines = LINE.fullmatch(first), [*map(HEADER.fullmatch, rest)]
-    if line is None or None in lines:
+    line, lines = LINE.fullmatch(first), [header for header in map(HEADER.fullmatch, rest) if header]
+    if line is None or len(lines) < len(rest):
         raise Unfit(HTTPStatus.BAD_REQUEST)
     method, path, version = (part.decode() for part in line.groups())
     headers: dict[str, list[str]] = {}

@@ -81,7 +81,7 @@ def paper_on(desk: Desk) -> Paper:
                 cut[number].append(gap)
         free.take_back()
     end = {owner[point]: point for point, kind in enumerate(nest.points) if kind == ENDDO}
-    depth = []
+    depth: list[int] = []
     for point, kind in enumerate(nest.points):
         around = owner.get(point)
         depth.append(0 if around is None else depth[around] + (kind != ENDDO))

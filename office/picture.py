@@ -61,7 +61,8 @@ class Picture:
     """Drawn piece by piece into a list of elements."""
 
     def __init__(self, paper: Paper, placed: Placed, name: str, missing: tuple[int, ...] = ()):
-        self.paper, self.barriers, self.counts, self.missing, self.out = paper, placed.gaps, placed.counts, missing, []
+        self.paper, self.barriers, self.counts, self.missing = paper, placed.gaps, placed.counts, missing
+        self.out: list[str] = []
         self.title = f'{name}, barriers {ranges(placed.gaps) or "none"}'
         self.right = LEFT + (max(paper.depth[d] for d in paper.end) + 1) * (INDENT + MARGIN) + LABEL
         self.lane = packed([rows_of(paper, x) for x in paper.dependences])
@@ -70,11 +71,11 @@ class Picture:
         self.round = self.step * 0.4
         self.radius, self.digits = (9, 11) if lanes <= 20 else (8, 8)
         self.width = max(self.right + 40 + self.step * lanes, NARROWEST)
-        self.ends = {1: {}, 2: {}}
+        self.ends: dict[int, dict[int, list[int]]] = {1: {}, 2: {}}
         for number in sorted(range(len(self.lane)), key=lambda i: self.lane[i]):
             for end, point in ((1, paper.dependences[number].s), (2, paper.dependences[number].t)):
                 self.ends[end].setdefault(point, []).append(number)
-        self.top = 0
+        self.top: float = 0
 
     def y(self, point: int) -> float:
         return self.top + ROW * point

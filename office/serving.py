@@ -15,6 +15,7 @@ import string
 from collections.abc import Callable
 from dataclasses import dataclass
 from http import HTTPStatus
+from typing import TypeVar
 
 from office.board import Board
 from office.candidates import TICKET
@@ -25,6 +26,7 @@ from office.messages import Reply, Request, Unfit
 from office.paper import Paper
 from office.show import listing_of
 
+Sense = TypeVar('Sense')
 SERVED = ROOT / 'office' / 'served'
 COOKIE, HTTP_PORT, WAITING = 'ticket', 80, 512
 HANDS_IN = re.compile(f'{HAND_IN} ([0-9]{{1,9}})')
@@ -128,13 +130,13 @@ class Server:
         made, self.made, self.seen = self.made, [], 0
         kept = self.hall.keep()
         for one in made:
-            if kept and one.said is None:
+            if not kept:
+                self.tell(one, functools.partial(about, one.sitting, HTTPStatus.CONFLICT, NOT_KEPT))
+            elif one.said is None:
                 writing = self.loop.run_in_executor(None, self.hall.write_file, one.sitting)
                 writing.add_done_callback(functools.partial(self.written, one))
-            elif kept:
-                self.tell(one, lambda: about(one.sitting, HTTPStatus.OK, one.said))
             else:
-                self.tell(one, lambda: about(one.sitting, HTTPStatus.CONFLICT, NOT_KEPT))
+                self.tell(one, functools.partial(about, one.sitting, HTTPStatus.OK, one.said))
 
     def written(self, made: Made, writing: asyncio.Future[str]) -> None:
         self.tell(made, lambda: about(made.sitting, HTTPStatus.OK, writing.result()))
@@ -143,7 +145,7 @@ class Server:
         """Tells of something; then those are answered who wait for it."""
         made.connection.tell(reply)
         for other in self.waiting.pop(made.sitting.candidate):
-            other.tell(lambda: self.answer(other))
+            other.tell(functools.partial(self.answer, other))
 
     # ---- The routes
 
@@ -170,28 +172,32 @@ class Server:
         return with_cookie('')
 
     def now(self, connection: Connection) -> Reply | None:
-        return self.asked(connection, True, lambda sitting: about(sitting, HTTPStatus.OK, ''))
+        return self.asked(connection, True, lambda sitting, _: about(sitting, HTTPStatus.OK, ''))
 
     def move(self, connection: Connection) -> Reply | None:
-        move = connection.request.body
-        return self.asked(connection, MOVE.fullmatch(move), lambda sitting: self.keep_soon(
-            Made(connection, sitting, self.hall.move(sitting, move))))
+        def make(sitting: Sitting, move: re.Match[str]) -> None:
+            self.keep_soon(Made(connection, sitting, self.hall.move(sitting, move[0])))
+
+        return self.asked(connection, MOVE.fullmatch(connection.request.body), make)
 
     def hand_in(self, connection: Connection) -> Reply | None:
-        asked = HANDS_IN.fullmatch(connection.request.body)
-        return self.asked(connection, asked, lambda sitting: self.keep_soon(
-            Made(connection, sitting, self.hall.hand_in(sitting, int(asked[1])))))
+        def take(sitting: Sitting, asked: re.Match[str]) -> None:
+            self.hall.hand_in(sitting, int(asked[1]))
+            self.keep_soon(Made(connection, sitting, None))
 
-    def asked(self, connection: Connection, sense: object, act: Callable[[Sitting], Reply | None]) -> Reply | None:
+        return self.asked(connection, HANDS_IN.fullmatch(connection.request.body), take)
+
+    def asked(self, connection: Connection, sense: Sense | None,
+              act: Callable[[Sitting, Sense], Reply | None]) -> Reply | None:
         """Does something to the sitting of the candidate who asks, if it has sense, as soon as all of it is kept."""
         sitting = self.sitting_of(connection.request)
-        if sitting is None or not sense:
+        if sitting is None or sense is None:
             return Reply(HTTPStatus.FORBIDDEN if sitting is None else HTTPStatus.BAD_REQUEST, DATA, b'{}')
         if sitting.candidate in self.waiting:
             self.waiting[sitting.candidate].append(connection)
             return None
         try:
-            return act(sitting)
+            return act(sitting, sense)
         except Declined as declined:
             return about(sitting, HTTPStatus.CONFLICT, str(declined))
 

@@ -41,7 +41,7 @@ class Listing:
     """What was read so far: frames of points, dependences still by name, barred gaps, each with its line; the point of
     each name, of loops both points; the loops that are open."""
     points: list[tuple[int, list[int]]] = field(default_factory=list)
-    arrows: list[tuple[int, re.Match]] = field(default_factory=list)
+    arrows: list[tuple[int, re.Match[str]]] = field(default_factory=list)
     barred: list[tuple[int, list[int]]] = field(default_factory=list)
     named: dict[str, int] = field(default_factory=dict)
     closed: dict[str, int] = field(default_factory=dict)
@@ -95,7 +95,7 @@ class Listing:
             raise Unread(f'nothing is called {word}')
         return places[word]
 
-    def dependence(self, arrow: re.Match) -> list[int]:
+    def dependence(self, arrow: re.Match[str]) -> list[int]:
         """The frame of a dependence."""
         ends = [self.point(arrow[1], arrow[2], False), self.point(arrow[3], arrow[4], True)]
         return [CARRIED, self.point(None, arrow[5], False), *ends] if arrow[5] else [INDEPENDENT, *ends]

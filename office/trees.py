@@ -11,11 +11,11 @@ def drawn(paper: Paper, counts: Counts, marked: list[int] | None = None) -> list
 
     def add(d: int, lead: str, below: str) -> None:
         lines.append(f'{lead}loop {d}: {counts[d]}' + ('  <' if marked and d in marked else ''))
-        *others, last = [k for k in paper.end if k != d and paper.owner.get(k) == d] or [None]
-        for k in others:
+        inside = [k for k in paper.end if k != d and paper.owner.get(k) == d]
+        for k in inside[:-1]:
             add(k, below + FORK, below + BAR)
-        if last is not None:
-            add(last, below + LAST, below + SPACE)
+        for k in inside[-1:]:
+            add(k, below + LAST, below + SPACE)
 
     add(0, '', '')
     return lines

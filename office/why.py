@@ -63,20 +63,18 @@ def side_of(desk: Desk, called: str, text: bytes) -> Side:
     return Side(called, text, told, mark, uncut)
 
 
-def verdict(side: Side) -> str:
+def verdict(name: str, mark: Mark) -> str:
     """What the desk says of a placement."""
-    mark = side.mark
     told = VERDICTS[mark.verdict]
     if mark.verdict == UNCUT:
         told += f' {mark.uncut}'
     elif mark.verdict == DEARER:
         told += f', loop {mark.loop}, {mark.theirs} against {mark.ours}'
-    return f'The desk says of {side.name}: {told}.'
+    return f'The desk says of {name}: {told}.'
 
 
-def uncut_words(paper: Paper, side: Side) -> str:
+def uncut_words(paper: Paper, side: Side, first: int) -> str:
     """That a placement is not correct, by its first uncut dependence."""
-    first = side.placed.uncut
     gaps = ' and '.join(runs_of(paper.dependences[first].gaps))
     many = f', the first of {side.uncut},' if side.uncut > 1 else ''
     return (f'With {side.name} dependence {first}{many} is not cut: no barrier stands in any of its gaps, {gaps}. The '
@@ -118,9 +116,10 @@ def cost_words(paper: Paper, held: Compared, first: Side, second: Side) -> list[
 
 def reasons(paper: Paper, held: Compared, first: Side, second: Side) -> str:
     """One paragraph: whether both cut all, how the costs compare, what the desk says."""
-    wrong = [uncut_words(paper, side) for side in (first, second) if side.placed.uncut is not None]
+    wrong = [uncut_words(paper, side, side.placed.uncut) for side in (first, second) if side.placed.uncut is not None]
     told = wrong or ['Both cut every dependence.', *cost_words(paper, held, first, second)]
-    return ' '.join(told + [verdict(side) for side in (first, second) if side.mark and side.name != KEY])
+    said = [verdict(side.name, side.mark) for side in (first, second) if side.mark and side.name != KEY]
+    return ' '.join(told + said)
 
 
 def calls_made(desk: Desk, argument: str, turns: bytes, sides: list[Side]) -> list[int]:
@@ -179,6 +178,6 @@ def main(asked: argparse.Namespace) -> None:
         shown = [Shown(side.title, side.placed, tree) for side, tree in zip((first, second), trees)]
         write_over(asked.html, page(asked.paper, paper, shown, told).encode())
         return
-    columns = [[side.title, '', *tree] for side, tree in zip((first, second), trees)]
-    paragraphs = ['\n'.join(beside(*columns)), *('\n'.join(textwrap.wrap(words, WIDE)) for words in told)]
+    left, right = ([side.title, '', *tree] for side, tree in zip((first, second), trees))
+    paragraphs = ['\n'.join(beside(left, right)), *('\n'.join(textwrap.wrap(words, WIDE)) for words in told)]
     write_out(('\n\n'.join(paragraphs) + '\n').encode())

@@ -16,7 +16,8 @@ function show(told, refused) {
         place.classList.toggle('filled', there.has(Number(place.dataset.barrier)));
     }
     for (const place of document.querySelectorAll('[data-cut]')) {
-        const cuts = parseInt(told.cuts.substr(2 * place.dataset.cut, 2), 16);
+        const at = 2 * place.dataset.cut;
+        const cuts = parseInt(told.cuts.slice(at, at + 2), 16);
         place.classList.toggle('u', cuts === 0);
         const words = place.querySelector('span');
         if (words) {
