@@ -10,6 +10,7 @@ What is checked:
   - the theorems stand in the files that are named beside them; every crate, call and request is in its table;
   - the files that a reader must believe are all there, in order, with their lengths;
   - papers are shown one frame a line and the program reads them; examples print what is shown;
+  - the picture of the families is the one that crates.txt makes;
   - the kit that is here is one that README names; the folders of outside/ say what is there;
   - a fault put into a copy of the documents is noticed.
 
@@ -21,6 +22,7 @@ import subprocess
 import sys
 from typing import Iterator, NamedTuple
 
+from outside.checks import families
 from outside.checks.repository import CRATES, UNREAD, calls, cited, crates, defined, known, must_be_read, specs_used
 from outside.run import parts
 from outside.trying import ROOT
@@ -274,6 +276,13 @@ def kits(docs: Documents) -> Iterator[Check]:
     yield Check('README.md', f'the kit is {here!r}, one of {named}', here in named)
 
 
+def drawn(_: Documents) -> Iterator[Check]:
+    """The picture of the families is made from crates.txt as it is."""
+    path = ROOT / 'docs/families.svg'
+    held = path.exists() and path.read_text() == families.picture()
+    yield Check('docs/families.svg', 'is what python3 -m outside.checks.families prints', held)
+
+
 def run(command: list[str], text: str = '') -> str:
     """What a command writes to standard output, or why there is nothing."""
     try:
@@ -353,7 +362,8 @@ def main() -> int:
         print(__doc__, file=sys.stderr)
         return 2
     docs = documents()
-    checks = [check for reading in [*READING, folders, papers, examples, kits, noticed] for check in reading(docs)]
+    readings = [*READING, folders, papers, examples, kits, drawn, noticed]
+    checks = [check for reading in readings for check in reading(docs)]
     failed = [check for check in checks if not check.holds]
     for check in failed:
         print(f'{check.where}: does not hold: {check.what}')
