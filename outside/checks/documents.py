@@ -1,4 +1,4 @@
-"""Holds README.md and docs/*.md against the repository.
+"""Holds README.md, docs/ and the READMEs of outside/ against the repository.
 
   python3 -m outside.checks.documents              all checks; the last line is 'N passed, M failed'
   python3 -m outside.checks.documents --lengths    writes the lengths under "What a reader must believe" anew
@@ -6,7 +6,7 @@
 What is checked:
   - comments that cite 01, 02 or a demand find their heading in docs/RULES.md;
   - links lead to files and headings; a link whose text is a name leads to the file that defines it;
-  - names, paths, commands and crates in code type are there;
+  - names, paths, commands and crates in code type are there, but for the notes on requests, which tell of their day;
   - the theorems stand in the files that are named beside them; every crate, call and request is in its table;
   - the files that a reader must believe are all there, in order, with their lengths;
   - papers are shown one frame a line and the program reads them; examples print what is shown;
@@ -45,9 +45,14 @@ class Check(NamedTuple):
 # ---- The documents
 
 def documents() -> Documents:
-    paths = [ROOT / 'README.md', *sorted((ROOT / 'docs').glob('*.md')), ROOT / 'docs/changes/README.md',
+    paths = [ROOT / 'README.md', *sorted((ROOT / 'docs').glob('**/*.md')),
              *sorted((ROOT / 'outside').glob('*/README.md'))]
     return {str(path.relative_to(ROOT)): path.read_text() for path in paths}
+
+
+def today(docs: Documents) -> Iterator[tuple[str, str]]:
+    """All but the notes on requests, whose names and commands are those of their day."""
+    return ((where, text) for where, text in docs.items() if not re.match(r'docs/changes/\d', where))
 
 
 def blocks(text: str) -> list[tuple[str, str]]:
@@ -172,7 +177,7 @@ def is_there(span: str) -> bool | None:
 def names(docs: Documents) -> Iterator[Check]:
     """Everything in code type is there, every path wherever it stands, and every command of an example."""
     place = '|'.join(['docs', 'outside', 'examples', *(f'{crate}/(?:specs|proofs|src)' for crate in crates())])
-    for where, text in docs.items():
+    for where, text in today(docs):
         for number, line in prose(text):
             for span in re.findall(r'`([^`\s][^`]*)`', line):
                 held = is_there(span)
@@ -246,7 +251,7 @@ def believed(docs: Documents) -> Iterator[Check]:
 
 def papers(docs: Documents) -> Iterator[Check]:
     """Papers are one frame a line, and the program accepts them."""
-    for where, text in docs.items():
+    for where, text in today(docs):
         packed = re.findall(r'\b0[1-4](?:,? 0[1-4]){3}.*', text)
         yield Check(where, f'papers are one frame a line {packed}', not packed)
         for kind, block in blocks(text):
@@ -258,7 +263,7 @@ def papers(docs: Documents) -> Iterator[Check]:
 
 def examples(docs: Documents) -> Iterator[Check]:
     """Commands behind '$ ' print what stands below them; a block with a file's name is that file's text."""
-    for where, text in docs.items():
+    for where, text in today(docs):
         for kind, block in blocks(text):
             if kind == 'console':
                 for command, shown in re.findall(r'^\$ (.*)\n((?:(?!\$ ).*\n)*)', block, re.M):
@@ -309,6 +314,7 @@ FAULTS = [
     ('README.md', '`./test telling`', '`./test tellings`'),
     ('README.md', '`python3 -m outside.faults.faults`', '`python3 -m outside.faults.fault`'),
     ('docs/CONTRIBUTING.md', 'outside/checks/repository.py', 'outside/repositories.py'),
+    ('docs/changes/05.md', '(../../crates/call_moves/specs/Runs.antt)', '(../../crates/call_moves/specs/Says.antt)'),
     ('README.md', '$ ./key examples/p.hex', '$ ./key example/p.hex'),
     ('docs/PROOFS.md', '| `reads-back` |', '| `read-back` |'),
     ('docs/PROOFS.md', '| `reads-back` | [paper_texts/proofs/ReadsBack](../crates/paper_texts/proofs/ReadsBack.antt)',
