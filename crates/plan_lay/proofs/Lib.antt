@@ -1,4 +1,4 @@
 -- Laws of laying.
-pub mod Sizes
+pub mod Calls
 pub mod Turns
 pub mod Whole

@@ -4,7 +4,7 @@ use mathlib.Core.Path.{_≡_, refl, _∙_, ap}
 use mathlib.Core.Bool.{Bool, true, false, _||_}
 use mathlib.Core.List.{List}
 use mathlib.Core.Logic.{⊎-elim}
-use Prim.Native.Nat.{ℕ, suc, _+_, _-_, _≤_, _<_}
+use Prim.Native.Nat.{ℕ, suc, _+_, _-_, _*_, _≤_, _<_}
 use native.Mathlib.Omega.{arith}
 use lib.Dec.{eqb, ltb}
 use lib.ListN.{length, getD}
@@ -13,17 +13,18 @@ use Rattle.laws.specs.Choice.{pick}
 use Rattle.laws.specs.Entries.{at}
 use Rattle.laws.proofs.Ors.{or-assoc}
 use Rattle.paper_nests.specs.Loops.{isDo, endOf, ownerOf}
-use Rattle.paper_nests.proofs.Loops.{end-after, end-there, owner-of-end}
+use Rattle.paper_nests.specs.Valid.{isShape}
+use Rattle.paper_nests.proofs.Loops.{end-after, owner-of-end}
 use Rattle.paper_nests.proofs.Gaps.{Child, child-law, plain-law}
 use Rattle.paper_placements.specs.Words.{holds}
 use Rattle.plan_method.specs.Sweep.{Lines, Tables, bare, only, also, IsTable}
 use Rattle.plan_method.specs.Home.{loopsIn}
 use Rattle.plan_sweeps.specs.Listed.{laid, Stepped}
 use Rattle.plan_sweeps.proofs.Turns as sweep
-use Rattle.plan_settle.specs.Settled.{HasHeight, Charts, LinesAt, Rows}
+use Rattle.plan_settle.specs.Settled.{HasHeight, LinesAt, Rows}
 use Rattle.plan_settle.proofs.Heights.{child-height}
 use Rattle.plan_lay.specs.Laid.{Choices, PutSays, LaySays}
-use Rattle.plan_lay.proofs.Sizes.{Asked}
+use Rattle.plan_lay.proofs.Calls.{Asked, Call}
 
 -- the placement k is what the sweep has laid so far, added to key
 pub record Held
@@ -38,21 +39,21 @@ pub record Held
   pub held : (g : ℕ) → holds k g ≡ (w g || holds key g)
 
 pub record Laying
-    (ps own reach limit left choice need : List ℕ)
-    (kids d e : ℕ)
-    (key k : List ℕ)
+    (ps own ends reach limit left choice : List ℕ)
+    (d h : ℕ)
+    (need key k : List ℕ)
     (c f p : ℕ)
     : Type 0 where
   pub from : d ≤ p
-  pub high : p ≤ e
+  pub high : p ≤ at ends d
   pub owner : d < p → ownerOf ps p ≡ d
-  pub small : c + p ≤ e
+  pub small : c + p ≤ at ends d
   pub held
       : (N : Lines) (T : Tables) (has : List ℕ)
       → IsTable (loopsIn ps) N T
       → LinesAt ps N reach limit has
       → Rows ps T left choice d (endOf ps d)
-      → Held ps own need left kids d e (T .lay) key k c f p
+      → Held ps own need left (h * 256 - 256) d (at ends d) (T .lay) key k c f p
 
 -- what a placement holds after a barrier, and after a child
 held-put : (w : ℕ → Bool) (key k k′ : List ℕ) (p : ℕ) → ((g : ℕ) → holds k g ≡ (w g || holds key g)) →
@@ -79,148 +80,152 @@ rows-inside ps T left choice d l a b r =
       choice-is = λ x h q i m n. r .choice-is x h q i (omega arith) (omega arith);
     }
 
-module _ (ps own ends reach limit left choice : List ℕ) (w : Charts ps own ends) (d h : ℕ)
-    (is-do : isDo ps d ≡ true) (height : HasHeight ps d h) (e : ℕ) (e-is : e ≡ endOf ps d) (need key : List ℕ)
-    (kids : ℕ) where
-  pub begin : Laying ps own reach limit left choice need kids d e key key 0 (e + 1) e
-  begin =
-      record {
-        from = omega (arith, end-after ps (w .shape) d is-do);
-        high = omega arith;
-        owner = λ a. ap (ownerOf ps) e-is ∙ owner-of-end ps (w .shape) d is-do;
-        small = omega arith;
-        held = λ N T has t n r.
-            record { w = bare; turn = sweep.begin ps own need left kids d e (T .lay); held = λ g. refl };
-      }
+module _
+    {ps own ends reach limit left choice : List ℕ} {d q h : ℕ} (a : Call ps own ends reach limit left choice d q h)
+  where
+    abbrev shape : isShape ps ≡ true
+    shape = a .charts .shape
 
-  module _ (k : List ℕ) (c f p : ℕ) (s : Laying ps own reach limit left choice need kids d e key k c f p)
-      (more : d < p) where
-    step-back : suc (p - 1) ≡ p
-    step-back = omega arith
+    abbrev e : ℕ
+    e = at ends d
 
-    there : p < length ps
-    there = omega (arith, s .high, end-there ps (w .shape) d is-do)
+    abbrev kids : ℕ
+    kids = h * 256 - 256
 
-    owned : ownerOf ps (suc (p - 1)) ≡ d
-    owned = rw step-back (s .owner more)
-
-    -- before a gap of d that follows no ENDDO lies d or another gap of d
-    plain : (getD ps (p - 1) 0 ≡ 2 → ⊥) → d < p - 1 → ownerOf ps (p - 1) ≡ d
-    plain n a = ⊎-elim
-        (λ (z : p - 1 ≡ d). absurd (omega arith))
-        (λ (z : (ownerOf ps (p - 1) ≡ d) × (isDo ps (p - 1) ≡ false)). z .0)
-        (plain-law ps (w .shape) d (p - 1) (omega (arith, there)) owned (ne-eqb (getD ps (p - 1) 0) 2 n))
-
-    pub on-put
-        : (k′ : List ℕ)
-        → (getD ps (p - 1) 0 ≡ 2 → ⊥)
-        → at need p < f
-        → ((g : ℕ) → holds k′ g ≡ (eqb g p || holds k g))
-        → Laying ps own reach limit left choice need kids d e key k′ (c + 1) p (p - 1)
-    on-put k′ n m put =
+    pub begin : {need key : List ℕ} → Laying ps own ends reach limit left choice d h need key key 0 (e + 1) e
+    begin {need} =
         record {
-          from = omega arith;
-          high = omega (arith, s .high);
-          owner = plain n;
-          small = omega (arith, s .small);
-          held = λ N T has t v r.
-              let x : Held ps own need left kids d e (T .lay) key k c f p = s .held N T has t v r in
-              record {
-                w = also (only p) (x .w);
-                turn = sweep.on-put ps own need left kids d e (T .lay) p c f (x .w) more n m (x .turn);
-                held = held-put (x .w) key k k′ p (x .held) put;
-              };
+          from = omega (arith, a .long);
+          high = omega arith;
+          owner = λ z. ap (ownerOf ps) (a .e-is) ∙ owner-of-end ps shape d (a .is-do);
+          small = omega arith;
+          held = λ N T has t n r.
+              record { w = bare; turn = sweep.begin ps own need left kids d e (T .lay); held = λ g. refl };
         }
 
-    pub on-skip
-        : (getD ps (p - 1) 0 ≡ 2 → ⊥)
-        → f ≤ at need p
-        → Laying ps own reach limit left choice need kids d e key k c f (p - 1)
-    on-skip n m =
-        record {
-          from = omega arith;
-          high = omega (arith, s .high);
-          owner = plain n;
-          small = omega (arith, s .small);
-          held = λ N T has t v r.
-              let x : Held ps own need left kids d e (T .lay) key k c f p = s .held N T has t v r in
-              record {
-                w = x .w;
-                turn = sweep.on-skip ps own need left kids d e (T .lay) p c f (x .w) more n m (x .turn);
-                held = x .held;
-              };
-        }
+    module _
+        {need key k : List ℕ} {c f p : ℕ} (s : Laying ps own ends reach limit left choice d h need key k c f p)
+        (more : d < p)
+      where
+        step-back : suc (p - 1) ≡ p
+        step-back = omega arith
 
-    -- before a gap of d that follows an ENDDO lies a loop directly inside d
-    module _ (ends-there : getD ps (p - 1) 0 ≡ 2) where
-      own-is : at own (p - 1) ≡ ownerOf ps (p - 1)
-      own-is = w .own-is (p - 1) (omega (arith, there))
+        there : p < length ps
+        there = omega (arith, s .high, a .short)
 
-      child : Child ps d (p - 1) (at own (p - 1))
-      child = rw own-is (child-law ps (w .shape) d (p - 1) (omega (arith, there)) owned
-          (eq-eqb (getD ps (p - 1) 0) 2 ends-there))
+        owned : ownerOf ps (suc (p - 1)) ≡ d
+        owned = rw step-back (s .owner more)
 
-      child-end : endOf ps (at own (p - 1)) ≡ p - 1
-      child-end = child .ends
+        -- before a gap of d that follows no ENDDO lies d or another gap of d
+        plain : (getD ps (p - 1) 0 ≡ 2 → ⊥) → d < p - 1 → ownerOf ps (p - 1) ≡ d
+        plain n b = ⊎-elim
+            (λ (z : p - 1 ≡ d). absurd (omega arith))
+            (λ (z : (ownerOf ps (p - 1) ≡ d) × (isDo ps (p - 1) ≡ false)). z .0)
+            (plain-law ps shape d (p - 1) (omega (arith, there)) owned (ne-eqb (getD ps (p - 1) 0) 2 n))
 
-      -- what laying it requires
-      pub child-long : at own (p - 1) < p - 1
-      child-long = omega (arith, child-end, end-after ps (w .shape) (at own (p - 1)) (child .loop))
+        pub on-put
+            : {k′ : List ℕ}
+            → (getD ps (p - 1) 0 ≡ 2 → ⊥)
+            → at need p < f
+            → ((g : ℕ) → holds k′ g ≡ (eqb g p || holds k g))
+            → Laying ps own ends reach limit left choice d h need key k′ (c + 1) p (p - 1)
+        on-put {k′} n m put =
+            record {
+              from = omega arith;
+              high = omega (arith, s .high);
+              owner = plain n;
+              small = omega (arith, s .small);
+              held = λ N T has t v r.
+                  let x : Held ps own need left kids d e (T .lay) key k c f p = s .held N T has t v r in
+                  record {
+                    w = also (only p) (x .w);
+                    turn = sweep.on-put ps own need left kids d e (T .lay) p c f (x .w) more n m (x .turn);
+                    held = held-put (x .w) key k k′ p (x .held) put;
+                  };
+            }
 
-      child-low : HasHeight ps (at own (p - 1)) (h - 1)
-      child-low = child-height ps (w .shape) d (at own (p - 1)) h is-do (child .loop) (child .inside) (child .owned)
-          height
+        pub on-skip
+            : (getD ps (p - 1) 0 ≡ 2 → ⊥)
+            → f ≤ at need p
+            → Laying ps own ends reach limit left choice d h need key k c f (p - 1)
+        on-skip n m =
+            record {
+              from = omega arith;
+              high = omega (arith, s .high);
+              owner = plain n;
+              small = omega (arith, s .small);
+              held = λ N T has t v r.
+                  let x : Held ps own need left kids d e (T .lay) key k c f p = s .held N T has t v r in
+                  record {
+                    w = x .w;
+                    turn = sweep.on-skip ps own need left kids d e (T .lay) p c f (x .w) more n m (x .turn);
+                    held = x .held;
+                  };
+            }
 
-      child-choices : Choices ps left choice d (endOf ps d) →
-          Choices ps left choice (at own (p - 1)) (endOf ps (at own (p - 1)))
-      child-choices r l k q i a b = r l k q i (omega (arith, child .inside))
-          (omega (arith, child-end, there, s .high))
+        -- before a gap of d that follows an ENDDO lies a loop directly inside d
+        module _ (ends-there : getD ps (p - 1) 0 ≡ 2) where
+          abbrev l : ℕ
+          l = at own (p - 1)
 
-      pub child-asked
-          : (q c′ f′ ask : ℕ)
-          → Asked ps own ends reach limit left choice d q h
-          → Stepped need left kids (at own (p - 1)) (p - 1) c f c′ f′ ask
-          → Asked ps own ends reach limit left choice (at own (p - 1)) ask (h - 1)
-      child-asked q c′ f′ ask a step = (
-        w,
-        (
-          a .1 .0,
-          (
-            child .loop,
-            (
-              child-low,
+          own-is : l ≡ ownerOf ps (p - 1)
+          own-is = a .charts .own-is (p - 1) (omega (arith, there))
+
+          child : Child ps d (p - 1) l
+          child = rw own-is (child-law ps shape d (p - 1) (omega (arith, there)) owned
+              (eq-eqb (getD ps (p - 1) 0) 2 ends-there))
+
+          child-end : endOf ps l ≡ p - 1
+          child-end = child .ends
+
+          -- what laying it requires
+          pub child-long : l < p - 1
+          child-long = omega (arith, child-end, end-after ps shape l (child .loop))
+
+          child-low : HasHeight ps l (h - 1)
+          child-low = child-height ps shape d l h (a .is-do) (child .loop) (child .inside) (child .owned) (a .height)
+
+          child-choices : Choices ps left choice l (endOf ps l)
+          child-choices x k y i m n = a .choices x k y i (omega (arith, child .inside))
+              (omega (arith, child-end, there, s .high, a .e-is))
+
+          module _ {c′ f′ ask : ℕ} (step : Stepped need left kids l (p - 1) c f c′ f′ ask) where
+            pub child-asked : Asked ps own ends reach limit left choice l ask (h - 1)
+            child-asked = (
+              a .charts,
               (
-                step .low,
-                (omega (arith, step .high child-long, child-end), child-choices (a .1 .1 .1 .1 .1 .1)),
+                a .room,
+                (
+                  child .loop,
+                  (
+                    child-low,
+                    (step .low, (omega (arith, step .high child-long, child-end), child-choices)),
+                  ),
+                ),
               ),
-            ),
-          ),
-        ),
-      )
+            )
 
-      pub on-child
-          : (c′ f′ ask : ℕ) (mid k′ : List ℕ)
-          → Stepped need left kids (at own (p - 1)) (p - 1) c f c′ f′ ask
-          → PutSays k c c′ p mid
-          → LaySays ps reach limit left choice (at own (p - 1)) ask mid k′
-          → Laying ps own reach limit left choice need kids d e key k′ c′ f′ (at own (p - 1))
-      on-child c′ f′ ask mid k′ step put deeper =
-          record {
-            from = omega (arith, child .inside);
-            high = omega (arith, s .high, child-long);
-            owner = λ a. child .owned;
-            small = omega (arith, s .small, step .grows, child-long);
-            held = λ N T has t v r.
-                let x : Held ps own need left kids d e (T .lay) key k c f p = s .held N T has t v r in
-                let l = at own (p - 1) in
-                let inside : Rows ps T left choice l (endOf ps l) =
-                rows-inside ps T left choice d l (omega (arith, child .inside))
-                (omega (arith, child-end, s .high)) r in
+            pub on-child
+                : {k′ : List ℕ} (mid : List ℕ)
+                → PutSays k c c′ p mid
+                → LaySays ps reach limit left choice l ask mid k′
+                → Laying ps own ends reach limit left choice d h need key k′ c′ f′ l
+            on-child {k′} mid put deeper =
                 record {
-                  w = laid (ltb c c′) (p - 1) (T .lay l ask) (x .w);
-                  turn = sweep.on-child ps own need left kids d e (T .lay) p c f c′ f′ ask (x .w) more ends-there
-                      (omega (arith, child-long)) step (x .turn);
-                  held = held-child (x .w) (T .lay l ask) key k mid k′ (ltb c c′) (p - 1) (x .held)
-                      (λ g. put g ∙ rw step-back refl) (deeper N T has t v inside);
-                };
-          }
+                  from = omega (arith, child .inside);
+                  high = omega (arith, s .high, child-long);
+                  owner = λ z. child .owned;
+                  small = omega (arith, s .small, step .grows, child-long);
+                  held = λ N T has t v r.
+                      let x : Held ps own need left kids d e (T .lay) key k c f p = s .held N T has t v r in
+                      let inside : Rows ps T left choice l (endOf ps l) =
+                      rows-inside ps T left choice d l (omega (arith, child .inside))
+                      (omega (arith, child-end, s .high, a .e-is)) r in
+                      record {
+                        w = laid (ltb c c′) (p - 1) (T .lay l ask) (x .w);
+                        turn = sweep.on-child ps own need left kids d e (T .lay) p c f c′ f′ ask (x .w) more ends-there
+                            (omega (arith, child-long)) step (x .turn);
+                        held = held-child (x .w) (T .lay l ask) key k mid k′ (ltb c c′) (p - 1) (x .held)
+                            (λ g. put g ∙ rw step-back refl) (deeper N T has t v inside);
+                      };
+                }
