@@ -1,26 +1,18 @@
 -- `settle` meets its contract; the height falls at each call. The invariant of its loop: the loops inside d that lie
 -- before i are settled (`Settling`). At its end the loop's own row is made (`done`).
-use mathlib.Core.Path.{_≡_, _∙_}
-use mathlib.Core.Bool.{true}
-use Prim.Native.Nat.{_-_, ℕ, _<_}
+use mathlib.Core.Path.{_∙_}
+use Prim.Native.Nat.{ℕ, _-_, _<_}
 use native.Mathlib.Omega.{arith}
-use lib.ListN.{getD}
-use borrow.Author.Tests.{eq-eqb}
 use borrow.Author.Needs.{needs}
-use Rattle.laws.specs.Entries.{at}
-use Rattle.paper_nests.specs.Loops.{isDo, endOf}
-use Rattle.paper_nests.proofs.Loops.{end-after, end-there}
-use Rattle.plan_settle.specs.Settled.{Room}
-use Rattle.plan_settle.proofs.Heights.{child-height}
-use Rattle.plan_settle.proofs.Turns.{Settling, begin, on-plain, on-child}
+use Rattle.plan_settle.proofs.Calls.{Call, called}
+use Rattle.plan_settle.proofs.Turns.{Settling, begin, on-plain, child-asked, child-long, child-short, on-child}
 use Rattle.plan_settle.proofs.Own.{done}
-use Rattle.plan_settle.proofs.Grounded.{grounded}
-use Rattle.plan_settle.proofs.Sizes.{Sizes, sizes}
+use Rattle.plan_settle.proofs.Grounded.{row-room}
 use borrow.Fn.Kinds.{In}
 use borrow.Fn.PlainCycle.{Measures, is, falls, and}
 use Rattle.plan_settle.proofs.settle.Reads as settle
 use Rattle.plan_settle.proofs.settle.Kinds as settle-kinds
-use Rattle.plan_settle.proofs.+settle.Lts-settle as settle-lts
+use Rattle.plan_settle.proofs.+settle.Lts-settle as lts
 use Rattle.plan_rows.proofs.make_row.Reads as make-row-reads
 use Rattle.plan_sweeps.proofs.first_or.Reads as first-or-reads
 use Rattle.plan_settle.proofs.+settle.{statement}
@@ -35,7 +27,7 @@ settle-at t = and 8 settle-kinds.ps (is 8 settle-kinds.ps μ-settle t) settle.Pr
 abbrev settle-below : ℕ → In 8 settle-kinds.ps
 settle-below t = and 8 settle-kinds.ps (falls 8 settle-kinds.ps _<_ μ-settle t) settle.Pre
 
-abbrev callees : ℕ → settle-lts.Claims
+abbrev callees : ℕ → lts.Claims
 callees t = (
   settle-below t,
   settle.Post,
@@ -45,346 +37,212 @@ callees t = (
   make-row-reads.Learnt,
 )
 
-abbrev settle-Inv-loop : settle-lts.InvT-loop
-settle-Inv-loop points own ends reach limit has left₀ choice₀ d h e base kids some₀ i₀ left choice some i =
+abbrev Inv-loop : lts.InvT-loop
+Inv-loop points own ends reach limit has left₀ choice₀ d h e base kids some₀ i₀ left choice some i =
     Settling points reach limit has left₀ choice₀ d left choice some i
 
-abbrev settle-μ-loop : settle-lts.MeasureT-loop
-settle-μ-loop points own ends reach limit has left₀ choice₀ d h e base kids some₀ i₀ left choice some i =
+abbrev μ-loop : lts.MeasureT-loop
+μ-loop points own ends reach limit has left₀ choice₀ d h e base kids some₀ i₀ left choice some i =
     e - i
 
--- the numbers that the call stays below
-facts :
-    (t : ℕ) (c : settle-lts.Start (callees t) (settle-at t) settle.Post settle-Inv-loop settle-μ-loop) →
-    Sizes
-    (c .args .points .now)
-    (c .args .own .now)
-    (c .args .ends .now)
-    (c .args .reach .now)
-    (c .args .limit .now)
-    (c .args .has .now)
-    (c .args .left .now)
-    (c .args .choice .now)
-    (c .args .d)
-    (c .args .h)
-facts t c = sizes (c .args .d) (c .args .h) (c .pre .1)
+module _ (t : ℕ) where
+  -- places: the call, with its slices known, a turn, at a loop inside, where that is settled and looked at, and where
+  -- the loop's own row is made
+  abbrev Start : Type 0
+  Start = lts.Start (callees t) (settle-at t) settle.Post Inv-loop μ-loop
 
-settle-mul-e : (t : ℕ) → settle-lts.Need-mul-e (callees t) (settle-at t) settle.Post settle-Inv-loop settle-μ-loop
-settle-mul-e t c =
-    let z = facts t (c .before .before .before .before .before .before .before .before) in
-    omega arith
+  abbrev Known : Type 0
+  Known = lts.After-slice-known2 (callees t) (settle-at t) settle.Post Inv-loop μ-loop
 
-settle-shared-slice-read-e : (t : ℕ) → settle-lts.Need-shared-slice-read-e (callees t) (settle-at t) settle.Post
-    settle-Inv-loop settle-μ-loop
-settle-shared-slice-read-e t c =
-    let z = facts t (c .before .before .before .before .before .before .before .before .before) in
-    omega arith
+  abbrev Turn : Type 0
+  Turn = lts.At-loop (callees t) (settle-at t) settle.Post Inv-loop μ-loop
 
-settle-mul-base : (t : ℕ) → settle-lts.Need-mul-base (callees t) (settle-at t) settle.Post settle-Inv-loop
-    settle-μ-loop
-settle-mul-base t c =
-    let z = facts t (c .before .before .before .before .before .before .before .before .before) in
-    omega arith
+  abbrev Inside : Type 0
+  Inside = lts.Then1 (callees t) (settle-at t) settle.Post Inv-loop μ-loop
 
-settle-sub-kids : (t : ℕ) → settle-lts.Need-sub-kids (callees t) (settle-at t) settle.Post settle-Inv-loop
-    settle-μ-loop
-settle-sub-kids t c =
-    let z = facts t (c .before .before .before .before .before .before .before .before .before) in
-    omega arith
+  abbrev Settled : Type 0
+  Settled = lts.After-settle (callees t) (settle-at t) settle.Post Inv-loop μ-loop
 
-settle-mul-some : (t : ℕ) → settle-lts.Need-mul-some (callees t) (settle-at t) settle.Post settle-Inv-loop
-    settle-μ-loop
-settle-mul-some t c =
-    let z = facts t (c .before .before .before .before .before .before .before .before .before) in
-    omega arith
+  abbrev Looked : Type 0
+  Looked = lts.After-first-or (callees t) (settle-at t) settle.Post Inv-loop μ-loop
 
-settle-shared-slice-read-some : (t : ℕ) → settle-lts.Need-shared-slice-read-some (callees t) (settle-at t)
-    settle.Post settle-Inv-loop settle-μ-loop
-settle-shared-slice-read-some t c =
-    let z = facts t (c .before .before .before .before .before .before .before .before .before .before) in
-    omega arith
+  abbrev Made : Type 0
+  Made = lts.After-make-row (callees t) (settle-at t) settle.Post Inv-loop μ-loop
 
-settle-add-i : (t : ℕ) → settle-lts.Need-add-i (callees t) (settle-at t) settle.Post settle-Inv-loop settle-μ-loop
-settle-add-i t c =
-    let z = facts t (c .before .before .before .before .before .before .before .before .before .before) in
-    omega arith
+  abbrev known : Known → Start
+  known c = c .before .before .before .before .before .before .before .before
 
-settle-loop-holds : (t : ℕ) → settle-lts.Need-loop-holds (callees t) (settle-at t) settle.Post settle-Inv-loop
-    settle-μ-loop
-settle-loop-holds t c =
-    let b10 = c .before .before .before .before .before .before .before .before .before .before in
-    let i = b10 .args in
-    let p = b10 .pre .1 in
-    begin (i .points .now) (i .own .now) (i .ends .now) (i .reach .now) (i .limit .now) (i .has .now) (i .left .now)
-    (i .choice .now) (p .0) (i .d) (i .h) (p .1 .1 .0) (p .1 .1 .1)
+  abbrev turn : Turn → Start
+  turn c = known (c .before .before .before)
 
-settle-shared-slice-read-if1 : (t : ℕ) → settle-lts.Need-shared-slice-read-if1 (callees t) (settle-at t) settle.Post
-    settle-Inv-loop settle-μ-loop
-settle-shared-slice-read-if1 t c =
-    let b12 = c .before .before .before .before .before .before .before .before .before .before .before .before in
-    let b13 = b12 .before in
-    let z = facts t b13 in
-    omega arith
+  abbrev inside : Inside → Turn
+  inside c = c .before .before .before
 
-settle-sub-settle : (t : ℕ) → settle-lts.Need-sub-settle (callees t) (settle-at t) settle.Post settle-Inv-loop
-    settle-μ-loop
-settle-sub-settle t c =
-    let b12 = c .before .before .before .before .before .before .before .before .before .before .before .before in
-    let b16 = b12 .before .before .before .before in
-    let z = facts t b16 in
-    omega arith
+  abbrev settled : Settled → Inside
+  settled c = c .before .before .before
 
-settle-settle-requires : (t : ℕ) → settle-lts.Need-settle-requires (callees t) (settle-at t) settle.Post
-    settle-Inv-loop settle-μ-loop
-settle-settle-requires t c κs =
-    let b2 = c .before .before in
-    let b5 = b2 .before .before .before in
-    let b16 = b5 .before .before .before .before .before .before .before .before .before .before .before in
-    let i = b16 .args in
-    let p = b16 .pre .1 in
-    let l = b5 .loop in
-    let z = facts t b16 in
-    let loop : isDo (i .points .now) (l .i) ≡ true = eq-eqb (getD (i .points .now) (l .i) 0) 1 (b2 .if1 .taken) in
-    let room : Room (i .reach .now) (i .limit .now) (i .has .now) (l .left) (l .choice) =
-    record {
-      reach-room = z .room .reach-room;
-      limit-room = z .room .limit-room;
-      has-room = z .room .has-room;
-      left-room = omega (arith, l .inv .left-length);
-      choice-room = omega (arith, l .inv .choice-length);
-    } in (
-      omega (arith, b16 .pre .0),
-      (
-        p .0,
-        (
-          room,
-          (
-            loop,
-            child-height (i .points .now) (p .0 .shape) (i .d) (l .i) (i .h) (p .1 .1 .0) loop
-                (l .inv .from) (l .inv .owner) (p .1 .1 .1),
-          ),
-        ),
-      ),
-    )
+  abbrev looked : Looked → Settled
+  looked c = c .before .before .before .before .before .before
 
-settle-add-first : (t : ℕ) → settle-lts.Need-add-first (callees t) (settle-at t) settle.Post settle-Inv-loop
-    settle-μ-loop
-settle-add-first t c =
-    let b12 = c .before .before .before .before .before .before .before .before .before .before .before .before in
-    let b21 = b12 .before .before .before .before .before .before .before .before .before in
-    let z = facts t b21 in
-    omega arith
+  abbrev made : Made → Turn
+  made c = c .before .before .before .before
 
-settle-add-first-2 : (t : ℕ) → settle-lts.Need-add-first-2 (callees t) (settle-at t) settle.Post settle-Inv-loop
-    settle-μ-loop
-settle-add-first-2 t c =
-    let b12 = c .before .before .before .before .before .before .before .before .before .before .before .before in
-    let b21 = b12 .before .before .before .before .before .before .before .before .before in
-    let z = facts t b21 in
-    omega arith
+  -- what the call has
+  call
+      : (c : Start)
+      → Call (c .args .points .now) (c .args .own .now) (c .args .ends .now) (c .args .reach .now)
+      (c .args .limit .now) (c .args .has .now) (c .args .left .now) (c .args .choice .now) (c .args .d) (c .args .h)
+  call c = called (c .pre .1)
 
-settle-mul-first : (t : ℕ) → settle-lts.Need-mul-first (callees t) (settle-at t) settle.Post settle-Inv-loop
-    settle-μ-loop
-settle-mul-first t c =
-    let b12 = c .before .before .before .before .before .before .before .before .before .before .before .before in
-    let b21 = b12 .before .before .before .before .before .before .before .before .before in
-    let z = facts t b21 in
-    omega arith
+  mul-e : lts.Need-mul-e (callees t) (settle-at t) settle.Post Inv-loop μ-loop
+  mul-e c = let a = call (known c) in omega arith
 
-settle-slice-read-first : (t : ℕ) → settle-lts.Need-slice-read-first (callees t) (settle-at t) settle.Post
-    settle-Inv-loop settle-μ-loop
-settle-slice-read-first t c =
-    let b5 = c .before .before .before .before .before in
-    let b11 = b5 .before .before .before .before .before .before in
-    let b22 = b11 .before .before .before .before .before .before .before .before .before .before .before in
-    let z = facts t b22 in
-    omega (arith, b5 .settle .kept .1 .1 .1 .1 .1 .1 .0, b11 .loop .inv .left-length)
+  shared-slice-read-e : lts.Need-shared-slice-read-e (callees t) (settle-at t) settle.Post Inv-loop μ-loop
+  shared-slice-read-e c = let a = call (known (c .before)) in omega arith
 
-settle-first-or-requires : (t : ℕ) → settle-lts.Need-first-or-requires (callees t) (settle-at t) settle.Post
-    settle-Inv-loop settle-μ-loop
-settle-first-or-requires t c κs = search needs
+  mul-base : lts.Need-mul-base (callees t) (settle-at t) settle.Post Inv-loop μ-loop
+  mul-base c = let a = call (known (c .before)) in omega arith
 
-settle-mul-i : (t : ℕ) → settle-lts.Need-mul-i (callees t) (settle-at t) settle.Post settle-Inv-loop settle-μ-loop
-settle-mul-i t c =
-    let b12 = c .before .before .before .before .before .before .before .before .before .before .before .before in
-    let b23 = b12 .before .before .before .before .before .before .before .before .before .before .before in
-    let z = facts t b23 in
-    omega arith
+  sub-kids : lts.Need-sub-kids (callees t) (settle-at t) settle.Post Inv-loop μ-loop
+  sub-kids c = let a = call (known (c .before)) in omega arith
 
-settle-shared-slice-read-i : (t : ℕ) → settle-lts.Need-shared-slice-read-i (callees t) (settle-at t) settle.Post
-    settle-Inv-loop settle-μ-loop
-settle-shared-slice-read-i t c =
-    let b12 = c .before .before .before .before .before .before .before .before .before .before .before .before in
-    let b24 = b12 .before .before .before .before .before .before .before .before .before .before .before .before in
-    let z = facts t b24 in
-    omega arith
+  mul-some : lts.Need-mul-some (callees t) (settle-at t) settle.Post Inv-loop μ-loop
+  mul-some c = let a = call (known (c .before)) in omega arith
 
-settle-add-i-2 : (t : ℕ) → settle-lts.Need-add-i-2 (callees t) (settle-at t) settle.Post settle-Inv-loop settle-μ-loop
-settle-add-i-2 t c =
-    let b10 = c .before .before .before .before .before .before .before .before .before .before in
-    let b13 = b10 .before .before .before in
-    let b24 = b13 .before .before .before .before .before .before .before .before .before .before .before in
-    let i = b24 .args in
-    let p = b24 .pre .1 in
-    let l = b13 .loop in
-    let z = facts t b24 in
-    let loop : isDo (i .points .now) (l .i) ≡ true = eq-eqb (getD (i .points .now) (l .i) 0) 1 (b10 .if1 .taken) in
-    let e : at (i .ends .now) (l .i) ≡ endOf (i .points .now) (l .i) = p .0 .ends-is (l .i) loop in
-    omega (arith, end-there (i .points .now) (p .0 .shape) (l .i) loop)
+  shared-slice-read-some : lts.Need-shared-slice-read-some (callees t) (settle-at t) settle.Post Inv-loop μ-loop
+  shared-slice-read-some c = let a = call (known (c .before .before)) in omega arith
 
-settle-loop-less : (t : ℕ) → settle-lts.Need-loop-less (callees t) (settle-at t) settle.Post settle-Inv-loop
-    settle-μ-loop
-settle-loop-less t c =
-    let b10 = c .before .before .before .before .before .before .before .before .before .before in
-    let b12 = b10 .before .before in
-    let b13 = b12 .before in
-    let b24 = b13 .before .before .before .before .before .before .before .before .before .before .before in
-    let i = b24 .args in
-    let p = b24 .pre .1 in
-    let l = b13 .loop in
-    let z = facts t b24 in
-    let loop : isDo (i .points .now) (l .i) ≡ true = eq-eqb (getD (i .points .now) (l .i) 0) 1 (b10 .if1 .taken) in
-    let e : at (i .ends .now) (l .i) ≡ endOf (i .points .now) (l .i) = p .0 .ends-is (l .i) loop in
-    omega (arith, end-after (i .points .now) (p .0 .shape) (l .i) loop, b12 .loop-test)
+  add-i : lts.Need-add-i (callees t) (settle-at t) settle.Post Inv-loop μ-loop
+  add-i c = let a = call (known (c .before .before)) in omega arith
 
-settle-loop-again : (t : ℕ) → settle-lts.Need-loop-again (callees t) (settle-at t) settle.Post settle-Inv-loop
-    settle-μ-loop
-settle-loop-again t c =
-    let b1 = c .before in
-    let b7 = b1 .before .before .before .before .before .before in
-    let b10 = b7 .before .before .before in
-    let b12 = b10 .before .before in
-    let b13 = b12 .before in
-    let b24 = b13 .before .before .before .before .before .before .before .before .before .before .before in
-    let i = b24 .args in
-    let p = b24 .pre .1 in
-    let l = b13 .loop in
-    let z = facts t b24 in
-    let loop : isDo (i .points .now) (l .i) ≡ true = eq-eqb (getD (i .points .now) (l .i) 0) 1 (b10 .if1 .taken) in
-    let e : at (i .ends .now) (l .i) ≡ endOf (i .points .now) (l .i) = p .0 .ends-is (l .i) loop in
-    let s = b7 .settle in
-    on-child (i .points .now) (i .own .now) (i .ends .now) (i .reach .now) (i .limit .now) (i .has .now)
-    (i .left .now) (i .choice .now) (p .0) (i .d) (i .h) (p .1 .1 .0) (p .1 .1 .1) (l .left) (l .choice)
-    (l .some) (l .i) (l .inv) (omega (arith, b12 .loop-test)) (s .last .1 .1 .1 .1 .1 .1 .0)
-    (s .last .1 .1 .1 .1 .1 .1 .1 .0) loop (s .kept .1 .1 .1 .1 .1 .1 .0) (s .kept .1 .1 .1 .1 .1 .1 .1 .0)
-    (s .ensures) (b1 .first-or .result) (b1 .first-or .ensures)
+  loop-holds : lts.Need-loop-holds (callees t) (settle-at t) settle.Post Inv-loop μ-loop
+  loop-holds c = begin (call (known (c .before .before)))
 
-settle-add-i-3 : (t : ℕ) → settle-lts.Need-add-i-3 (callees t) (settle-at t) settle.Post settle-Inv-loop settle-μ-loop
-settle-add-i-3 t c =
-    let b12 = c .before .before .before .before .before .before .before .before .before .before .before .before in
-    let b14 = b12 .before .before in
-    let z = facts t b14 in
-    omega arith
+  shared-slice-read-if1 : lts.Need-shared-slice-read-if1 (callees t) (settle-at t) settle.Post Inv-loop μ-loop
+  shared-slice-read-if1 c = let a = call (turn (c .before .before)) in omega arith
 
-settle-loop-less-2 : (t : ℕ) → settle-lts.Need-loop-less-2 (callees t) (settle-at t) settle.Post settle-Inv-loop
-    settle-μ-loop
-settle-loop-less-2 t c =
-    let b12 = c .before .before .before .before .before .before .before .before .before .before .before .before in
-    let b14 = b12 .before .before in
-    let z = facts t b14 in
-    omega arith
+  sub-settle : lts.Need-sub-settle (callees t) (settle-at t) settle.Post Inv-loop μ-loop
+  sub-settle c = let a = call (turn (inside (c .before .before))) in omega arith
 
-settle-loop-again-2 : (t : ℕ) → settle-lts.Need-loop-again-2 (callees t) (settle-at t) settle.Post settle-Inv-loop
-    settle-μ-loop
-settle-loop-again-2 t c =
-    let b3 = c .before .before .before in
-    let b14 = b3 .before .before .before .before .before .before .before .before .before .before .before in
-    let i = b14 .args in
-    let p = b14 .pre .1 in
-    let l = b3 .loop in
-    let z = facts t b14 in
-    on-plain (i .points .now) (i .own .now) (i .ends .now) (i .reach .now) (i .limit .now) (i .has .now)
-    (i .left .now) (i .choice .now) (p .0) (i .d) (i .h) (p .1 .1 .0) (p .1 .1 .1) (l .left) (l .choice)
-    (l .some) (l .i) (l .inv) (omega arith) (c .if1 .left)
+  settle-requires : lts.Need-settle-requires (callees t) (settle-at t) settle.Post Inv-loop μ-loop
+  settle-requires c κs =
+      let i = c .before .before in
+      let l = inside i in (
+        omega (arith, turn l .pre .0, call (turn l) .low),
+        child-asked (call (turn l)) (l .loop .inv) (i .before .before .loop-test .taken) (i .if1 .taken),
+      )
 
-settle-make-row-requires : (t : ℕ) → settle-lts.Need-make-row-requires (callees t) (settle-at t) settle.Post
-    settle-Inv-loop settle-μ-loop
-settle-make-row-requires t c κs =
-    let b3 = c .before .before .before in
-    let b14 = b3 .before .before .before .before .before .before .before .before .before .before .before in
-    let i = b14 .args in
-    let p = b14 .pre .1 in
-    let l = b3 .loop in
-    let z = facts t b14 in
-    let k = l .inv .left-length in
-    let m = l .inv .choice-length in
-    let all : l .i ≡ at (i .ends .now) (i .d) = omega (arith, l .inv .high, z .e-is) in
-    let fronts = rw all at (l .inv .fronts) in
-    record {
-      points-room = z .short;
-      own-room = omega arith;
-      own-low = p .0 .own-low;
-      reach-room = omega arith;
-      limit-room = omega arith;
-      left-room = omega arith;
-      choice-room = omega arith;
-      long = z .long;
-      short = omega arith;
-      inner = omega arith;
-      ground = grounded (i .points .now) (i .own .now) (i .ends .now) (l .left) (p .0) (i .d) (i .h)
-          (at (i .ends .now) (i .d)) (p .1 .1 .0) (p .1 .1 .1) (z .e-is) fronts;
-    }
+  add-first : lts.Need-add-first (callees t) (settle-at t) settle.Post Inv-loop μ-loop
+  add-first c = let a = call (turn (inside (settled (c .before .before .before .before)))) in omega arith
 
-settle-same-length : (t : ℕ) → settle-lts.Need-same-length (callees t) (settle-at t) settle.Post settle-Inv-loop
-    settle-μ-loop
-settle-same-length t c =
-    let b4 = c .before .before .before .before in
-    let b8 = b4 .before .before .before .before in
-    b4 .make-row .kept .1 .1 .1 .1 .0 ∙ b8 .loop .inv .left-length
+  add-first-2 : lts.Need-add-first-2 (callees t) (settle-at t) settle.Post Inv-loop μ-loop
+  add-first-2 c = let a = call (turn (inside (settled (c .before .before .before .before)))) in omega arith
 
-settle-same-length-2 : (t : ℕ) → settle-lts.Need-same-length-2 (callees t) (settle-at t) settle.Post settle-Inv-loop
-    settle-μ-loop
-settle-same-length-2 t c =
-    let b4 = c .before .before .before .before in
-    let b8 = b4 .before .before .before .before in
-    b4 .make-row .kept .1 .1 .1 .1 .1 .0 ∙ b8 .loop .inv .choice-length
+  mul-first : lts.Need-mul-first (callees t) (settle-at t) settle.Post Inv-loop μ-loop
+  mul-first c = let a = call (turn (inside (settled (c .before .before .before .before)))) in omega arith
 
-settle-returns : (t : ℕ) → settle-lts.Need-returns (callees t) (settle-at t) settle.Post settle-Inv-loop settle-μ-loop
-settle-returns t c =
-    let b4 = c .before .before .before .before in
-    let b7 = b4 .before .before .before in
-    let b8 = b7 .before in
-    let b19 = b8 .before .before .before .before .before .before .before .before .before .before .before in
-    let i = b19 .args in
-    let p = b19 .pre .1 in
-    let l = b8 .loop in
-    let m = b4 .make-row in
-    done (i .points .now) (i .own .now) (i .ends .now) (i .reach .now) (i .limit .now) (i .has .now) (i .left .now)
-    (i .choice .now) (p .0) (i .d) (i .h) (p .1 .1 .0) (p .1 .1 .1) (l .left) (l .choice) (l .some) (l .i)
-    (at (i .ends .now) (i .d)) (l .inv) (p .0 .ends-is (i .d) (p .1 .1 .0)) (omega (arith, b7 .loop-test))
-    (m .last .1 .1 .1 .1 .0) (m .last .1 .1 .1 .1 .1 .0) (m .ensures)
+  slice-read-first : lts.Need-slice-read-first (callees t) (settle-at t) settle.Post Inv-loop μ-loop
+  slice-read-first c =
+      let k = c .before .before .before .before .before in
+      let l = inside (settled k) in
+      let a = call (turn l) in
+      omega (arith, k .settle .kept .1 .1 .1 .1 .1 .1 .0, l .loop .inv .left-length)
+
+  first-or-requires : lts.Need-first-or-requires (callees t) (settle-at t) settle.Post Inv-loop μ-loop
+  first-or-requires c κs = search needs
+
+  mul-i : lts.Need-mul-i (callees t) (settle-at t) settle.Post Inv-loop μ-loop
+  mul-i c = let a = call (turn (inside (settled (looked c)))) in omega arith
+
+  shared-slice-read-i : lts.Need-shared-slice-read-i (callees t) (settle-at t) settle.Post Inv-loop μ-loop
+  shared-slice-read-i c = let a = call (turn (inside (settled (looked (c .before))))) in omega arith
+
+  add-i-2 : lts.Need-add-i-2 (callees t) (settle-at t) settle.Post Inv-loop μ-loop
+  add-i-2 c =
+      let i = settled (looked (c .before)) in
+      let l = inside i in
+      let a = call (turn l) in
+      omega (arith, child-short a (l .loop .inv) (i .before .before .loop-test .taken) (i .if1 .taken))
+
+  loop-less : lts.Need-loop-less (callees t) (settle-at t) settle.Post Inv-loop μ-loop
+  loop-less c =
+      let i = settled (looked (c .before)) in
+      let l = inside i in
+      let more = i .before .before .loop-test .taken in
+      omega (arith, child-long (call (turn l)) (l .loop .inv) more (i .if1 .taken), more)
+
+  loop-again : lts.Need-loop-again (callees t) (settle-at t) settle.Post Inv-loop μ-loop
+  loop-again c =
+      let k = looked (c .before) in
+      let i = settled k in
+      let l = inside i in
+      let s = k .settle in
+      on-child (call (turn l)) (l .loop .inv) (i .before .before .loop-test .taken) (i .if1 .taken)
+      (s .kept .1 .1 .1 .1 .1 .1 .0) (s .kept .1 .1 .1 .1 .1 .1 .1 .0) (s .ensures) (c .before .first-or .ensures)
+
+  add-i-3 : lts.Need-add-i-3 (callees t) (settle-at t) settle.Post Inv-loop μ-loop
+  add-i-3 c = let a = call (turn (c .before .before .before)) in omega arith
+
+  loop-less-2 : lts.Need-loop-less-2 (callees t) (settle-at t) settle.Post Inv-loop μ-loop
+  loop-less-2 c = let a = call (turn (c .before .before .before)) in omega arith
+
+  loop-again-2 : lts.Need-loop-again-2 (callees t) (settle-at t) settle.Post Inv-loop μ-loop
+  loop-again-2 c =
+      let l = c .before .before .before in
+      on-plain (call (turn l)) (l .loop .inv) (c .before .before .loop-test .taken) (c .if1 .left)
+
+  make-row-requires : lts.Need-make-row-requires (callees t) (settle-at t) settle.Post Inv-loop μ-loop
+  make-row-requires c κs =
+      let l = c .before .before .before in
+      row-room (call (turn l)) (l .loop .inv) (omega (arith, c .before .before .loop-test))
+
+  same-length : lts.Need-same-length (callees t) (settle-at t) settle.Post Inv-loop μ-loop
+  same-length c =
+      let m = c .before .before .before .before in
+      m .make-row .kept .1 .1 .1 .1 .0 ∙ made m .loop .inv .left-length
+
+  same-length-2 : lts.Need-same-length-2 (callees t) (settle-at t) settle.Post Inv-loop μ-loop
+  same-length-2 c =
+      let m = c .before .before .before .before in
+      m .make-row .kept .1 .1 .1 .1 .1 .0 ∙ made m .loop .inv .choice-length
+
+  returns : lts.Need-returns (callees t) (settle-at t) settle.Post Inv-loop μ-loop
+  returns c =
+      let m = c .before .before .before .before in
+      let l = made m in
+      done (call (turn l)) (l .loop .inv) (omega (arith, m .before .before .before .loop-test)) (m .make-row .ensures)
 
 pub +settle-spec : {M : Type 1} → statement M
-+settle-spec = close μ-settle λ t. settle-lts.spec (callees t)
++settle-spec = close μ-settle λ t. lts.spec (callees t)
     (settle-at t)
     settle.Post
-    settle-Inv-loop
-    settle-μ-loop
-    (settle-mul-e t)
-    (settle-shared-slice-read-e t)
-    (settle-mul-base t)
-    (settle-sub-kids t)
-    (settle-mul-some t)
-    (settle-shared-slice-read-some t)
-    (settle-add-i t)
-    (settle-loop-holds t)
-    (settle-shared-slice-read-if1 t)
-    (settle-sub-settle t)
-    (settle-settle-requires t)
-    (settle-add-first t)
-    (settle-add-first-2 t)
-    (settle-mul-first t)
-    (settle-slice-read-first t)
-    (settle-first-or-requires t)
-    (settle-mul-i t)
-    (settle-shared-slice-read-i t)
-    (settle-add-i-2 t)
-    (settle-loop-less t)
-    (settle-loop-again t)
-    (settle-add-i-3 t)
-    (settle-loop-less-2 t)
-    (settle-loop-again-2 t)
-    (settle-make-row-requires t)
-    (settle-same-length t)
-    (settle-same-length-2 t)
-    (settle-returns t)
+    Inv-loop
+    μ-loop
+    (mul-e t)
+    (shared-slice-read-e t)
+    (mul-base t)
+    (sub-kids t)
+    (mul-some t)
+    (shared-slice-read-some t)
+    (add-i t)
+    (loop-holds t)
+    (shared-slice-read-if1 t)
+    (sub-settle t)
+    (settle-requires t)
+    (add-first t)
+    (add-first-2 t)
+    (mul-first t)
+    (slice-read-first t)
+    (first-or-requires t)
+    (mul-i t)
+    (shared-slice-read-i t)
+    (add-i-2 t)
+    (loop-less t)
+    (loop-again t)
+    (add-i-3 t)
+    (loop-less-2 t)
+    (loop-again-2 t)
+    (make-row-requires t)
+    (same-length t)
+    (same-length-2 t)
+    (returns t)
