@@ -115,29 +115,33 @@ pub record Choosing (cs fs : List ℕ) (m : ℕ) (left₀ choice₀ : List ℕ) 
       → ((p : ℕ) → d < p → p ≤ e → at fs p ≡ v p .f)
       → Chosen v m left choice base q e
 
-module _ (cs fs : List ℕ) (m : ℕ) (left₀ choice₀ : List ℕ) (base d e : ℕ) (long : d < e) where
-  pub choosing-none : Choosing cs fs m left₀ choice₀ base d e left₀ choice₀ 0 0 e
-  choosing-none =
-      record {
-        from = omega arith;
-        high = omega arith;
-        left-length = refl;
-        choice-length = refl;
-        left-kept = kept-none left₀ (base + e) (base + e);
-        choice-kept = kept-none choice₀ (base + e) (base + e);
-        run = λ v x y. run-none v m e;
-        chosen = λ v x y. chosen-none v m left₀ choice₀ base e;
-      }
+pub choosing-none
+    : {cs fs : List ℕ} {m : ℕ} {left choice : List ℕ} {base d e : ℕ} → d < e →
+    Choosing cs fs m left choice base d e left choice 0 0 e
+choosing-none {m = m} {left} {choice} {base} {e = e} long =
+    record {
+      from = omega arith;
+      high = omega arith;
+      left-length = refl;
+      choice-length = refl;
+      left-kept = kept-none left (base + e) (base + e);
+      choice-kept = kept-none choice (base + e) (base + e);
+      run = λ v x y. run-none v m e;
+      chosen = λ v x y. chosen-none v m left choice base e;
+    }
 
-  module _ (left choice : List ℕ) (f a q : ℕ) (s : Choosing cs fs m left₀ choice₀ base d e left choice f a q) where
+module _
+    {cs fs : List ℕ} {m : ℕ} {left₀ choice₀ : List ℕ} {base d e : ℕ} {left choice : List ℕ} {f a q : ℕ}
+    (s : Choosing cs fs m left₀ choice₀ base d e left choice f a q)
+  where
     pub choosing-more
-        : (f′ a′ : ℕ)
+        : {f′ a′ : ℕ}
         → d < q
         → base + q < length left
         → base + q < length choice
         → BetterSays f a m q (at cs q) (at fs q) f′ a′
         → Choosing cs fs m left₀ choice₀ base d e (set left (base + q) f′) (set choice (base + q) a′) f′ a′ (q - 1)
-    choosing-more f′ a′ h i j b =
+    choosing-more {f′} {a′} h i j b =
         record {
           from = omega arith;
           high = omega (arith, s .high);

@@ -19,12 +19,13 @@ pub copied-more : (from : List ℕ) (base d p : ℕ) (xs : List ℕ) → p + 1 <
 copied-more from base d p xs h s a i j =
     stored xs (p + 1) (row from base (p + 1)) a (row from base a) h (λ z. rw z refl) (λ z. s a i (omega (arith, z)))
 
-pub cleared-none : (xs : List ℕ) (base d : ℕ) → Cleared xs xs base d d
-cleared-none xs base d = record { zero-at = λ q i j. absurd (omega arith); kept = λ i h. refl }
+pub cleared-none : {xs : List ℕ} {base d : ℕ} → Cleared xs xs base d d
+cleared-none = record { zero-at = λ q i j. absurd (omega arith); kept = λ i h. refl }
 
-pub cleared-more : (xs ys : List ℕ) (base d p : ℕ) → d ≤ p → base + (p + 1) < length ys → Cleared xs ys base d p →
+pub cleared-more
+    : {xs ys : List ℕ} {base d p : ℕ} → d ≤ p → base + (p + 1) < length ys → Cleared xs ys base d p →
     Cleared xs (set ys (base + (p + 1)) 0) base d (p + 1)
-cleared-more xs ys base d p l h s =
+cleared-more {ys = ys} {base} {p = p} l h s =
     record {
       zero-at = λ q i j. stored ys (base + (p + 1)) 0 (base + q) 0 h (λ z. refl)
           (λ (z : base + q ≡ base + (p + 1) → ⊥). s .zero-at q i (le-by λ k. z (omega arith)));

@@ -1,12 +1,12 @@
 -- The row of a loop: the fronts chosen from its values where there is something to cut, 0 where there is nothing.
--- Main statements: `values-are`, `made-some`, `made-none`.
+-- Main definition: `Values`. Main statements: `starts-room`, `values-room`, `values-are`, `made-some`, `made-none`.
 use mathlib.Core.Path.{_≡_, refl, sym, _∙_, ap, fun-ext}
 use mathlib.Core.Bool.{Bool, true, false, _&&_, _||_}
 use mathlib.Core.List.{List}
 use Prim.Native.Nat.{ℕ, zero, suc, _+_, _-_, _≤_, _<_}
 use native.Mathlib.Omega.{arith}
 use lib.Dec.{eqb, ltb, leb}
-use lib.ListN.{drop}
+use lib.ListN.{length, drop}
 use lib.Seq.{getD-drop}
 use borrow.Author.Tests.{lt-ltb, le-ltb, ltb-false}
 use Rattle.laws.specs.Choice.{pick}
@@ -15,10 +15,10 @@ use Rattle.plan_method.specs.Sweep.{Loops, Lines, Tables, State, Front, bare, f
 use Rattle.plan_method.specs.Sweep.{least, someOf, costOf}
 use Rattle.plan_method.specs.Sweep.{frontOf, leftOf, choiceOf}
 use Rattle.plan_sweeps.specs.Listed.{row, listed, tabled}
-use Rattle.plan_starts.specs.Started.{Marked, StartsSay}
-use Rattle.plan_rows.specs.Valued.{lined, valueOf, ValuesSay, ClosedSays, FrontsIn}
+use Rattle.plan_starts.specs.Started.{Marked, Ranged, StartsSay, StartsRoom}
+use Rattle.plan_rows.specs.Valued.{lined, valueOf, ValuesSay, ClosedSays, FrontsIn, ValuesRoom}
 use Rattle.plan_starts.specs.Grounds.{Within, Kept}
-use Rattle.plan_rows.specs.Made.{Copied, Cleared, ChooseSays, Chosen, RowMade}
+use Rattle.plan_rows.specs.Made.{Cleared, ChooseSays, Chosen, RowRoom, RowMade}
 
 -- a chosen front is one of the fronts, or 0
 within-none : (d e : ℕ) → Within d e 0
@@ -65,95 +65,151 @@ choice-front : (B : Loops) (N : Lines) (T : Tables) (d q : ℕ) → choiceOf B N
 unfolding choiceOf
 choice-front B N T d q = refl
 
--- the values that stand in two lists are those of the loop
-pub values-are
-    : (ps own reach limit left : List ℕ) (kids base d e first : ℕ) (marks cs₀ fs₀ cs fs : List ℕ) (m : ℕ)
-    → Marked ps own (row reach base) left kids d e marks
-    → StartsSay ps own marks left kids d e cs₀ fs₀ first
-    → ClosedSays limit base d e first cs₀ fs₀ cs fs e m
-    → ValuesSay ps own (drop base reach) left kids limit base d e e cs fs m
-unfolding value
-values-are ps own reach limit left kids base d e first marks cs₀ fs₀ cs fs m mark starts closed has lay =
-    let same : row reach base ≡ at (drop base reach) = fun-ext (λ a. sym (getD-drop base reach a 0)) in
-    let s = starts .started (at (drop base reach)) lay (rw same at mark) in
-    closed (λ q. sweep (listed ps own e) (tabled left kids lay) (needOf (at (drop base reach)) q e) d) (s .c-is)
-    (s .f-is)
+-- the values of a loop stand in two lists, the least number of barriers is m, and the fronts lie in its range
+pub record Values (ps own reach limit left : List ℕ) (base d e : ℕ) (cs fs : List ℕ) (m : ℕ) : Type 0 where
+  pub values : ValuesSay ps own (drop base reach) left (base - 256) limit base d e e cs fs m
+  pub fronts : FrontsIn d e fs e
 
-module _ (ps own reach limit left choice left′ choice′ : List ℕ) (base d e some : ℕ) (long : d < e) where
-  pub made-some
-      : (need cs fs : List ℕ) (m : ℕ)
-      → 0 < some
-      → Copied reach base d e need
-      → FrontsIn d e fs e
-      → ValuesSay ps own need left (base - 256) limit base d e e cs fs m
-      → ChooseSays cs fs m left′ choice′ base d e
-      → Kept left left′ (base + d) (base + e)
-      → Kept choice choice′ (base + d) (base + e)
-      → RowMade ps own reach limit left choice left′ choice′ base d e some
-  made-some need cs fs m h copied fronts values chosen left-kept choice-kept =
-      record {
-        need = need;
-        need-is = copied;
-        left-is = λ has lay s q i j. c has lay .left-is q i j ∙ ap (λ (r : Front). r .f) (sym (f has lay s q)) ∙
-            sym (left-front (listed ps own e) (lined has need limit base) (tabled left (base - 256) lay) d q);
-        choice-is = λ has lay s q i j. c has lay .choice-is q i j ∙
-            ap (λ (r : Front). r .at) (sym (f has lay s q)) ∙
-            sym (choice-front (listed ps own e) (lined has need limit base) (tabled left (base - 256) lay) d q);
-        within = λ q i j. rw (c false none .left-is q i j) (best-within (v false none) m d e inside (suc e) q i);
-        left-kept = left-kept;
-        choice-kept = choice-kept;
-      }
-    where
-      none : ℕ → ℕ → ℕ → Bool
-      none l q = bare
+module _
+    {ps own reach limit left choice : List ℕ} {base d e : ℕ} (room : RowRoom ps own reach limit left choice base d e)
+  where
+    -- what the starts and the values ask
+    pub starts-room
+        : {need cs fs link : List ℕ}
+        → e < length need
+        → e < length cs
+        → e < length fs
+        → e < length link
+        → StartsRoom ps own need left (base - 256) d e cs fs link
+    starts-room need-room cs-room fs-room link-room =
+        record {
+          sweep-room =
+              record {
+                points-room = room .points-room;
+                own-room = room .own-room;
+                own-low = room .own-low;
+                need-room = need-room;
+                left-room = omega (arith, room .left-room);
+              };
+          long = room .long;
+          cs-room = cs-room;
+          fs-room = fs-room;
+          link-room = link-room;
+        }
 
-      v : (has : Bool) (lay : ℕ → ℕ → ℕ → Bool) → ℕ → State
-      v has lay = valueOf ps own need left (base - 256) limit base has lay d e
+    pub values-room
+        : {cs fs : List ℕ} {first : ℕ}
+        → e < length cs
+        → e < length fs
+        → first ≤ e
+        → Ranged d e cs fs
+        → ValuesRoom limit base d e first cs fs
+    values-room cs-room fs-room first-high ranged =
+        record {
+          limit-room = room .limit-room;
+          cs-room = cs-room;
+          fs-room = fs-room;
+          long = room .long;
+          short = room .short;
+          first-high = first-high;
+          ranged = ranged;
+        }
 
-      inside : (q : ℕ) → d < q → q ≤ e → Within d e (v false none q .f)
-      inside q i j =
-          let z : at fs q ≡ v false none q .f = values false none .f-at q i j in
-          record { low = λ _. omega (arith, z, fronts .low q i j); high = omega (arith, z, fronts .high q i j) }
+    -- the values that stand in two lists are those of the loop
+    pub values-are
+        : {need cs₀ fs₀ cs fs : List ℕ} {first m : ℕ}
+        → StartsSay ps own need left (base - 256) d e cs₀ fs₀ first
+        → Marked ps own (row reach base) left (base - 256) d e need
+        → ClosedSays limit base d e first cs₀ fs₀ cs fs e m
+        → FrontsIn d e fs e
+        → Values ps own reach limit left base d e cs fs m
+    unfolding value
+    values-are starts mark closed fronts =
+        record {
+          values = λ has lay.
+              let same : row reach base ≡ at (drop base reach) = fun-ext (λ a. sym (getD-drop base reach a 0)) in
+              let s = starts .started (at (drop base reach)) lay (rw same at mark) in
+              closed (λ q. sweep (listed ps own e) (tabled left (base - 256) lay) (needOf (at (drop base reach)) q e) d)
+              (s .c-is) (s .f-is);
+          fronts = fronts;
+        }
 
-      c : (has : Bool) (lay : ℕ → ℕ → ℕ → Bool) →
-          Chosen (valueOf ps own need left (base - 256) limit base has lay d e) m left′ choice′ base d e
-      c has lay = chosen (valueOf ps own need left (base - 256) limit base has lay d e) (values has lay .c-at)
-          (values has lay .f-at)
+    abbrev need : List ℕ
+    need = drop base reach
 
-      f
-          : (has : Bool) (lay : ℕ → ℕ → ℕ → Bool) →
-          someOf (listed ps own e) (lined has need limit base) (tabled left (base - 256) lay) d ≡ ltb 0 some →
-          (q : ℕ)
-          → frontOf (listed ps own e) (lined has need limit base) (tabled left (base - 256) lay) d q ≡
-          best (valueOf ps own need left (base - 256) limit base has lay d e) m e (suc e) q
-      f has lay s q = front-some (listed ps own e) (lined has need limit base) (tabled left (base - 256) lay) d q m
-          (s ∙ lt-ltb 0 some h) (values has lay .least-is long)
+    pub made-some
+        : {cs fs left′ choice′ : List ℕ} {m some : ℕ}
+        → 0 < some
+        → Values ps own reach limit left base d e cs fs m
+        → ChooseSays cs fs m left′ choice′ base d e
+        → Kept left left′ (base + d) (base + e)
+        → Kept choice choice′ (base + d) (base + e)
+        → RowMade ps own reach limit left choice left′ choice′ base d e some
+    made-some {cs} {fs} {left′} {choice′} {m} {some} h u chosen left-kept choice-kept =
+        record {
+          need = need;
+          need-is = λ a i j. getD-drop base reach a 0;
+          left-is = λ has lay s q i j. c has lay .left-is q i j ∙ ap (λ (r : Front). r .f) (sym (f has lay s q)) ∙
+              sym (left-front (listed ps own e) (lined has need limit base) (tabled left (base - 256) lay) d q);
+          choice-is = λ has lay s q i j. c has lay .choice-is q i j ∙
+              ap (λ (r : Front). r .at) (sym (f has lay s q)) ∙
+              sym (choice-front (listed ps own e) (lined has need limit base) (tabled left (base - 256) lay) d q);
+          within = λ q i j. rw (c false none .left-is q i j) (best-within (v false none) m d e inside (suc e) q i);
+          left-kept = left-kept;
+          choice-kept = choice-kept;
+        }
+      where
+        none : ℕ → ℕ → ℕ → Bool
+        none l q = bare
 
-  pub made-none
-      : some ≡ 0
-      → Cleared left left′ base d e
-      → Cleared choice choice′ base d e
-      → RowMade ps own reach limit left choice left′ choice′ base d e some
-  made-none z l c =
-      record {
-        need = drop base reach;
-        need-is = λ a i j. getD-drop base reach a 0;
-        left-is = λ has lay s q i j. l .zero-at q i j ∙ ap (λ (r : Front). r .f) (sym (f has lay s q)) ∙
-            sym (left-front (listed ps own e) (lined has (drop base reach) limit base)
-            (tabled left (base - 256) lay) d q);
-        choice-is = λ has lay s q i j. c .zero-at q i j ∙ ap (λ (r : Front). r .at) (sym (f has lay s q)) ∙
-            sym (choice-front (listed ps own e) (lined has (drop base reach) limit base)
-            (tabled left (base - 256) lay) d q);
-        within = λ q i j. rw (l .zero-at q i j) (within-none d e);
-        left-kept = l .kept;
-        choice-kept = c .kept;
-      }
-    where
-      f
-          : (has : Bool) (lay : ℕ → ℕ → ℕ → Bool) →
-          someOf (listed ps own e) (lined has (drop base reach) limit base) (tabled left (base - 256) lay) d ≡
-          ltb 0 some → (q : ℕ)
-          → frontOf (listed ps own e) (lined has (drop base reach) limit base) (tabled left (base - 256) lay) d q ≡
-          front 0 0
-      f has lay s q = front-none (listed ps own e) (lined has (drop base reach) limit base)
-          (tabled left (base - 256) lay) d q (s ∙ le-ltb 0 some (omega arith))
+        v : (has : Bool) (lay : ℕ → ℕ → ℕ → Bool) → ℕ → State
+        v has lay = valueOf ps own need left (base - 256) limit base has lay d e
+
+        inside : (q : ℕ) → d < q → q ≤ e → Within d e (v false none q .f)
+        inside q i j =
+            let z : at fs q ≡ v false none q .f = u .values false none .f-at q i j in
+            record {
+              low = λ _. omega (arith, z, u .fronts .low q i j);
+              high = omega (arith, z, u .fronts .high q i j);
+            }
+
+        c : (has : Bool) (lay : ℕ → ℕ → ℕ → Bool) →
+            Chosen (valueOf ps own need left (base - 256) limit base has lay d e) m left′ choice′ base d e
+        c has lay = chosen (valueOf ps own need left (base - 256) limit base has lay d e) (u .values has lay .c-at)
+            (u .values has lay .f-at)
+
+        f
+            : (has : Bool) (lay : ℕ → ℕ → ℕ → Bool) →
+            someOf (listed ps own e) (lined has need limit base) (tabled left (base - 256) lay) d ≡ ltb 0 some →
+            (q : ℕ)
+            → frontOf (listed ps own e) (lined has need limit base) (tabled left (base - 256) lay) d q ≡
+            best (valueOf ps own need left (base - 256) limit base has lay d e) m e (suc e) q
+        f has lay s q = front-some (listed ps own e) (lined has need limit base) (tabled left (base - 256) lay) d q m
+            (s ∙ lt-ltb 0 some h) (u .values has lay .least-is (room .long))
+
+    pub made-none
+        : {left′ choice′ : List ℕ} {some : ℕ}
+        → some ≡ 0
+        → Cleared left left′ base d e
+        → Cleared choice choice′ base d e
+        → RowMade ps own reach limit left choice left′ choice′ base d e some
+    made-none {some = some} z l c =
+        record {
+          need = need;
+          need-is = λ a i j. getD-drop base reach a 0;
+          left-is = λ has lay s q i j. l .zero-at q i j ∙ ap (λ (r : Front). r .f) (sym (f has lay s q)) ∙
+              sym (left-front (listed ps own e) (lined has need limit base) (tabled left (base - 256) lay) d q);
+          choice-is = λ has lay s q i j. c .zero-at q i j ∙ ap (λ (r : Front). r .at) (sym (f has lay s q)) ∙
+              sym (choice-front (listed ps own e) (lined has need limit base) (tabled left (base - 256) lay) d q);
+          within = λ q i j. rw (l .zero-at q i j) (within-none d e);
+          left-kept = l .kept;
+          choice-kept = c .kept;
+        }
+      where
+        f
+            : (has : Bool) (lay : ℕ → ℕ → ℕ → Bool) →
+            someOf (listed ps own e) (lined has need limit base) (tabled left (base - 256) lay) d ≡ ltb 0 some →
+            (q : ℕ) → frontOf (listed ps own e) (lined has need limit base) (tabled left (base - 256) lay) d q ≡
+            front 0 0
+        f has lay s q = front-none (listed ps own e) (lined has need limit base) (tabled left (base - 256) lay) d q
+            (s ∙ le-ltb 0 some (omega arith))

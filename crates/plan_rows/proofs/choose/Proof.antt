@@ -12,12 +12,11 @@ Inv-loop cs fs m left₀ choice₀ base d e f₀ at₀ q₀ left choice f at q =
 abbrev μ-loop : tie.MeasureT-loop
 μ-loop cs fs m left₀ choice₀ base d e f₀ at₀ q₀ left choice f at q = q
 
+abbrev called : tie.After-slice-known2 Inv-loop μ-loop → tie.Start Inv-loop μ-loop
+called c = c .before .before .before .before
+
 loop-holds : tie.Need-loop-holds Inv-loop μ-loop
-loop-holds c =
-    let b4 = c .before .before .before .before in
-    let i = b4 .args in
-    choosing-none (i .cs .now) (i .fs .now) (i .m) (i .left .now) (i .choice .now) (i .base) (i .d) (i .e)
-    (omega (arith, b4 .pre))
+loop-holds c = choosing-none (omega (arith, called c .pre))
 
 mul-better : tie.Need-mul-better Inv-loop μ-loop
 mul-better c = omega arith
@@ -60,13 +59,9 @@ loop-less c = omega arith
 
 loop-again : tie.Need-loop-again Inv-loop μ-loop
 loop-again c =
-    let b4 = c .before .before .before .before in
-    let b9 = b4 .before .before .before .before .before in
-    let i = b9 .args in
-    let l = b4 .loop in
-    choosing-more (i .cs .now) (i .fs .now) (i .m) (i .left .now) (i .choice .now) (i .base) (i .d) (i .e)
-    (omega (arith, b9 .pre)) (l .left) (l .choice) (l .f) (l .at) (l .q) (l .inv) (c .better .result .f)
-    (c .better .result .at) (omega arith) (omega (arith, b9 .pre)) (omega (arith, b9 .pre)) (c .better .ensures)
+    let l = c .before .before .before .before in
+    let p = called (l .before) .pre in
+    choosing-more (l .loop .inv) (omega arith) (omega (arith, p)) (omega (arith, p)) (c .better .ensures)
 
 same-length : tie.Need-same-length Inv-loop μ-loop
 same-length c = c .before .loop .inv .left-length
@@ -76,12 +71,7 @@ same-length-2 c = c .before .loop .inv .choice-length
 
 returns : tie.Need-returns Inv-loop μ-loop
 returns c =
-    let b1 = c .before in
-    let b6 = b1 .before .before .before .before .before in
-    let i = b6 .args in
-    let l = b1 .loop in
-    let r = choosing-all (i .cs .now) (i .fs .now) (i .m) (i .left .now) (i .choice .now) (i .base) (i .d) (i .e)
-    (omega (arith, b6 .pre)) (l .left) (l .choice) (l .f) (l .at) (l .q) (l .inv) (omega arith) in
+    let r = choosing-all (c .before .loop .inv) (omega arith) in
     (r .chosen, (r .left-kept, r .choice-kept))
 
 pub choose-spec : {M : Type 1} → statement M

@@ -15,9 +15,7 @@ abbrev μ-loop : tie.MeasureT-loop
 μ-loop xs₀ base d e p₀ xs p = e - p
 
 loop-holds : tie.Need-loop-holds Inv-loop μ-loop
-loop-holds c =
-    let i = c .args in
-    (omega arith, omega arith, refl, cleared-none (i .xs .now) (i .base) (i .d))
+loop-holds c = (omega arith, omega arith, refl, cleared-none)
 
 add-q : tie.Need-add-q Inv-loop μ-loop
 add-q c = omega arith
@@ -41,7 +39,7 @@ loop-again c =
       omega arith,
       omega arith,
       length-set (l .xs) (i .base + (l .p + 1)) 0 ∙ l .inv .2,
-      cleared-more (i .xs .now) (l .xs) (i .base) (i .d) (l .p) (omega arith) (omega arith) (l .inv .3),
+      cleared-more (omega arith) (omega arith) (l .inv .3),
     )
 
 same-length : tie.Need-same-length Inv-loop μ-loop

@@ -1,13 +1,25 @@
 -- `make_row` meets its contract: the values, then the choice among them; or zeros where nothing is to cut (Making).
 use borrow.Author.Needs.{needs}
-use Prim.Native.Nat.{_-_}
 use native.Mathlib.Omega.{arith}
-use lib.ListN.{drop}
-use lib.Seq.{getD-drop}
-use Rattle.plan_sweeps.specs.Listed.{SweepRoom}
-use Rattle.plan_rows.proofs.Making.{values-are, made-some, made-none}
+use Rattle.plan_rows.proofs.Making.{starts-room, values-room, values-are, made-some, made-none}
 use Rattle.plan_rows.proofs.make_row.Statement.{statement}
 use Rattle.plan_rows.proofs.make_row.Tie as tie
+
+-- the call, and what was made before the last place
+abbrev called : tie.Else1 → tie.Start
+called c = c .before .before .before .before .before .before .before
+
+abbrev some : tie.After-mark → tie.Else1
+some c = c .before .before .before
+
+abbrev marked : tie.After-follow-all → tie.After-mark
+marked c = c .before .before .before .before .before .before .before
+
+abbrev followed : tie.After-values → tie.After-follow-all
+followed c = c .before .before .before .before .before .before
+
+abbrev valued : tie.After-choose → tie.After-values
+valued c = c .before .before .before .before .before .before .before
 
 clear-requires : tie.Need-clear-requires
 clear-requires c κs = search needs
@@ -23,14 +35,10 @@ same-length-2 c = search needs
 
 returns : tie.Need-returns
 returns c =
-    let b2 = c .before .before in
-    let b6 = b2 .before .before .before .before in
-    let b8 = b6 .before .before in
-    let b15 = b8 .before .before .before .before .before .before .before in
-    let i = b15 .args in
-    made-none (i .points .now) (i .own .now) (i .reach .now) (i .limit .now) (i .left .now) (i .choice .now)
-    (b6 .clear .last .0) (b2 .clear2 .last .0) (i .base) (i .d) (i .e) (i .some) (omega (arith, b15 .pre))
-    (b8 .if1 .taken) (b6 .clear .ensures) (b2 .clear2 .ensures)
+    let l = c .before .before .before .before .before .before in
+    let t = l .before .before in
+    let s = t .before .before .before .before .before .before .before in
+    made-none (s .pre) (t .if1 .taken) (l .clear .ensures) (c .before .before .clear2 .ensures)
 
 sub-kids : tie.Need-sub-kids
 sub-kids c = search needs
@@ -55,25 +63,9 @@ slice-aggregate-follow-all-4 c = search needs
 
 follow-all-requires : tie.Need-follow-all-requires
 follow-all-requires c κs =
-    let b6 = c .before .before .before .before .before .before in
-    let b6 = b6 in
-    let b16 = b6 .before .before .before .before .before .before .before .before .before .before in
-    let p = b16 .pre in
-    let i = b16 .args in
-    let m = b6 .mark in
-    let room : SweepRoom (i .points .now) (i .own .now) (m .last .1 .1 .1 .1 .1 .1 .1 .1 .0) (i .left .now)
-    (i .base - 256) (i .e) =
-    record {
-      points-room = p .points-room;
-      own-room = p .own-room;
-      own-low = p .own-low;
-      need-room = omega (arith, p .short, m .kept);
-      left-room = omega (arith, p);
-    } in (
-      record { sweep-room = room; long = p .long; cs-room = p .short; fs-room = p .short; link-room = p .short },
-      p
-          .ground,
-    )
+    let m = c .before .before .before .before .before .before in
+    let p = called (some m) .pre in
+    (starts-room p (omega (arith, p .short, m .mark .kept)) (p .short) (p .short) (p .short), p .ground)
 
 slice-aggregate-values : tie.Need-slice-aggregate-values
 slice-aggregate-values c = search needs
@@ -83,21 +75,10 @@ slice-aggregate-values-2 c = search needs
 
 values-requires : tie.Need-values-requires
 values-requires c κs =
-    let b5 = c .before .before .before .before .before in
-    let b5 = b5 in
-    let b17 = b5 .before .before .before .before .before .before .before .before .before .before .before .before in
-    let b22 = b17 .before .before .before .before .before in
-    let p = b22 .pre in
-    let v = b5 .follow-all in
-    record {
-      limit-room = p .limit-room;
-      cs-room = omega (arith, p .short, v .kept);
-      fs-room = omega (arith, p .short, v .kept);
-      long = p .long;
-      short = p .short;
-      first-high = omega (arith, v .ensures .first-high, p .long);
-      ranged = v .ensures .ranged;
-    }
+    let v = c .before .before .before .before .before .follow-all in
+    let p = called (some (marked (c .before .before .before .before .before))) .pre in
+    values-room p (omega (arith, p .short, v .kept)) (omega (arith, p .short, v .kept))
+    (omega (arith, v .ensures .first-high, p .long)) (v .ensures .ranged)
 
 slice-aggregate-choose : tie.Need-slice-aggregate-choose
 slice-aggregate-choose c = search needs
@@ -107,16 +88,14 @@ slice-aggregate-choose-2 c = search needs
 
 choose-requires : tie.Need-choose-requires
 choose-requires c κs =
-    let b6 = c .before .before .before .before .before .before in
-    let b6 = b6 in
-    let b12 = b6 .before .before .before .before .before .before in
-    let b24 = b12 .before .before .before .before .before .before .before .before .before .before .before .before in
-    let b29 = b24 .before .before .before .before .before in
-    let p = b29 .pre in
-    let v = b6 .values in
-    let w = b12 .follow-all in (
-      omega (arith, p .short, v .kept, w .kept),
-      (omega (arith, p .short, v .kept, w .kept), (p .left-room, (p .choice-room, p .long))),
+    let v = c .before .before .before .before .before .before in
+    let s = followed v in
+    let p = called (some (marked s)) .pre in (
+      omega (arith, p .short, v .values .kept, s .follow-all .kept),
+      (
+        omega (arith, p .short, v .values .kept, s .follow-all .kept),
+        (p .left-room, (p .choice-room, p .long)),
+      ),
     )
 
 same-length-3 : tie.Need-same-length-3
@@ -127,30 +106,14 @@ same-length-4 c = search needs
 
 returns-2 : tie.Need-returns-2
 returns-2 c =
-    let b4 = c .before .before .before .before in
-    let b4 = b4 in
-    let b11 = b4 .before .before .before .before .before .before .before in
-    let b17 = b11 .before .before .before .before .before .before in
-    let b24 = b17 .before .before .before .before .before .before .before in
-    let b27 = b24 .before .before .before in
-    let b34 = b27 .before .before .before .before .before .before .before in
-    let i = b34 .args in
-    let p = b34 .pre in
-    let m = b24 .mark in
-    let s = b17 .follow-all in
-    let v = b11 .values in
-    let r = b4 .choose in
-    let cs = v .last .1 .1 .1 .1 .1 .0 in
-    let fs = v .last .1 .1 .1 .1 .1 .1 .0 in
-    let values = values-are (i .points .now) (i .own .now) (i .reach .now) (i .limit .now) (i .left .now)
-    (i .base - 256) (i .base)
-    (i .d) (i .e) (s .result) (m .last .1 .1 .1 .1 .1 .1 .1 .1 .0) (s .last .1 .1 .1 .1 .1 .1 .1 .0)
-    (s .last .1 .1 .1 .1 .1 .1 .1 .1 .0) cs fs (v .result) (m .ensures) (s .ensures) (v .ensures .0) in
-    made-some (i .points .now) (i .own .now) (i .reach .now) (i .limit .now) (i .left .now) (i .choice .now)
-    (r .last .1 .1 .1 .0) (r .last .1 .1 .1 .1 .0) (i .base) (i .d) (i .e) (i .some) (p .long)
-    (drop (i .base) (i .reach .now)) cs fs (v .result) (omega (arith, b27 .if1 .left))
-    (λ a x y. getD-drop (i .base) (i .reach .now) a 0) (v .ensures .1) values (r .ensures .0) (r .ensures .1 .0)
-    (r .ensures .1 .1)
+    let r = c .before .before .before .before in
+    let v = valued r in
+    let s = followed v in
+    let m = marked s in
+    let p = called (some m) .pre in
+    let u = values-are p (s .follow-all .ensures) (m .mark .ensures) (v .values .ensures .0) (v .values .ensures .1) in
+    made-some p (omega (arith, some m .if1 .left)) u (r .choose .ensures .0) (r .choose .ensures .1 .0)
+    (r .choose .ensures .1 .1)
 
 pub make-row-spec : {M : Type 1} → statement M
 make-row-spec =
