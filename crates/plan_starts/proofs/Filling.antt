@@ -26,11 +26,6 @@ pub kept-down : (xs ys : List ℕ) (x high v : ℕ) → 0 < x → x ≤ high →
 kept-down xs ys x high v a b k i h =
     getD-set-other ys x i v 0 (λ (z : i ≡ x). absurd (omega (arith, h (omega arith)))) ∙ k i (λ l. h (omega arith))
 
--- the front of a barrier after the loop
-pub outer-is : (left : List ℕ) (kids l p f : ℕ) → f ≡ firstOf (row left kids (l + 1)) (p + 1) → f ≡
-    firstOf (row left kids (suc l)) (suc p)
-outer-is left kids l p f h = h ∙ rw (add-one l, add-one p) refl
-
 -- the gaps after x are done
 pub record Filling (need left : List ℕ) (kids d l p : ℕ) (cs₀ fs₀ link₀ cs fs link : List ℕ) (a x : ℕ) : Type 0 where
   pub low : l ≤ x
@@ -47,80 +42,89 @@ pub record Filling (need left : List ℕ) (kids d l p : ℕ) (cs₀ fs₀ link�
   pub late : Late (at need) d l x a
   pub last-high : a ≤ l
 
-module _ (need left : List ℕ) (kids d l p : ℕ) (cs₀ fs₀ link₀ : List ℕ) (a₀ : ℕ)
-    (room : ChildRoom need left kids d l p cs₀ fs₀ link₀ a₀) where
-  pub filling-none : (a : ℕ) → a ≡ min a₀ l → Filling need left kids d l p cs₀ fs₀ link₀ cs₀ fs₀ link₀ a (suc p)
-  filling-none a ai =
-      record {
-        low = omega (arith, room .short);
-        high = omega arith;
-        cs-length = refl;
-        fs-length = refl;
-        link-length = refl;
-        cost-is = λ y i j. absurd (omega arith);
-        front-is = λ y i j. absurd (omega arith);
-        link-is = λ y i j. absurd (omega arith);
-        cs-kept = λ i h. refl;
-        fs-kept = λ i h. refl;
-        link-kept = λ i h. refl;
-        late = λ y i j k. room .late y i (omega arith) (omega (arith, room .short));
-        last-high = omega arith;
-      }
+module _
+    {need left : List ℕ} {kids d l p : ℕ} {cs₀ fs₀ link₀ : List ℕ} {a₀ : ℕ}
+    (room : ChildRoom need left kids d l p cs₀ fs₀ link₀ a₀)
+  where
+    -- the front of a barrier after the loop
+    pub outer-is : {f : ℕ} → f ≡ firstOf (row left kids (l + 1)) (p + 1) → f ≡ firstOf (row left kids (suc l)) (suc p)
+    outer-is h = h ∙ rw (add-one l, add-one p) refl
 
-  module _ (cs fs link : List ℕ) (a x : ℕ) (s : Filling need left kids d l p cs₀ fs₀ link₀ cs fs link a x) where
-    pub filling-more
-        : (c f b : ℕ)
-        → l < x
-        → c ≡ costAt (row left kids) p x
-        → f ≡ frontAt (row left kids) l p x
-        → b ≡ seek (at need) x d a
-        → Filling need left kids d l p cs₀ fs₀ link₀ (set cs x c) (set fs x f) (set link x b) b (x - 1)
-    filling-more c f b h ci fi bi =
+    pub filling-none : {a : ℕ} → a ≡ min a₀ l → Filling need left kids d l p cs₀ fs₀ link₀ cs₀ fs₀ link₀ a (p + 1)
+    filling-none ai =
+        rw (add-one p)
         record {
-          low = omega arith;
-          high = omega (arith, s .high);
-          cs-length = length-set cs x c ∙ s .cs-length;
-          fs-length = length-set fs x f ∙ s .fs-length;
-          link-length = length-set link x b ∙ s .link-length;
-          cost-is = λ y i j. stored cs x c y (costAt (row left kids) p y)
-              (omega (arith, s .high, s .cs-length, room .cs-room)) (λ z. rw z ci) (λ z. s .cost-is y (above y i z) j);
-          front-is = λ y i j. stored fs x f y (frontAt (row left kids) l p y)
-              (omega (arith, s .high, s .fs-length, room .fs-room)) (λ z. rw z fi) (λ z. s .front-is y (above y i z) j);
-          link-is = λ y i j. stored link x b y (seek (at need) y d l)
-              (omega (arith, s .high, s .link-length, room .link-room)) (λ z. rw z found)
-              (λ z. s .link-is y (above y i z) j);
-          cs-kept = kept-down cs₀ cs x (suc p) c (omega arith) (s .high) (s .cs-kept);
-          fs-kept = kept-down fs₀ fs x (suc p) f (omega arith) (s .high) (s .fs-kept);
-          link-kept = kept-down link₀ link x (suc p) b (omega arith) (s .high) (s .link-kept);
-          late = λ y i j k. omega (arith, seek-late (at need) x d l y i (rw found at j) k);
-          last-high = omega (arith, found, seek-is (at need) x d l .high);
+          low = omega (arith, room .short);
+          high = omega arith;
+          cs-length = refl;
+          fs-length = refl;
+          link-length = refl;
+          cost-is = λ y i j. absurd (omega arith);
+          front-is = λ y i j. absurd (omega arith);
+          link-is = λ y i j. absurd (omega arith);
+          cs-kept = λ i h. refl;
+          fs-kept = λ i h. refl;
+          link-kept = λ i h. refl;
+          late = λ y i j k. room .late y i (omega arith) (omega (arith, room .short));
+          last-high = omega arith;
         }
-      where
-        found : b ≡ seek (at need) x d l
-        found =
-            let z : min a l ≡ a = omega (arith, s .last-high) in
-            bi ∙ rw z at (seek-skip (at need) x d l x a (omega arith) (s .late))
 
-        above : (y : ℕ) → x - 1 < y → (y ≡ x → ⊥) → x < y
-        above y i z = lt-by λ j. z (omega arith)
+    module _ {cs fs link : List ℕ} {a x : ℕ} (s : Filling need left kids d l p cs₀ fs₀ link₀ cs fs link a x) where
+      pub filling-more
+          : {c f b : ℕ}
+          → l < x
+          → c ≡ costAt (row left kids) p x
+          → f ≡ frontAt (row left kids) l p x
+          → b ≡ seek (at need) x d a
+          → Filling need left kids d l p cs₀ fs₀ link₀ (set cs x c) (set fs x f) (set link x b) b (x - 1)
+      filling-more {c} {f} {b} h ci fi bi =
+          record {
+            low = omega arith;
+            high = omega (arith, s .high);
+            cs-length = length-set cs x c ∙ s .cs-length;
+            fs-length = length-set fs x f ∙ s .fs-length;
+            link-length = length-set link x b ∙ s .link-length;
+            cost-is = λ y i j. stored cs x c y (costAt (row left kids) p y)
+                (omega (arith, s .high, s .cs-length, room .cs-room)) (λ z. rw z ci)
+                (λ z. s .cost-is y (above y i z) j);
+            front-is = λ y i j. stored fs x f y (frontAt (row left kids) l p y)
+                (omega (arith, s .high, s .fs-length, room .fs-room)) (λ z. rw z fi)
+                (λ z. s .front-is y (above y i z) j);
+            link-is = λ y i j. stored link x b y (seek (at need) y d l)
+                (omega (arith, s .high, s .link-length, room .link-room)) (λ z. rw z found)
+                (λ z. s .link-is y (above y i z) j);
+            cs-kept = kept-down cs₀ cs x (suc p) c (omega arith) (s .high) (s .cs-kept);
+            fs-kept = kept-down fs₀ fs x (suc p) f (omega arith) (s .high) (s .fs-kept);
+            link-kept = kept-down link₀ link x (suc p) b (omega arith) (s .high) (s .link-kept);
+            late = λ y i j k. omega (arith, seek-late (at need) x d l y i (rw found at j) k);
+            last-high = omega (arith, found, seek-is (at need) x d l .high);
+          }
+        where
+          found : b ≡ seek (at need) x d l
+          found =
+              let z : min a l ≡ a = omega (arith, s .last-high) in
+              bi ∙ rw z at (seek-skip (at need) x d l x a (omega arith) (s .late))
 
-    pub filled : x ≤ l → ChildSays need left kids d l p cs₀ fs₀ link₀ cs fs link a
-    filled h =
-        let e : x ≡ l = omega (arith, s .low) in
-        let t : Filling need left kids d l p cs₀ fs₀ link₀ cs fs link a l = rw e at s in
-        record {
-          events = λ y i j.
-              let w = front-within (row left kids) l p y (room .short) i (room .fronts) in
-              record {
-                cost-is = t .cost-is y i j;
-                front-is = t .front-is y i j;
-                link-is = t .link-is (frontAt (row left kids) l p y) (w .0) (w .1);
-                cost = cost-one (row left kids) l p y;
-                low = w .0;
-                high = w .1;
-              };
-          cs-kept = t .cs-kept;
-          fs-kept = t .fs-kept;
-          link-kept = t .link-kept;
-          late = t .late;
-        }
+          above : (y : ℕ) → x - 1 < y → (y ≡ x → ⊥) → x < y
+          above y i z = lt-by λ j. z (omega arith)
+
+      pub filled : x ≤ l → ChildSays need left kids d l p cs₀ fs₀ link₀ cs fs link a
+      filled h =
+          let e : x ≡ l = omega (arith, s .low) in
+          let t : Filling need left kids d l p cs₀ fs₀ link₀ cs fs link a l = rw e at s in
+          record {
+            events = λ y i j.
+                let w = front-within (row left kids) l p y (room .short) i (room .fronts) in
+                record {
+                  cost-is = t .cost-is y i j;
+                  front-is = t .front-is y i j;
+                  link-is = t .link-is (frontAt (row left kids) l p y) (w .0) (w .1);
+                  cost = cost-one (row left kids) l p y;
+                  low = w .0;
+                  high = w .1;
+                };
+            cs-kept = t .cs-kept;
+            fs-kept = t .fs-kept;
+            link-kept = t .link-kept;
+            late = t .late;
+          }

@@ -14,15 +14,17 @@ Inv-loop points own need left kids d e first cs₀ fs₀ link₀ a₀ p₀ cs fs
 abbrev μ-loop : tie.MeasureT-loop
 μ-loop points own need left kids d e first cs₀ fs₀ link₀ a₀ p₀ cs fs link a p = p
 
+-- the call, from the head of the loop, and a turn at a loop inside
+abbrev called : tie.At-loop Inv-loop μ-loop → tie.Start Inv-loop μ-loop
+called h = h .before .before .before .before .before .before .before .before
+
+abbrev inside : tie.After-events-child Inv-loop μ-loop → tie.Then1 Inv-loop μ-loop
+inside c = c .before .before .before .before .before
+
 loop-holds : tie.Need-loop-holds Inv-loop μ-loop
 loop-holds c =
-    let b7 = c .before .before .before .before .before .before .before in
-    let b7 = b7 in
-    let i = b7 .args in
-    let r = b7 .pre in
-    eventing-none (i .points .now) (i .own .now) (i .need .now) (i .left .now) (i .kids) (i .d) (i .e) (r .1 .0)
-    (r .0 .sweep-room .own-low)
-    (i .cs .now) (i .fs .now) (i .link .now) (i .first) (r .0 .long) (r .1 .1)
+    let r = c .before .before .before .before .before .before .before .pre in
+    eventing-none (r .0) (r .1 .0) (r .1 .1)
 
 sub-before : tie.Need-sub-before Inv-loop μ-loop
 sub-before c = omega arith
@@ -38,56 +40,35 @@ shared-slice-read-l c = omega arith
 
 events-child-requires : tie.Need-events-child-requires Inv-loop μ-loop
 events-child-requires c κs =
-    let b4 = c .before .before .before .before in
-    let b6 = b4 .before .before in
-    let b7 = b6 .before in
-    let b15 = b7 .before .before .before .before .before .before .before .before in
-    let i = b15 .args in
-    let r = b15 .pre in
-    let l = b7 .loop in
-    child-room (i .points .now) (i .own .now) (i .need .now) (i .left .now) (i .kids) (i .d) (i .e) (r .1 .0)
-    (r .0 .sweep-room .own-low)
-    (i .cs .now) (i .fs .now) (i .link .now) (l .cs) (l .fs) (l .link) (l .a) (l .p)
-    (omega (arith, b6 .loop-test)) (b4 .if1 .taken) (r .0) (l .inv)
+    let t = c .before .before .before .before in
+    let h = t .before .before .before in
+    let r = called h .pre in
+    child-room (r .0) (r .1 .0) (h .loop .inv) (omega (arith, t .before .before .loop-test)) (t .if1 .taken)
 
 loop-less : tie.Need-loop-less Inv-loop μ-loop
 loop-less c =
-    let b12 = c .before .before .before .before .before .before .before .before .before .before .before .before in
-    let b12 = b12 in
-    let b13 = b12 .before in
-    let b14 = b13 .before in
-    let b22 = b14 .before .before .before .before .before .before .before .before in
-    omega (arith, b22 .pre .0 .sweep-room .own-low (b14 .loop .p - 1), b13 .loop-test)
+    let n = inside (c .before .before .before .before .before .before) .before .before in
+    let h = n .before in
+    omega (arith, called h .pre .0 .sweep-room .own-low (h .loop .p - 1), n .loop-test)
 
 loop-again : tie.Need-loop-again Inv-loop μ-loop
 loop-again c =
-    let b6 = c .before .before .before .before .before .before in
-    let b6 = b6 in
-    let b11 = b6 .before .before .before .before .before in
-    let b13 = b11 .before .before in
-    let b14 = b13 .before in
-    let b22 = b14 .before .before .before .before .before .before .before .before in
-    let i = b22 .args in
-    let r = b22 .pre in
-    let l = b14 .loop in
-    let v = b6 .events-child in
-    eventing-child (i .points .now) (i .own .now) (i .need .now) (i .left .now) (i .kids) (i .d) (i .e) (r .1 .0)
-    (r .0 .sweep-room .own-low)
-    (i .cs .now) (i .fs .now) (i .link .now) (l .cs) (l .fs) (l .link) (l .a) (l .p)
-    (v .last .1 .1 .1 .1 .1 .1 .1 .0) (v .last .1 .1 .1 .1 .1 .1 .1 .1 .0) (v .last .1 .1 .1 .1 .1 .1 .1 .1 .1 .0)
-    (v .result)
-    (omega (arith, b13 .loop-test)) (b11 .if1 .taken) (v .kept .1 .1 .1 .1 .1 .1 .1 .0)
-    (v .kept .1 .1 .1 .1 .1 .1 .1 .1 .0)
-    (v .kept .1 .1 .1 .1 .1 .1 .1 .1 .1 .0) (v .ensures) (l .inv)
+    let k = c .before .before .before .before .before .before in
+    let t = inside k in
+    let h = t .before .before .before in
+    let r = called h .pre in
+    let v = k .events-child in
+    eventing-child (r .0) (r .1 .0) (h .loop .inv) (omega (arith, t .before .before .loop-test)) (t .if1 .taken)
+    (v .kept .1 .1 .1 .1 .1 .1 .1 .0) (v .kept .1 .1 .1 .1 .1 .1 .1 .1 .0) (v .kept .1 .1 .1 .1 .1 .1 .1 .1 .1 .0)
+    (v .ensures)
 
 smaller-requires : tie.Need-smaller-requires Inv-loop μ-loop
 smaller-requires c κs = search needs
 
 last-need-requires : tie.Need-last-need-requires Inv-loop μ-loop
 last-need-requires c κs =
-    let b4 = c .before .before .before .before in
-    let b12 = b4 .before .before .before .before .before .before .before .before in
-    omega (arith, c .smaller .ensures, b12 .pre .0 .sweep-room .need-room, b4 .loop .inv .bound)
+    let h = c .before .before .before .before in
+    omega (arith, c .smaller .ensures, called h .pre .0 .sweep-room .need-room, h .loop .inv .bound)
 
 mul-cs : tie.Need-mul-cs Inv-loop μ-loop
 mul-cs c = omega arith
@@ -112,19 +93,11 @@ loop-less-2 c = omega arith
 
 loop-again-2 : tie.Need-loop-again-2 Inv-loop μ-loop
 loop-again-2 c =
-    let b4 = c .before .before .before .before in
-    let b4 = b4 in
-    let b5 = b4 .before in
-    let b13 = b5 .before .before .before .before .before .before .before .before in
-    let i = b13 .args in
-    let r = b13 .pre in
-    let l = b5 .loop in
-    eventing-plain (i .points .now) (i .own .now) (i .need .now) (i .left .now) (i .kids) (i .d) (i .e) (r .1 .0)
-    (r .0 .sweep-room .own-low)
-    (i .cs .now) (i .fs .now) (i .link .now) (l .cs) (l .fs) (l .link) (l .a) (l .p) (c .last-need .result)
-    (omega (arith, b4 .loop-test)) (omega (arith, r .0 .cs-room)) (omega (arith, r .0 .fs-room))
-    (omega (arith, r .0 .link-room))
-    (c .before .before .if1 .left) (rw (c .before .smaller .ensures) at (c .last-need .ensures)) (l .inv)
+    let n = c .before .before .before .before in
+    let h = n .before in
+    let r = called h .pre in
+    eventing-plain (r .0) (r .1 .0) (h .loop .inv) (omega (arith, n .loop-test)) (c .before .before .if1 .left)
+    (rw (c .before .smaller .ensures) at (c .last-need .ensures))
 
 same-length : tie.Need-same-length Inv-loop μ-loop
 same-length c = c .before .loop .inv .cs-length
@@ -137,11 +110,8 @@ same-length-3 c = c .before .loop .inv .link-length
 
 returns : tie.Need-returns Inv-loop μ-loop
 returns c =
-    let b9 = c .before .before .before .before .before .before .before .before .before in
-    let b9 = b9 in
-    let i = b9 .args in
     let l = c .before .loop in
-    let z : l .p ≡ i .d = omega (arith, l .inv .bound .low) in
+    let z : l .p ≡ called (c .before) .args .d = omega (arith, l .inv .bound .low) in
     rw z at (l .inv .passed)
 
 pub events-spec : {M : Type 1} → statement M

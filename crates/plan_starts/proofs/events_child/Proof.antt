@@ -8,7 +8,6 @@ use Rattle.plan_sweeps.specs.Listed.{row}
 use Rattle.laws.specs.Choice.{firstOf}
 use Rattle.laws.specs.Entries.{at}
 use Rattle.plan_starts.proofs.Filling.{Filling, outer-is, filling-none, filling-more, filled}
-use native.Mathlib.Numerals.{add-one}
 use Rattle.plan_starts.proofs.events_child.Statement.{statement}
 use Rattle.plan_starts.proofs.events_child.Tie as tie
 
@@ -18,6 +17,10 @@ Inv-loop need left kids d l p last cs₀ fs₀ link₀ outer a₀ x₀ cs fs lin
 
 abbrev μ-loop : tie.MeasureT-loop
 μ-loop need left kids d l p last cs₀ fs₀ link₀ outer a₀ x₀ cs fs link a x = x
+
+-- the call, from where the first start is found
+abbrev called : tie.After-smaller Inv-loop μ-loop → tie.Start Inv-loop μ-loop
+called c = c .before .before .before .before .before .before .before .before
 
 add-first-or : tie.Need-add-first-or Inv-loop μ-loop
 add-first-or c = omega arith
@@ -45,23 +48,16 @@ add-x c = omega arith
 
 loop-holds : tie.Need-loop-holds Inv-loop μ-loop
 loop-holds c =
-    let b8 = c .before .before .before .before .before .before .before .before in
-    let b8 = b8 in
-    let i = b8 .args in
-    let r = filling-none (i .need .now) (i .left .now) (i .kids) (i .d) (i .l) (i .p) (i .cs .now) (i .fs .now)
-    (i .link .now) (i .last) (b8 .pre) (c .smaller .result) (c .smaller .ensures) in (
-      outer-is (i .left .now) (i .kids) (i .l) (i .p) (c .before .first-or .result) (c .before .first-or .ensures),
-      rw (add-one (i .p)) r,
-    )
+    let r = called c .pre in
+    (outer-is r (c .before .first-or .ensures), filling-none r (c .smaller .ensures))
 
 event-requires : tie.Need-event-requires Inv-loop μ-loop
 event-requires c κs = omega arith
 
 last-need-requires : tie.Need-last-need-requires Inv-loop μ-loop
 last-need-requires c κs =
-    let b11 = c .before .before .before .before .before .before .before .before .before .before .before in
-    let b11 = b11 in
-    omega (arith, c .before .before .loop .inv .1 .last-high, b11 .pre)
+    let h = c .before .before in
+    omega (arith, h .loop .inv .1 .last-high, called (h .before) .pre)
 
 mul-cs : tie.Need-mul-cs Inv-loop μ-loop
 mul-cs c = omega arith
@@ -89,17 +85,12 @@ loop-less c = omega arith
 
 loop-again : tie.Need-loop-again Inv-loop μ-loop
 loop-again c =
-    let b3 = c .before .before .before in
-    let b3 = b3 in
-    let b12 = b3 .before .before .before .before .before .before .before .before .before in
-    let i = b12 .args in
-    let l = b3 .loop in
+    let h = c .before .before .before in
+    let l = h .loop in
     let v = c .before .event in (
       l .inv .0,
-      filling-more (i .need .now) (i .left .now) (i .kids) (i .d) (i .l) (i .p) (i .cs .now) (i .fs .now) (i .link .now)
-          (i .last) (b12 .pre) (l .cs) (l .fs) (l .link) (l .a) (l .x) (l .inv .1) (v .result .c) (v .result .f)
-          (c .last-need .result) (omega arith) (v .ensures .0) (rw (l .inv .0) at (v .ensures .1))
-          (c .last-need .ensures),
+      filling-more (called (h .before) .pre) (l .inv .1) (omega arith) (v .ensures .0)
+          (rw (l .inv .0) at (v .ensures .1)) (c .last-need .ensures),
     )
 
 same-length : tie.Need-same-length Inv-loop μ-loop
@@ -112,13 +103,7 @@ same-length-3 : tie.Need-same-length-3 Inv-loop μ-loop
 same-length-3 c = c .before .loop .inv .1 .link-length
 
 returns : tie.Need-returns Inv-loop μ-loop
-returns c =
-    let b10 = c .before .before .before .before .before .before .before .before .before .before in
-    let b10 = b10 in
-    let i = b10 .args in
-    let l = c .before .loop in
-    filled (i .need .now) (i .left .now) (i .kids) (i .d) (i .l) (i .p) (i .cs .now) (i .fs .now) (i .link .now)
-    (i .last) (b10 .pre) (l .cs) (l .fs) (l .link) (l .a) (l .x) (l .inv .1) (omega arith)
+returns c = filled (called (c .before .before) .pre) (c .before .loop .inv .1) (omega arith)
 
 pub events-child-spec : {M : Type 1} → statement M
 events-child-spec =

@@ -1,11 +1,17 @@
 -- `follow_all` meets its contract: the events, followed from left to right, are what the sweeps make (Whole).
+use mathlib.Core.Path.{_∙_}
 use borrow.Author.Needs.{needs}
-use native.Mathlib.Omega.{arith}
-use lib.ListN.{set, length-set}
-use lib.Seq.{getD-set-same}
-use Rattle.plan_starts.proofs.Whole.{kept-zero, passed-zero, fits, joined}
+use lib.ListN.{length-set}
+use Rattle.plan_starts.proofs.Whole.{follow-room, joined}
 use Rattle.plan_starts.proofs.follow_all.Statement.{statement}
 use Rattle.plan_starts.proofs.follow_all.Tie as tie
+
+-- the call, from where the events are there, and these from the last place
+abbrev called : tie.After-events → tie.Start
+called c = c .before .before .before .before .before .before .before .before .before .before .before .before
+
+abbrev happened : tie.After-follow → tie.After-events
+happened c = c .before .before .before .before .before .before .before .before .before .before
 
 add-last-need : tie.Need-add-last-need
 add-last-need c = search needs
@@ -24,76 +30,31 @@ slice-write-fs c = search needs
 
 follow-requires : tie.Need-follow-requires
 follow-requires c κs =
-    let b9 = c .before .before .before .before .before .before .before .before .before in
-    let b9 = b9 in
-    let b21 = b9 .before .before .before .before .before .before .before .before .before .before .before .before in
-    let i = b21 .args in
-    let r = b21 .pre in
-    let v = b9 .events in
-    let cs = v .last .1 .1 .1 .1 .1 .1 .1 .1 .0 in
-    let fs = v .last .1 .1 .1 .1 .1 .1 .1 .1 .1 .0 in
-    let link = v .last .1 .1 .1 .1 .1 .1 .1 .1 .1 .1 .0 in
-    let cl = v .kept .1 .1 .1 .1 .1 .1 .1 .1 .0 in
-    let fl = v .kept .1 .1 .1 .1 .1 .1 .1 .1 .1 .0 in
-    let ll = v .kept .1 .1 .1 .1 .1 .1 .1 .1 .1 .1 .0 in
-    let passed = passed-zero (i .points .now) (i .own .now) (i .need .now) (i .left .now) (i .kids) (i .d) (i .e)
-    (r .0 .sweep-room .own-low) link cs fs (v .ensures) in
-    record {
-      long = r .0 .long;
-      cs-room = omega (arith, r .0 .cs-room, length-set cs 0 0, cl);
-      fs-room = omega (arith, r .0 .fs-room, length-set fs 0 0, fl);
-      link-room = omega (arith, r .0 .link-room, ll);
-      fits = fits (i .points .now) (i .own .now) (i .need .now) (i .left .now) (i .kids) (i .d) (i .e)
-          (r .0 .sweep-room .own-low) link (set cs 0 0) (set fs 0 0) passed;
-      c-none = getD-set-same cs 0 0 0 (omega (arith, r .0 .cs-room, cl));
-      f-none = getD-set-same fs 0 0 0 (omega (arith, r .0 .fs-room, fl));
-    }
+    let e = c .before .before .before .before .before .before .before .before .before in
+    let v = e .events in
+    follow-room (called e .pre .0) (v .ensures) (v .kept .1 .1 .1 .1 .1 .1 .1 .1 .0)
+    (v .kept .1 .1 .1 .1 .1 .1 .1 .1 .1 .0) (v .kept .1 .1 .1 .1 .1 .1 .1 .1 .1 .1 .0)
 
 same-length : tie.Need-same-length
 same-length c =
-    let b4 = c .before .before .before .before in
-    let b4 = b4 in
-    let b14 = b4 .before .before .before .before .before .before .before .before .before .before in
-    let b26 = b14 .before .before .before .before .before .before .before .before .before .before .before .before in
-    let v = b14 .events in
-    kept-zero (b26 .args .cs .now) (v .last .1 .1 .1 .1 .1 .1 .1 .1 .0) (b4 .follow .last .1 .1 .1 .0)
-    (b4 .follow .kept .1 .1 .1 .0) (v .kept .1 .1 .1 .1 .1 .1 .1 .1 .0)
+    let w = c .before .before .before .before in
+    w .follow .kept .1 .1 .1 .0 ∙ simp length-set (happened w .events .kept .1 .1 .1 .1 .1 .1 .1 .1 .0)
 
 same-length-2 : tie.Need-same-length-2
 same-length-2 c =
-    let b4 = c .before .before .before .before in
-    let b4 = b4 in
-    let b14 = b4 .before .before .before .before .before .before .before .before .before .before in
-    let b26 = b14 .before .before .before .before .before .before .before .before .before .before .before .before in
-    let v = b14 .events in
-    kept-zero (b26 .args .fs .now) (v .last .1 .1 .1 .1 .1 .1 .1 .1 .1 .0) (b4 .follow .last .1 .1 .1 .1 .0)
-    (b4 .follow .kept .1 .1 .1 .1 .0) (v .kept .1 .1 .1 .1 .1 .1 .1 .1 .1 .0)
+    let w = c .before .before .before .before in
+    w .follow .kept .1 .1 .1 .1 .0 ∙ simp length-set (happened w .events .kept .1 .1 .1 .1 .1 .1 .1 .1 .1 .0)
 
 same-length-3 : tie.Need-same-length-3
 same-length-3 c = search needs
 
 returns : tie.Need-returns
 returns c =
-    let b4 = c .before .before .before .before in
-    let b4 = b4 in
-    let b14 = b4 .before .before .before .before .before .before .before .before .before .before in
-    let b18 = b14 .before .before .before .before in
-    let b26 = b18 .before .before .before .before .before .before .before .before in
-    let i = b26 .args in
-    let r = b26 .pre in
-    let v = b14 .events in
-    let cs = v .last .1 .1 .1 .1 .1 .1 .1 .1 .0 in
-    let fs = v .last .1 .1 .1 .1 .1 .1 .1 .1 .1 .0 in
-    let link = v .last .1 .1 .1 .1 .1 .1 .1 .1 .1 .1 .0 in
-    let cl = v .kept .1 .1 .1 .1 .1 .1 .1 .1 .0 in
-    let fl = v .kept .1 .1 .1 .1 .1 .1 .1 .1 .1 .0 in
-    let ll = v .kept .1 .1 .1 .1 .1 .1 .1 .1 .1 .1 .0 in
-    let w = b4 .follow in
-    joined (i .points .now) (i .own .now) (i .need .now) (i .left .now) (i .kids) (i .d) (i .e)
-    (r .0 .sweep-room .own-low) link (r .1) (set cs 0 0) (set fs 0 0) (w .last .1 .1 .1 .0) (w .last .1 .1 .1 .1 .0)
-    (b18 .last-need .result)
-    (b18 .last-need .ensures) (passed-zero (i .points .now) (i .own .now) (i .need .now) (i .left .now) (i .kids)
-    (i .d) (i .e) (r .0 .sweep-room .own-low) link cs fs (v .ensures)) (w .ensures)
+    let w = c .before .before .before .before in
+    let e = happened w in
+    let p = called e .pre in
+    let first = e .before .before .before .before .last-need in
+    joined (p .0) (e .events .ensures) (p .1) (first .ensures) (w .follow .ensures)
 
 pub follow-all-spec : {M : Type 1} → statement M
 follow-all-spec =

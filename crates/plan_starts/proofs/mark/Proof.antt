@@ -1,33 +1,24 @@
--- `mark` meets its contract. The invariant: the gaps up to p are marked.
-use Prim.Native.Nat.{_+_, _-_, _≤_}
+-- `mark` meets its contract. The invariant: the gaps up to p are marked (`Marking`).
+use Prim.Native.Nat.{_-_}
 use native.Mathlib.Omega.{arith}
 use borrow.Author.Needs.{needs}
-use mathlib.Core.Path.{_≡_, refl, _∙_}
-use lib.ListN.{length, length-set}
-use Rattle.plan_sweeps.specs.Listed.{row}
-use Rattle.plan_starts.specs.Started.{Marked}
-use Rattle.plan_starts.proofs.Marking.{marked-none, marked-do, marked-other}
+use Rattle.plan_starts.proofs.Marking.{Marking, marking-none, marking-do, marking-other, marking-all}
 use Rattle.plan_starts.proofs.mark.Statement.{statement}
 use Rattle.plan_starts.proofs.mark.Tie as tie
 
 abbrev Inv-loop : tie.InvT-loop
 Inv-loop points own reach base left kids d e need₀ p₀ need p =
-    (d ≤ p) × (p ≤ e) × (length need ≡ length need₀) × Marked points own (row reach base) left kids d p need
+    Marking points own reach base left kids d e need₀ need p
 
 abbrev μ-loop : tie.MeasureT-loop
 μ-loop points own reach base left kids d e need₀ p₀ need p = e - p
 
+-- the call, from the head of the loop
+abbrev called : tie.At-loop Inv-loop μ-loop → tie.Start Inv-loop μ-loop
+called h = h .before .before .before .before .before .before
+
 loop-holds : tie.Need-loop-holds Inv-loop μ-loop
-loop-holds c =
-    let b5 = c .before .before .before .before .before in
-    let b5 = b5 in
-    let i = b5 .args in (
-      omega arith,
-      omega arith,
-      refl,
-      marked-none (i .points .now) (i .own .now) (row (i .reach .now) (i .base))
-          (i .left .now) (i .kids) (i .d) (i .need .now),
-    )
+loop-holds c = marking-none (c .before .before .before .before .before .pre)
 
 add-q : tie.Need-add-q Inv-loop μ-loop
 add-q c = omega arith
@@ -88,49 +79,23 @@ loop-less c = omega arith
 
 loop-again : tie.Need-loop-again Inv-loop μ-loop
 loop-again c =
-    let b4 = c .before .before .before .before in
-    let b7 = b4 .before .before .before in
-    let b13 = b7 .before .before .before .before .before .before in
-    let i = b13 .args in
-    let l = b7 .loop in (
-      omega arith,
-      omega arith,
-      length-set (l .need) (l .p + 1) (c .end-after .result) ∙ l .inv .2,
-      marked-do (i .points .now) (i .own .now) (row (i .reach .now) (i .base)) (i .left .now) (i .kids) (i .d)
-          (l .need) (l .p)
-          (c .end-after .result) (omega arith) (b4 .if1 .taken) (c .end-after .ensures) (l .inv .3),
-    )
+    let t = c .before .before .before .before in
+    let h = t .before .before .before in
+    marking-do (called h .pre) (h .loop .inv) (omega arith) (t .if1 .taken) (c .end-after .ensures)
 
 loop-less-2 : tie.Need-loop-less-2 Inv-loop μ-loop
 loop-less-2 c = omega arith
 
 loop-again-2 : tie.Need-loop-again-2 Inv-loop μ-loop
 loop-again-2 c =
-    let b4 = c .before .before .before .before in
-    let b4 = b4 in
-    let b10 = b4 .before .before .before .before .before .before in
-    let i = b10 .args in
-    let l = b4 .loop in
-    let x = row (i .reach .now) (i .base) (l .p + 1) in (
-      omega arith,
-      omega arith,
-      length-set (l .need) (l .p + 1) x ∙ l .inv .2,
-      marked-other (i .points .now) (i .own .now) (row (i .reach .now) (i .base)) (i .left .now) (i .kids) (i .d)
-          (l .need)
-          (l .p) x (omega arith) (c .before .if1 .left) refl (l .inv .3),
-    )
+    let h = c .before .before .before .before in
+    marking-other (called h .pre) (h .loop .inv) (omega arith) (c .before .if1 .left)
 
 same-length : tie.Need-same-length Inv-loop μ-loop
-same-length c = c .before .loop .inv .2
+same-length c = c .before .loop .inv .same
 
 returns : tie.Need-returns Inv-loop μ-loop
-returns c =
-    let b7 = c .before .before .before .before .before .before .before in
-    let b7 = b7 in
-    let i = b7 .args in
-    let l = c .before .loop in
-    let z : l .p ≡ i .e = omega arith in
-    λ a h j. l .inv .3 a h (omega arith)
+returns c = marking-all (c .before .loop .inv) (omega arith)
 
 pub mark-spec : {M : Type 1} → statement M
 mark-spec =
