@@ -19,7 +19,7 @@ use Rattle.paper_nests.proofs.Levels.{lev, lev-zero, lev-up, lev-falls, lev-sam
 use Rattle.paper_nests.proofs.Loops.{owner-at-most, owner-below, end-has-do, owner-of-end, end-is-end, end-there}
 use Rattle.paper_nests.proofs.Loops.{end-after}
 use Rattle.paper_nests.proofs.Gaps.{owner-after-do, owner-after-end, owner-after-plain}
-use Rattle.plan_tables.specs.Charts.{Points, Charted, ChartRoom}
+use Rattle.plan_tables.specs.Charts.{Points, Charted, ChartRoom, Unowned}
 use Rattle.plan_tables.proofs.Entries.{entry-here, entry-elsewhere, entries-more}
 
 -- at the point i: its loop o, and the height h of a loop that would start here
@@ -35,9 +35,9 @@ pub record Charting (ps : List ℕ) (i o h : ℕ) (own ends heights : List ℕ) 
   pub room : ChartRoom own ends heights
 
 pub chart-start :
-    (ps own ends heights : List ℕ) → ((g : ℕ) → at own g ≡ 0) → ChartRoom own ends heights →
+    {ps own ends heights : List ℕ} → ChartRoom own ends heights → Unowned own →
     Charting ps 0 0 DEPTH own ends heights
-chart-start ps own ends heights z r =
+chart-start {ps} r z =
     record {
       here = omega arith;
       low = omega arith;
@@ -51,10 +51,10 @@ chart-start ps own ends heights z r =
     }
 
 pub chart-done :
-    (ps : List ℕ) → Points ps → (i o h : ℕ) (own ends heights : List ℕ) → length ps ≤ i →
-    Charting ps i o h own ends heights → Charted ps own ends heights
+    {ps : List ℕ} {i o h : ℕ} {own ends heights : List ℕ} → Points ps →
+    Charting ps i o h own ends heights → length ps ≤ i → Charted ps own ends heights
 unfolding lev
-chart-done ps w i o h own ends heights l p =
+chart-done {ps} {i} {own = own} w p l =
     record {
       own-is = λ g m. p .own-is g (omega arith);
       own-low = low;
@@ -69,7 +69,7 @@ chart-done ps w i o h own ends heights l p =
         (le-or (suc g) i)
 
 module _
-    (ps : List ℕ) (w : Points ps) (i o h : ℕ) (own ends heights : List ℕ) (p : Charting ps i o h own ends heights)
+    {ps : List ℕ} (w : Points ps) {i o h : ℕ} {own ends heights : List ℕ} (p : Charting ps i o h own ends heights)
     (l : i < length ps)
   where
     -- one more gap's loop noted

@@ -20,10 +20,10 @@ use Rattle.paper_nests.proofs.Loops.{Owner, end-there}
 use Rattle.paper_nests.proofs.Deps.{Line, Back}
 use Rattle.paper_nests.proofs.Gaps.{home-law}
 use Rattle.plan_method.specs.Home.{homeOf, startsAt, leastEnd, reachOf, hasAt}
-use Rattle.plan_tables.specs.Charts.{ROW, TABLE, cell, Rows, Points, HeightsAre}
+use Rattle.plan_tables.specs.Charts.{ROW, TABLE, cell, Rows}
 use Rattle.plan_tables.specs.Collected.{leavesAt, backOf, Collected, LinesRoom}
 use Rattle.plan_tables.proofs.Entries.{entry-here, entry-elsewhere}
-use Rattle.plan_tables.proofs.Cells.{cell-fits, same-cell}
+use Rattle.plan_tables.proofs.Cells.{Tall, cell-fits, same-cell}
 
 -- the least ends that pass a test of a loop and a gap
 abbrev Ends : List ℕ → List ℕ → (ℕ → ℕ → Dep → Bool) → List Dep → List ℕ → Type 0
@@ -36,27 +36,27 @@ ends-kept :
 unfolding leastEnd
 ends-kept ps heights test ds e xs f p d q h l m = rw (f d q) (p d q h l m)
 
-module _ (ps : List ℕ) (w : Points ps) (heights : List ℕ) (tall : HeightsAre ps heights) where
+module _ {ps heights : List ℕ} (w : Tall ps heights) where
   range-fits : (d q : ℕ) → isDo ps d ≡ true → q ≤ endOf ps d → q < ROW
-  range-fits d q h m = omega (arith, end-there ps (w .shape) d h, w .few)
+  range-fits d q h m = omega (arith, end-there ps (w .points .shape) d h, w .points .few)
 
   pub cell-there : (d q : ℕ) → isDo ps d ≡ true → d < q → q ≤ endOf ps d → cell heights d q < TABLE
-  cell-there d q h l m = cell-fits ps w heights tall d q h (range-fits d q h m)
+  cell-there d q h l m = cell-fits w d q h (range-fits d q h m)
 
   -- where a dependence stands: its home is a point, and its cell is in the table
-  line-home : (e : Dep) → Line ps e → (x : ℕ) → x ≡ ownerFrom (suc (e .s)) (e .t) ps → Owner ps (suc (e .s)) (e .t) x
-  line-home e f x x-is = rw x-is (home-law ps (w .shape) (e .s) (e .t) (f .target-there))
+  line-home : {e : Dep} {x : ℕ} → Line ps e → x ≡ ownerFrom (suc (e .s)) (e .t) ps → Owner ps (suc (e .s)) (e .t) x
+  line-home {e} f x-is = rw x-is (home-law ps (w .points .shape) (e .s) (e .t) (f .target-there))
 
   pub line-there :
-      (e : Dep) → Line ps e → (x : ℕ) → x ≡ ownerFrom (suc (e .s)) (e .t) ps →
+      {e : Dep} {x : ℕ} → Line ps e → x ≡ ownerFrom (suc (e .s)) (e .t) ps →
       (x < POINTS) × (cell heights x (e .s + 1) < TABLE)
-  line-there e f x x-is =
-      let o = line-home e f x x-is in
+  line-there {e} {x} f x-is =
+      let o = line-home f x-is in
       let c = cell-there x (e .s + 1) (o .loop) (omega (arith, o .below)) (omega (arith, o .holds, f .forward)) in
       (omega (arith, range-fits x (e .t) (o .loop) (o .holds), o .below, f .forward), c)
 
-  pub back-there : (e : Dep) → Back ps e → (e .d < POINTS) × (cell heights (e .d) (e .s) < TABLE)
-  back-there e f =
+  pub back-there : {e : Dep} → Back ps e → (e .d < POINTS) × (cell heights (e .d) (e .s) < TABLE)
+  back-there {e} f =
       let c = cell-there (e .d) (e .s) (f .loop) (f .source-after) (omega (arith, f .source-before)) in
       (omega (arith, range-fits (e .d) (e .s) (f .loop) (omega (arith, f .source-before)), f .source-after), c)
 
@@ -86,7 +86,7 @@ module _ (ps : List ℕ) (w : Points ps) (heights : List ℕ) (tall : HeightsAre
       go false z =
           entry-elsewhere xs (cell heights x r) v (cell heights d q)
           (λ s.
-          let o = same-cell ps w heights tall d q x r h l m k a b s in
+          let o = same-cell w d q x r h l m k a b s in
           never-both (rw (← o .0, ← o .1) at hit) z) ∙
           p d q h l m
 
@@ -102,25 +102,25 @@ module _ (ps : List ℕ) (w : Points ps) (heights : List ℕ) (tall : HeightsAre
       (eq-or d x)
 
   module _
-      (ds : List Dep) (e : Dep) (reach back has : List ℕ) (room : LinesRoom reach back has)
-      (p : Collected ps ds heights reach back has)
+      {reach back has : List ℕ} (room : LinesRoom reach back has) {ds : List Dep}
+      (p : Collected ps ds heights reach back has) {e : Dep}
     where
       pub line-entered :
-          Line ps e → (x : ℕ) → x ≡ ownerFrom (suc (e .s)) (e .t) ps →
+          {x : ℕ} → Line ps e → x ≡ ownerFrom (suc (e .s)) (e .t) ps →
           Collected ps (e ∷ ds) heights
           (set reach (cell heights x (e .s + 1)) (min (e .t) (at reach (cell heights x (e .s + 1))))) back (set has x 1)
       unfolding reachOf backOf
-      line-entered f x x-is =
+      line-entered {x} f x-is =
           record {
             reach-is =
                 ends-lowered (startsAt ps) ds e reach (room .reach-room) x (e .s + 1) (o .loop)
                 (omega (arith, o .below)) (omega (arith, o .holds, f .forward)) hit once (p .reach-is);
             back-is = ends-kept ps heights (leavesAt ps) ds e back (λ d q. rw (f .kind-is)) (p .back-is);
-            has-is = has-more ds e has x (omega (arith, line-there e f x x-is .0, room .has-room)) home-is (p .has-is);
+            has-is = has-more ds e has x (omega (arith, line-there f x-is .0, room .has-room)) home-is (p .has-is);
           }
         where
           o : Owner ps (suc (e .s)) (e .t) x
-          o = line-home e f x x-is
+          o = line-home f x-is
 
           home-is : homeOf ps e ≡ x
           home-is = rw (f .kind-is) (sym x-is)
@@ -147,7 +147,7 @@ module _ (ps : List ℕ) (w : Points ps) (heights : List ℕ) (tall : HeightsAre
             back-is =
                 ends-lowered (leavesAt ps) ds e back (room .limit-room) (e .d) (e .s) (f .loop) (f .source-after)
                 (omega (arith, f .source-before)) hit once (p .back-is);
-            has-is = has-more ds e has (e .d) (omega (arith, back-there e f .0, room .has-room)) home-is (p .has-is);
+            has-is = has-more ds e has (e .d) (omega (arith, back-there f .0, room .has-room)) home-is (p .has-is);
           }
         where
           home-is : homeOf ps e ≡ e .d

@@ -1,7 +1,7 @@
 -- The limits from what goes back: the limit at q is the lesser of what goes back at q and the limit at q + 1; at the
 -- ENDDO it is the ENDDO.
--- Main statements: `least-end-split`, `limit-step`, `limit-last`, `lowest-is-limit`; for all rows `Limiting`,
--- `limits-start`, `limits-on`, `limits-skip`, `limits-done`.
+-- Main definitions: `Ended`, `Limiting`, `LimitingAll`. Main statements: `least-end-split`, `limit-step`, `limit-last`,
+-- `lowest-is-limit`; for all rows `row-there`, `limits-start`, `limits-on`, `limits-skip`, `limits-done`.
 use mathlib.Core.Path.{_≡_, refl, sym, ap, _∙_}
 use mathlib.Core.Bool.{Bool, true, false, _&&_, _||_, not}
 use mathlib.Core.List.{List, [], _∷_}
@@ -22,9 +22,9 @@ use Rattle.paper_nests.proofs.Loops.{end-there, end-after}
 use Rattle.paper_nests.proofs.Deps.{Fits}
 use Rattle.plan_method.proofs.Instance.{AllFit}
 use Rattle.plan_method.specs.Home.{homeOf, returnsAfter, leastEnd, limitOf}
-use Rattle.plan_tables.specs.Charts.{ROW, TABLE, cell, Rows, Points, HeightsAre}
-use Rattle.plan_tables.specs.Collected.{leavesAt, backOf, lowestFrom, Narrowed}
-use Rattle.plan_tables.proofs.Cells.{cell-fits, same-cell}
+use Rattle.plan_tables.specs.Charts.{ROW, TABLE, cell, Rows, Points, EndsAre}
+use Rattle.plan_tables.specs.Collected.{leavesAt, backOf, lowestFrom, Narrowed, Limited}
+use Rattle.plan_tables.proofs.Cells.{Tall, cell-fits, same-cell}
 
 -- a test that is one of two: the least end is the lesser of theirs
 least-end-split :
@@ -121,14 +121,22 @@ module _ (ps : List ℕ) (w : Points ps) (ds : List Dep) (fit : AllFit ps ds) (d
       omega
       (arith, lowest-is-limit f k (suc q) (omega arith) (omega arith) p, p q l (omega arith), limit-step q)
 
+-- the points of a nest, the height of each loop and its ENDDO
+pub record Ended (ps ends heights : List ℕ) : Type 0 where
+  pub tall : Tall ps heights
+  pub stops : EndsAre ps ends
+
 -- a loop's row is in the table
 pub row-there :
-    (ps : List ℕ) → Points ps → (heights : List ℕ) → HeightsAre ps heights → (d e : ℕ) → getD ps d 0 ≡ 1 →
-    e ≡ endOf ps d → (d ≤ e) × (cell heights d e < TABLE)
-row-there ps w heights tall d e k e-is =
+    {ps ends heights : List ℕ} → Ended ps ends heights → (d : ℕ) → getD ps d 0 ≡ 1 →
+    (d ≤ at ends d) × (cell heights d (at ends d) < TABLE)
+row-there {ps} {ends} w d k =
     let h = eq-eqb (getD ps d 0) 1 k in
-    let l = end-there ps (w .shape) d h in
-    (omega (arith, end-after ps (w .shape) d h), cell-fits ps w heights tall d e h (omega (arith, w .few)))
+    let points = w .tall .points in
+    let l = end-there ps (points .shape) d h in (
+      omega (arith, w .stops d h, end-after ps (points .shape) d h),
+      cell-fits (w .tall) d (at ends d) h (omega (arith, w .stops d h, points .few)),
+    )
 
 -- the rows of the loops before i hold the limits, the others what goes back
 pub record Limiting (ps : List ℕ) (ds : List Dep) (heights : List ℕ) (i : ℕ) (limit : List ℕ) : Type 0 where
@@ -137,24 +145,28 @@ pub record Limiting (ps : List ℕ) (ds : List Dep) (heights : List ℕ) (i : �
   pub todo :
       (d q : ℕ) → isDo ps d ≡ true → i ≤ d → d < q → q ≤ endOf ps d → at limit (cell heights d q) ≡ backOf ps ds d q
 
-pub limits-start :
-    (ps : List ℕ) (ds : List Dep) (heights limit : List ℕ) → Rows ps heights limit (backOf ps ds) →
-    Limiting ps ds heights 0 limit
-limits-start ps ds heights limit r =
-    record { done = λ d q h l. absurd (omega arith); todo = λ d q h l. r d q h }
+-- the same of any dependences that fit, in a table as long as at the start
+pub record LimitingAll (ps heights limit₀ : List ℕ) (i : ℕ) (limit : List ℕ) : Type 0 where
+  pub same : length limit ≡ length limit₀
+  pub each :
+      (ds : List Dep) → AllFit ps ds → Rows ps heights limit₀ (backOf ps ds) → Limiting ps ds heights i limit
 
-pub limits-done :
-    (ps : List ℕ) → Points ps → (ds : List Dep) (heights : List ℕ) (i : ℕ) (limit : List ℕ) → length ps ≤ i →
-    Limiting ps ds heights i limit → Rows ps heights limit (limitOf ps ds)
-limits-done ps w ds heights i limit l p d q h =
-    p .done d q h (omega (arith, end-there ps (w .shape) d h, end-after ps (w .shape) d h))
+pub limits-start : {ps heights limit : List ℕ} → LimitingAll ps heights limit 0 limit
+limits-start =
+    record {
+      same = refl;
+      each = λ ds f r. record { done = λ d q h l. absurd (omega arith); todo = λ d q h l. r d q h };
+    }
 
 module _
-    (ps : List ℕ) (w : Points ps) (ds : List Dep) (heights : List ℕ) (i : ℕ) (limit : List ℕ)
+    {ps ends heights : List ℕ} (w : Ended ps ends heights) {ds : List Dep} {i : ℕ} {limit : List ℕ}
     (p : Limiting ps ds heights i limit)
   where
-    pub limits-skip : (getD ps i 0 ≡ 1 → ⊥) → Limiting ps ds heights (i + 1) limit
-    limits-skip k =
+    points : Points ps
+    points = w .tall .points
+
+    one-skip : (getD ps i 0 ≡ 1 → ⊥) → Limiting ps ds heights (i + 1) limit
+    one-skip k =
         record {
           done = λ d q h l. p .done d q h (before d h l);
           todo = λ d q h l. p .todo d q h (omega arith);
@@ -166,10 +178,10 @@ module _
             (λ (z : d ≡ i → ⊥). omega arith)
             (eq-or d i)
 
-    pub limits-on :
-        HeightsAre ps heights → AllFit ps ds → getD ps i 0 ≡ 1 → (e : ℕ) → e ≡ endOf ps i → (limit′ : List ℕ) →
-        Narrowed limit (at heights i * ROW) i e limit′ → Limiting ps ds heights (i + 1) limit′
-    limits-on tall fit k e e-is limit′ n = record { done = done; todo = todo }
+    one-on :
+        AllFit ps ds → getD ps i 0 ≡ 1 → {limit′ : List ℕ} →
+        Narrowed limit (at heights i * ROW) i (at ends i) limit′ → Limiting ps ds heights (i + 1) limit′
+    one-on fit k {limit′} n = record { done = done; todo = todo }
       where
         is-do : isDo ps i ≡ true
         is-do = eq-eqb (getD ps i 0) 1 k
@@ -177,24 +189,24 @@ module _
         here : (q : ℕ) → i < q → q ≤ endOf ps i → at limit′ (cell heights i q) ≡ limitOf ps ds i q
         here q l m =
             let row = at heights i * ROW in
-            let n′ : Narrowed limit row i (endOf ps i) limit′ = rw e-is at n in
+            let n′ : Narrowed limit row i (endOf ps i) limit′ = rw (w .stops i is-do) at n in
             n′ .inside q (endOf ps i - q) l (omega arith) ∙
-            lowest-is-limit ps w ds fit i is-do (λ j. at limit (row + j)) (suc (endOf ps i - q)) q l (omega arith)
+            lowest-is-limit ps points ds fit i is-do (λ j. at limit (row + j)) (suc (endOf ps i - q)) q l (omega arith)
             (λ j a b. p .todo i j is-do (omega arith) a b)
 
         -- a cell of another loop lies outside the row
         apart :
             (d q : ℕ) → isDo ps d ≡ true → (d ≡ i → ⊥) → d < q → q ≤ endOf ps d →
-            (cell heights d q ≤ cell heights i i) ⊎ (cell heights i e < cell heights d q)
+            (cell heights d q ≤ cell heights i i) ⊎ (cell heights i (at ends i) < cell heights d q)
         apart d q h x l m = ⊎-elim
             (λ (y : cell heights d q ≤ cell heights i i). inl y)
             (λ (y : cell heights i i < cell heights d q). ⊎-elim
-            (λ (z : cell heights d q ≤ cell heights i e).
+            (λ (z : cell heights d q ≤ cell heights i (at ends i)).
             let r = cell heights d q - at heights i * ROW in
             let s : cell heights d q ≡ cell heights i r = omega arith in
-            absurd (x (same-cell ps w heights tall d q i r h l m is-do (omega arith) (omega arith) s .0)))
-            (λ (z : cell heights i e < cell heights d q). inr z)
-            (le-or (cell heights d q) (cell heights i e)))
+            absurd (x (same-cell (w .tall) d q i r h l m is-do (omega arith) (omega (arith, w .stops i is-do)) s .0)))
+            (λ (z : cell heights i (at ends i) < cell heights d q). inr z)
+            (le-or (cell heights d q) (cell heights i (at ends i))))
             (le-or (cell heights d q) (cell heights i i))
 
         elsewhere :
@@ -214,3 +226,20 @@ module _
             (d q : ℕ) → isDo ps d ≡ true → i + 1 ≤ d → d < q → q ≤ endOf ps d →
             at limit′ (cell heights d q) ≡ backOf ps ds d q
         todo d q h a l m = elsewhere d q h (λ z. omega arith) l m ∙ p .todo d q h (omega arith) l m
+
+module _
+    {ps ends heights : List ℕ} (w : Ended ps ends heights) {limit₀ : List ℕ} {i : ℕ} {limit : List ℕ}
+    (s : LimitingAll ps heights limit₀ i limit)
+  where
+    pub limits-skip : (getD ps i 0 ≡ 1 → ⊥) → LimitingAll ps heights limit₀ (i + 1) limit
+    limits-skip k = record { same = s .same; each = λ ds f r. one-skip w (s .each ds f r) k }
+
+    pub limits-on :
+        {limit′ : List ℕ} → getD ps i 0 ≡ 1 → length limit′ ≡ length limit →
+        Narrowed limit (at heights i * ROW) i (at ends i) limit′ → LimitingAll ps heights limit₀ (i + 1) limit′
+    limits-on k l n = record { same = l ∙ s .same; each = λ ds f r. one-on w (s .each ds f r) f k n }
+
+    pub limits-done : length ps ≤ i → Limited ps heights limit₀ limit
+    limits-done l ds f r d q h =
+        let shape = w .tall .points .shape in
+        s .each ds f r .done d q h (omega (arith, end-there ps shape d h, end-after ps shape d h))

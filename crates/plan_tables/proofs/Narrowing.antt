@@ -21,9 +21,9 @@ pub record Narrowing (xs : List ℕ) (base d e m q : ℕ) (ys : List ℕ) : Type
   pub done : (j k : ℕ) → q < j → j + k ≡ e → at ys (base + j) ≡ lowestFrom (λ i. at xs (base + i)) e (suc k) j
   pub rest : (i : ℕ) → (i ≤ base + q) ⊎ (base + e < i) → at ys i ≡ at xs i
 
-pub narrow-start : (xs : List ℕ) (base d e : ℕ) → d ≤ e → Narrowing xs base d e e e xs
+pub narrow-start : {xs : List ℕ} {base d e : ℕ} → d ≤ e → Narrowing xs base d e e e xs
 unfolding lowestFrom
-narrow-start xs base d e l =
+narrow-start l =
     record {
       low = l;
       high = omega arith;
@@ -33,7 +33,7 @@ narrow-start xs base d e l =
       rest = λ i h. refl;
     }
 
-module _ (xs : List ℕ) (base d e m q : ℕ) (ys : List ℕ) (p : Narrowing xs base d e m q ys) where
+module _ {xs : List ℕ} {base d e m q : ℕ} {ys : List ℕ} (p : Narrowing xs base d e m q ys) where
   pub narrow-done : q ≤ d → Narrowed xs base d e ys
   narrow-done l =
       let z : q ≡ d = omega (arith, p .low) in

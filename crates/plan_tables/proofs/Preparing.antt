@@ -33,11 +33,10 @@ blank-filled n m e =
     }
 
 pub all-prepared :
-    (ps : List ℕ) (ds : List Dep) (own ends heights reach back limit has : List ℕ) → Charted ps own ends heights →
-    Collected ps ds heights reach back has → AllFit ps ds →
-    Limited ps heights back limit →
+    {ps : List ℕ} {ds : List Dep} {own ends heights reach back limit has : List ℕ} → Charted ps own ends heights →
+    Collected ps ds heights reach back has → AllFit ps ds → Limited ps heights back limit →
     Prepared ps ds own ends heights reach limit has
-all-prepared ps ds own ends heights reach back limit has c l f n =
+all-prepared {ds = ds} c l f n =
     record { charted = c; reach-is = l .reach-is; limit-is = n ds f (l .back-is); has-is = l .has-is }
 
 -- a valid nest is one that can be prepared

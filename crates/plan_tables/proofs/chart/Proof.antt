@@ -22,11 +22,8 @@ called c = c .before
 
 loop-holds : tie.Need-loop-holds Inv-loop μ-loop
 loop-holds c =
-    let a = c .args in
-    let w = c .pre .1 in (
-      chart-start (a .points .now) (a .own .now) (a .ends .now) (a .heights .now) (w .1) (w .0),
-      (refl, (refl, refl)),
-    )
+    let w = c .pre .1 in
+    (chart-start (w .0) (w .1), (refl, (refl, refl)))
 
 mul-own : tie.Need-mul-own Inv-loop μ-loop
 mul-own c = search needs
@@ -46,11 +43,7 @@ slice-write-heights c = search needs
 sub-h : tie.Need-sub-h Inv-loop μ-loop
 sub-h c =
     let k = c .before .before .before in
-    let a = called k .args in
-    let w = called k .pre .0 in
-    let l = k .loop in
-    height-there (a .points .now) w (l .i) (l .o) (l .h) (l .own) (l .ends) (l .heights) (l .inv .0)
-    (omega arith) (c .if1 .taken)
+    height-there (called k .pre .0) (k .loop .inv .0) (omega arith) (c .if1 .taken)
 
 add-i : tie.Need-add-i Inv-loop μ-loop
 add-i c = search needs
@@ -61,13 +54,7 @@ loop-less c = search needs
 loop-again : tie.Need-loop-again Inv-loop μ-loop
 loop-again c =
     let k = c .before .before .before in
-    let a = called k .args in
-    let w = called k .pre .0 in
-    let l = k .loop in (
-      on-do (a .points .now) w (l .i) (l .o) (l .h) (l .own) (l .ends) (l .heights) (l .inv .0)
-          (omega arith) (c .if1 .taken),
-      simp length-set (omega arith),
-    )
+    (on-do (called k .pre .0) (k .loop .inv .0) (omega arith) (c .if1 .taken), simp length-set (omega arith))
 
 mul-ends : tie.Need-mul-ends Inv-loop μ-loop
 mul-ends c = search needs
@@ -92,12 +79,8 @@ loop-less-2 c = search needs
 
 loop-again-2 : tie.Need-loop-again-2 Inv-loop μ-loop
 loop-again-2 c =
-    let k = c .before .before .before .before .before in
-    let a = called k .args in
-    let w = called k .pre .0 in
-    let l = k .loop in (
-      on-end (a .points .now) w (l .i) (l .o) (l .h) (l .own) (l .ends) (l .heights) (l .inv .0)
-          (omega arith) (c .before .before .if1 .left) (c .before .if2 .taken),
+    let k = c .before .before .before .before .before in (
+      on-end (called k .pre .0) (k .loop .inv .0) (omega arith) (c .before .before .if1 .left) (c .before .if2 .taken),
       simp length-set (omega arith),
     )
 
@@ -109,12 +92,8 @@ loop-less-3 c = search needs
 
 loop-again-3 : tie.Need-loop-again-3 Inv-loop μ-loop
 loop-again-3 c =
-    let k = c .before .before .before .before in
-    let a = called k .args in
-    let w = called k .pre .0 in
-    let l = k .loop in (
-      on-plain (a .points .now) w (l .i) (l .o) (l .h) (l .own) (l .ends) (l .heights) (l .inv .0)
-          (omega arith) (c .before .if1 .left) (c .if2 .left),
+    let k = c .before .before .before .before in (
+      on-plain (called k .pre .0) (k .loop .inv .0) (omega arith) (c .before .if1 .left) (c .if2 .left),
       simp length-set (omega arith),
     )
 
@@ -128,13 +107,7 @@ same-length-3 : tie.Need-same-length-3 Inv-loop μ-loop
 same-length-3 c = search needs
 
 returns : tie.Need-returns Inv-loop μ-loop
-returns c =
-    let k = c .before in
-    let a = called k .args in
-    let w = called k .pre .0 in
-    let l = k .loop in
-    chart-done (a .points .now) w (l .i) (l .o) (l .h) (l .own) (l .ends) (l .heights)
-    (c .loop-test .left) (l .inv .0)
+returns c = chart-done (called (c .before) .pre .0) (c .before .loop .inv .0) (c .loop-test .left)
 
 pub chart-spec : {M : Type 1} → statement M
 chart-spec =

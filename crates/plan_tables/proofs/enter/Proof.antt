@@ -7,6 +7,7 @@ use Rattle.paper_nests.specs.Kinds.{POINTS}
 use Rattle.paper_nests.specs.Stored.{depIn}
 use Rattle.paper_nests.proofs.Deps.{Line, Back, is-line, is-back}
 use Rattle.plan_tables.specs.Charts.{TABLE, cell}
+use Rattle.plan_tables.proofs.Cells.{Tall}
 use Rattle.plan_tables.proofs.Entering.{line-there, back-there, line-entered, back-entered}
 use Rattle.plan_tables.proofs.enter.Statement.{statement}
 use Rattle.plan_tables.proofs.enter.Tie as tie
@@ -15,37 +16,30 @@ use Rattle.plan_tables.proofs.enter.Tie as tie
 abbrev called : tie.After-struct-known3 → tie.Start
 called c = c .before .before .before .before .before .before .before .before .before .before
 
+-- the points and the heights
+tall : (c : tie.Start) → Tall (c .args .points .now) (c .args .heights .now)
+tall c = record { points = c .pre .0; heights-are = c .pre .1 .0 .heights-are }
+
 -- an independent dependence, its home, and its cell
 line-at : (c : tie.Then1) → let a = called (c .before) .args in Line (a .points .now) (depIn (a .e))
 line-at c =
     let s = called (c .before) in
-    let a = s .args in
-    is-line (a .points .now) (depIn (a .e)) (s .pre .1 .1 .1 .1) (c .if1 .taken)
+    is-line (s .args .points .now) (depIn (s .args .e)) (s .pre .1 .1 .1 .1) (c .if1 .taken)
 
 home-at :
     (c : tie.After-home-of) →
     let a = called (c .before .before) .args in
     (c .home-of .result < POINTS) × (cell (a .heights .now) (c .home-of .result) (a .e .s + 1) < TABLE)
-home-at c =
-    let s = called (c .before .before) in
-    let a = s .args in
-    let w = s .pre in
-    line-there (a .points .now) (w .0) (a .heights .now) (w .1 .0 .heights-are) (depIn (a .e)) (line-at (c .before))
-    (c .home-of .result) (c .home-of .ensures)
+home-at c = line-there (tall (called (c .before .before))) (line-at (c .before)) (c .home-of .ensures)
 
 -- a carried dependence, and its cell
 back-at : (c : tie.Else1) → let a = called (c .before) .args in Back (a .points .now) (depIn (a .e))
 back-at c =
     let s = called (c .before) in
-    let a = s .args in
-    is-back (a .points .now) (depIn (a .e)) (s .pre .1 .1 .1 .1) (c .if1 .left)
+    is-back (s .args .points .now) (depIn (s .args .e)) (s .pre .1 .1 .1 .1) (c .if1 .left)
 
 cell-at : (c : tie.Else1) → let a = called (c .before) .args in cell (a .heights .now) (a .e .d) (a .e .s) < TABLE
-cell-at c =
-    let s = called (c .before) in
-    let a = s .args in
-    let w = s .pre in
-    back-there (a .points .now) (w .0) (a .heights .now) (w .1 .0 .heights-are) (depIn (a .e)) (back-at c) .1
+cell-at c = back-there (tall (called (c .before))) (back-at c) .1
 
 cast-s : tie.Need-cast-s
 cast-s c = search needs
@@ -102,16 +96,13 @@ same-length-2 c = search needs
 
 returns : tie.Need-returns
 returns c =
-    let k = c .before .before .before .before .before .before in
-    let h = c .before .before .before .before .before .home-of in
+    let h = c .before .before .before .before .before in
+    let k = h .before in
     let s = called (k .before) in
-    let a = s .args in
-    let w = s .pre in
     λ ds p.
     rw
     (c .before .before .lower .ensures)
-    (line-entered (a .points .now) (w .0) (a .heights .now) (w .1 .0 .heights-are) ds (depIn (a .e)) (a .reach .now)
-    (a .back .now) (a .has .now) (w .1 .1 .1 .0) p (line-at k) (h .result) (h .ensures))
+    (line-entered (tall s) (s .pre .1 .1 .1 .0) p (line-at k) (h .home-of .ensures))
 
 cast-d : tie.Need-cast-d
 cast-d c = search needs
@@ -149,13 +140,10 @@ returns-2 : tie.Need-returns-2
 returns-2 c =
     let k = c .before .before .before .before .before .before in
     let s = called (k .before) in
-    let a = s .args in
-    let w = s .pre in
     λ ds p.
     rw
     (c .before .before .lower2 .ensures)
-    (back-entered (a .points .now) (w .0) (a .heights .now) (w .1 .0 .heights-are) ds (depIn (a .e)) (a .reach .now)
-    (a .back .now) (a .has .now) (w .1 .1 .1 .0) p (back-at k))
+    (back-entered (tall s) (s .pre .1 .1 .1 .0) p (back-at k))
 
 pub enter-spec : {M : Type 1} → statement M
 enter-spec =

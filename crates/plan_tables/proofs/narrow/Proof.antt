@@ -1,33 +1,31 @@
--- `narrow` meets its contract: the rows of the loops passed hold limits, the others what goes back (`Limiting`).
-use mathlib.Core.Path.{_≡_, refl}
+-- `narrow` meets its contract: the rows of the loops passed hold limits, the others what goes back (`LimitingAll`).
 use mathlib.Core.Logic.{⊎-elim}
-use mathlib.Core.List.{List}
 use Prim.Native.Nat.{_-_}
 use native.Mathlib.Omega.{arith}
 use borrow.Author.Needs.{needs}
-use borrow.Author.Tests.{eq-eqb}
-use lib.ListN.{length, getD}
-use Rattle.paper_nests.specs.Nests.{Dep}
-use Rattle.plan_tables.specs.Charts.{Rows}
-use Rattle.plan_method.proofs.Instance.{AllFit}
-use Rattle.plan_tables.specs.Collected.{backOf}
-use Rattle.plan_tables.proofs.Limits.{Limiting, row-there, limits-start, limits-on, limits-skip, limits-done}
+use lib.ListN.{length}
+use Rattle.plan_tables.proofs.Limits.{Ended, LimitingAll, row-there, limits-start, limits-on, limits-skip}
+use Rattle.plan_tables.proofs.Limits.{limits-done}
 use Rattle.plan_tables.proofs.narrow.Statement.{statement}
 use Rattle.plan_tables.proofs.narrow.Tie as tie
 
 abbrev Inv-loop : tie.InvT-loop
-Inv-loop points ends heights limit₀ d₀ limit d =
-    (length limit ≡ length limit₀) ×
-    ((ds : List Dep) → AllFit points ds → Rows points heights limit₀ (backOf points ds) →
-    Limiting points ds heights d limit)
+Inv-loop points ends heights limit₀ d₀ limit d = LimitingAll points heights limit₀ d limit
 
 abbrev μ-loop : tie.MeasureT-loop
 μ-loop points ends heights limit₀ d₀ limit d = length points - d
 
+-- the call, from the head of the loop, and what it has
+abbrev called : tie.At-loop Inv-loop μ-loop → tie.Start Inv-loop μ-loop
+called c = c .before .before .before .before .before
+
+ended : (c : tie.Start Inv-loop μ-loop) → Ended (c .args .points .now) (c .args .ends .now) (c .args .heights .now)
+ended c =
+    let w = c .pre in
+    record { tall = record { points = w .0; heights-are = w .1 .1 .0 }; stops = w .1 .0 }
+
 loop-holds : tie.Need-loop-holds Inv-loop μ-loop
-loop-holds c =
-    let a = c .before .before .before .before .args in
-    (refl, λ ds f r. limits-start (a .points .now) ds (a .heights .now) (a .limit .now) r)
+loop-holds c = limits-start
 
 shared-slice-read-if1 : tie.Need-shared-slice-read-if1 Inv-loop μ-loop
 shared-slice-read-if1 c = search needs
@@ -40,12 +38,8 @@ shared-slice-read-narrow-row c = search needs
 
 mul-narrow-row-2 : tie.Need-mul-narrow-row-2 Inv-loop μ-loop
 mul-narrow-row-2 c =
-    let a = c .before .before .before .before .before .before .before .before .before .before .args in
-    let w = c .before .before .before .before .before .before .before .before .before .before .pre in
-    let d = c .before .before .before .before .before .loop .d in
-    let k = c .before .before .if1 .taken in
-    let stop = w .1 .0 d (eq-eqb (getD (a .points .now) d 0) 1 k) in
-    let t = row-there (a .points .now) (w .0) (a .heights .now) (w .1 .1 .0) d (getD (a .ends .now) d 0) k stop in
+    let l = c .before .before .before .before .before in
+    let t = row-there (ended (called l)) (l .loop .d) (c .before .before .if1 .taken) in
     omega arith
 
 mul-narrow-row-3 : tie.Need-mul-narrow-row-3 Inv-loop μ-loop
@@ -56,13 +50,9 @@ shared-slice-read-narrow-row-2 c = search needs
 
 narrow-row-requires : tie.Need-narrow-row-requires Inv-loop μ-loop
 narrow-row-requires c κs =
-    let a = c .before .before .before .before .before .before .before .before .before .before .before .args in
-    let w = c .before .before .before .before .before .before .before .before .before .before .before .pre in
-    let d = c .before .before .before .before .before .before .loop .d in
-    let k = c .before .before .before .if1 .taken in
-    let stop = w .1 .0 d (eq-eqb (getD (a .points .now) d 0) 1 k) in
-    let t = row-there (a .points .now) (w .0) (a .heights .now) (w .1 .1 .0) d (getD (a .ends .now) d 0) k stop in
-    (t .0, omega (arith, w .1 .1 .1 .1 .1, c .before .before .before .before .before .before .loop .inv .0))
+    let l = c .before .before .before .before .before .before in
+    let t = row-there (ended (called l)) (l .loop .d) (c .before .before .before .if1 .taken) in
+    (t .0, omega (arith, called l .pre .1 .1 .1 .1 .1, l .loop .inv .same))
 
 add-d : tie.Need-add-d Inv-loop μ-loop
 add-d c = search needs
@@ -72,38 +62,18 @@ loop-less c = search needs
 
 loop-again : tie.Need-loop-again Inv-loop μ-loop
 loop-again c =
-    let a = c .before .before .before .before .before .before .before .before .args in
-    let w = c .before .before .before .before .before .before .before .before .pre in
-    let l = c .before .before .before .loop in
+    let l = c .before .before .before in
+    let w = ended (called l) in
     ⊎-elim
-    (λ x.
-    let n = x .4 in
-    let k = x .0 .taken in
-    let is-do = eq-eqb (getD (a .points .now) (l .d) 0) 1 k in
-    rw (x .7) (
-      omega (arith, n .kept .0, l .inv .0),
-      λ ds f r.
-          limits-on (a .points .now) (w .0) ds (a .heights .now) (l .d) (l .limit) (l .inv .1 ds f r) (w .1 .1 .0) f k
-          (getD (a .ends .now) (l .d) 0) (w .1 .0 (l .d) is-do) (n .last .0) (n .ensures),
-    ))
-    (λ x.
-    rw (x .1) (
-      l .inv .0,
-      λ ds f r.
-          limits-skip (a .points .now) (w .0) ds (a .heights .now) (l .d) (l .limit) (l .inv .1 ds f r) (x .0 .left),
-    ))
+    (λ x. rw (x .7) (limits-on w (l .loop .inv) (x .0 .taken) (x .4 .kept .0) (x .4 .ensures)))
+    (λ x. rw (x .1) (limits-skip w (l .loop .inv) (x .0 .left)))
     (c .if1 .came)
 
 same-length : tie.Need-same-length Inv-loop μ-loop
 same-length c = search needs
 
 returns : tie.Need-returns Inv-loop μ-loop
-returns c =
-    let a = c .before .before .before .before .before .before .args in
-    let w = c .before .before .before .before .before .before .pre in
-    let l = c .before .loop in
-    λ ds f r.
-    limits-done (a .points .now) (w .0) ds (a .heights .now) (l .d) (l .limit) (c .loop-test .left) (l .inv .1 ds f r)
+returns c = limits-done (ended (called (c .before))) (c .before .loop .inv) (c .loop-test .left)
 
 pub narrow-spec : {M : Type 1} → statement M
 narrow-spec =

@@ -11,9 +11,7 @@ abbrev μ-loop : tie.MeasureT-loop
 μ-loop xs₀ base d e m₀ q₀ xs m q = q
 
 loop-holds : tie.Need-loop-holds Inv-loop μ-loop
-loop-holds c =
-    let a = c .args in
-    narrow-start (a .xs .now) (a .base) (a .d) (a .e) (c .pre .0)
+loop-holds c = narrow-start (c .pre .0)
 
 add-place : tie.Need-add-place Inv-loop μ-loop
 add-place c = search needs
@@ -32,10 +30,8 @@ loop-less c = search needs
 
 loop-again : tie.Need-loop-again Inv-loop μ-loop
 loop-again c =
-    let a = c .before .before .before .before .args in
-    let l = c .before .before .before .loop in
-    narrow-lower (a .xs .now) (a .base) (a .d) (a .e) (l .m) (l .q) (l .xs) (l .inv)
-    (c .before .before .loop-test .taken) (c .if1 .taken)
+    let n = c .before .before in
+    narrow-lower (n .before .loop .inv) (n .loop-test .taken) (c .if1 .taken)
 
 mul-xs : tie.Need-mul-xs Inv-loop μ-loop
 mul-xs c = search needs
@@ -51,20 +47,14 @@ loop-less-2 c = search needs
 
 loop-again-2 : tie.Need-loop-again-2 Inv-loop μ-loop
 loop-again-2 c =
-    let a = c .before .before .before .before .args in
-    let l = c .before .before .before .loop in
-    narrow-store (a .xs .now) (a .base) (a .d) (a .e) (l .m) (l .q) (l .xs) (l .inv)
-    (c .before .before .loop-test .taken) (c .if1 .left) (c .before .before .before .before .pre .1)
+    let n = c .before .before in
+    narrow-store (n .before .loop .inv) (n .loop-test .taken) (c .if1 .left) (n .before .before .pre .1)
 
 same-length : tie.Need-same-length Inv-loop μ-loop
 same-length c = search needs
 
 returns : tie.Need-returns Inv-loop μ-loop
-returns c =
-    let a = c .before .before .args in
-    let l = c .before .loop in
-    narrow-done (a .xs .now) (a .base) (a .d) (a .e) (l .m) (l .q) (l .xs) (l .inv)
-    (c .loop-test .left)
+returns c = narrow-done (c .before .loop .inv) (c .loop-test .left)
 
 pub narrow-row-spec : {M : Type 1} → statement M
 narrow-row-spec =

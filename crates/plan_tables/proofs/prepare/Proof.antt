@@ -1,6 +1,5 @@
 -- `prepare` meets its contract: what `chart`, `collect` and `narrow` promise is all that is asked (`all-prepared`).
 use native.Mathlib.Omega.{arith}
-use Rattle.paper_nests.specs.Stored.{nestIn}
 use Rattle.plan_tables.proofs.Preparing.{count-there, all-prepared}
 use borrow.Author.Needs.{needs}
 use Rattle.plan_tables.proofs.prepare.Statement.{statement}
@@ -104,14 +103,8 @@ same-length-6 c = search needs
 returns : tie.Need-returns
 returns c =
     let k = c .before .before .before .before .before .before .before .before .before .before .before .before .before in
-    let s = called (charted k) in
-    let n = nestIn (s .args .nest) in
-    let h = charted k .chart in
-    let l = k .collect in
-    let r = c .before .before .narrow in
-    all-prepared (n .points) (n .deps) (h .last .1 .0) (h .last .1 .1 .0) (h .last .1 .1 .1 .0)
-    (l .last .1 .1 .1 .1 .1 .0) (l .last .1 .1 .1 .1 .1 .1 .0) (r .last .1 .1 .1 .0) (l .last .1 .1 .1 .1 .1 .1 .1 .0)
-    (h .ensures) (l .ensures) (s .pre .1 .1 .0) (r .ensures)
+    all-prepared (charted k .chart .ensures) (k .collect .ensures) (called (charted k) .pre .1 .1 .0)
+    (c .before .before .narrow .ensures)
 
 pub prepare-spec : {M : Type 1} → statement M
 prepare-spec =
