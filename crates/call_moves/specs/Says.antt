@@ -1,7 +1,8 @@
--- What the calls at the screen promise: reply and desk after.
--- Main definitions: `putFault`, `liftFault`, `backFault`, `MoveSays`, `PutSays`, `LiftSays`, `BackSays`.
+-- What the calls at the screen promise: reply, desk after, every lent byte.
+-- Main definitions: `putFault`, `liftFault`, `backFault`, `MoveSays`, `PutSays`, `LiftSays`, `BackSays`, `SittingSays`.
 use mathlib.Core.Path.{_≡_}
 use mathlib.Core.Bool.{false, not}
+use mathlib.Core.List.{List}
 use Prim.Native.Nat.{ℕ}
 use lib.Dec.{eqb}
 use lib.ListN.{length}
@@ -16,8 +17,9 @@ use Rattle.desk_moves.specs.declared.Moves as DV
 use Rattle.desk_moves.specs.TakeBack.{moved, takenBack}
 use Rattle.desk_moves.specs.Game.{putAt, liftAt, sittingGame}
 use Rattle.desk.specs.declared.Desk as DD
+use Rattle.desk.specs.declared.Answer as DA
 use Rattle.desk.specs.Desks.{Desk, playOn, withPlay, deskIn, stateFault}
-use Rattle.desk.specs.Says.{Holds}
+use Rattle.desk.specs.Says.{Holds, WrittenAs}
 use Rattle.call_moves.specs.declared.Moved as DM
 
 -- 02, job 4: 10, no nest; 8, a gap out of range
@@ -80,6 +82,10 @@ LiftSays d g r = MoveSays (liftFault (deskIn d) g) (afterLift (deskIn d) g) d r
 -- 02, job 5: Take back replies as Put does
 abbrev pub BackSays : DD.Desk → DM.Moved → Type 0
 BackSays d r = MoveSays (backFault (deskIn d)) (afterBack (deskIn d)) d r
+
+-- the sitting as text: 10, then as every placement; it changes no desk
+abbrev pub SittingSays : DD.Desk → List ℕ → List ℕ → DA.Answer → Type 0
+SittingSays d out out′ r = WrittenAs (stateFault false (deskIn d)) (deskIn d .sitting) out out′ r
 
 -- the sitting with a move undone
 pub record UndoneSays (n : Nest) (m : DG.Move) (s r : DS.Sitting) : Type 0 where

@@ -1,4 +1,5 @@
-// The calls at the screen: the candidate puts barriers into the sitting, lifts them, and takes moves back.
+// The calls at the screen: the candidate puts barriers into the sitting, lifts them, and takes moves back; and the
+// sitting is written as text.
 ghost use mathlib.Core.Path.{_≡_};
 ghost use mathlib.Core.Bool.{not, _&&_};
 ghost use Prim.Native.Nat.{_<_};
@@ -9,7 +10,9 @@ ghost use Rattle.paper_nests.specs.Stored.{nestIn};
 ghost use Rattle.paper_placements.specs.Words.{GAPS, holds};
 ghost use Rattle.desk_sitting.specs.Kept.{Ready};
 ghost use Rattle.desk_moves.specs.Ring.{IsRing, PushSays};
-ghost use Rattle.call_moves.specs.Says.{PutSays, LiftSays, BackSays, UndoneSays, refusedAs, movedTo};
+ghost use Rattle.call_moves.specs.Says.{PutSays, LiftSays, BackSays, SittingSays};
+ghost use Rattle.call_moves.specs.Says.{UndoneSays, refusedAs, movedTo};
+use desk::Answer;
 use desk::Desk;
 use desk_moves::Move;
 use desk_moves::Moves;
@@ -78,6 +81,14 @@ pub fn take_back(desk: Desk) -> Moved
         return accepted(desk, after, moves.pop());
     }
     refused(10, desk)
+}
+
+// Writes the sitting as text from the start of the buffer. Numbers 10, 9.
+pub fn write_sitting(desk: Desk, out: &mut [u8]) -> Answer
+    ensures { λ r. ⌜ SittingSays desk (now (out .entry)) (now (out .exit)) r ⌝ }
+{
+    let sitting = desk.sitting;
+    desk::write_placement(desk::key_fault(desk.loaded, true), sitting.placement, out)
 }
 
 // The moves with one more, of a gap put or lifted.

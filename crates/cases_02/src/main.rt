@@ -12,6 +12,7 @@ use cases_replies::gone_over;
 use cases_replies::gone_over_with;
 use cases_replies::has_count;
 use cases_replies::has_key;
+use cases_replies::has_sitting;
 use cases_replies::is_best;
 use cases_replies::is_refused;
 use cases_replies::is_unread;
@@ -38,7 +39,7 @@ fn main() {
     report(23, case_23());
 }
 
-// P at the screen: barriers put and lifted, and how many dependences remain uncut.
+// P at the screen: barriers put and lifted, how many dependences remain uncut, and the sitting as text.
 fn case_14() -> bool {
     let p = paper_p();
     let one = after_put(p, 5);
@@ -50,6 +51,9 @@ fn case_14() -> bool {
         && lifts(left, 11, 0, 6)
         && puts(left, 3, 0, 1)
         && puts(two, 13, 0, 0)
+        && has_sitting(p, 0, b"")
+        && has_sitting(two, 0, b"2105\n210b\n")
+        && has_sitting(left, 0, b"210b\n")
 }
 
 // Numbers at the screen: 10 before 8 before 12.
@@ -66,6 +70,7 @@ fn case_15() -> bool {
         && lifts(one, 14, 8, 0)
         && puts(one, 5, 12, 0)
         && lifts(one, 4, 12, 0)
+        && has_sitting(empty, 10, b"")
 }
 
 // No key is needed; Plan does not touch the sitting; Load empties it, refused it stays; a desk that goes over has nest
@@ -79,6 +84,7 @@ fn case_16() -> bool {
     let again = after_load(refused, b"01\n02\n110001\n");
     puts(least, 1, 0, 0)
         && lifts(one, 1, 0, 1)
+        && has_sitting(one, 0, b"2101\n")
         && has_key(planned, b"2101\n")
         && puts(planned, 1, 12, 0)
         && lifts(refused, 1, 0, 1)

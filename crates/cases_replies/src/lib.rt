@@ -4,6 +4,7 @@ ghost use Prim.Native.Nat.{_≤_};
 ghost use lib.ListN.{length};
 ghost use Rattle.io.specs.Counts.{Counts};
 ghost use Rattle.desk.specs.Desks.{IsMade};
+use desk::Answer;
 use desk::Chosen;
 use desk::Desk;
 use desk::Marked;
@@ -142,11 +143,7 @@ pub fn plans(desk: Desk, number: u8) -> bool
 pub fn has_key(desk: Desk, text: &[u8]) -> bool {
     let mut out = io::buffer();
     let written = desk::write_key(desk, &mut out);
-    let length = written.value;
-    if length <= out.len() {
-        return written.number == 0 && check::same(&out[..length], text);
-    }
-    false
+    is_written(&out, written, 0, text)
 }
 
 // The count of the loop of DO `point` is this.
@@ -234,6 +231,13 @@ pub fn takes_back(desk: Desk, number: u8, uncut: usize) -> bool
     moved.number == number && moved.line == 0 && moved.uncut == uncut
 }
 
+// The sitting is written with this number and this text.
+pub fn has_sitting(desk: Desk, number: u8, text: &[u8]) -> bool {
+    let mut out = io::buffer();
+    let written = call_moves::write_sitting(desk, &mut out);
+    is_written(&out, written, number, text)
+}
+
 // The reply has this number, and the set of this word.
 pub fn is_chosen(reply: Chosen, number: u8, set: u64) -> bool {
     let words = reply.gaps.words;
@@ -276,6 +280,15 @@ fn put(text: &mut [u8], at: usize, line: &[u8]) -> usize
         }
     }
     n
+}
+
+// The answer has this number, and what it wrote is this text.
+fn is_written(out: &[u8], answer: Answer, number: u8, text: &[u8]) -> bool {
+    let length = answer.value;
+    if length <= out.len() {
+        return answer.number == number && answer.line == 0 && check::same(&out[..length], text);
+    }
+    false
 }
 
 // Writes a case's line.

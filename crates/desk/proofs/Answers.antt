@@ -1,5 +1,5 @@
--- Count, Mark and Write: what each way through the code says of the reply.
--- Main statements: `count-refused`, `count-no-do`, `count-is`; `write-refused`, `write-short`, `written`;
+-- Count, Mark and a placement's text: what each way through the code says of the reply.
+-- Main statements: `count-refused`, `count-no-do`, `count-is`; `text-refused`, `text-short`, `text-written`;
 -- `mark-refused`, `mark-unread`, `mark-given`.
 use mathlib.Core.Path.{_≡_, sym, _∙_, ap}
 use mathlib.Core.Bool.{Bool, true, false, not}
@@ -19,18 +19,18 @@ use Rattle.paper_texts.specs.PlacementTexts.{Placed, placed, keyText}
 use Rattle.desk.specs.declared.Desk as DD
 use Rattle.desk.specs.declared.Answer as DA
 use Rattle.desk.specs.Desks.{Desk, deskIn, stateFault, Fault, fault}
-use Rattle.desk.specs.Says.{RefusedAs, countFault, CountSays, writeFault, WriteSays}
+use Rattle.desk.specs.Says.{RefusedAs, countFault, CountSays, textFault, WrittenAs}
 use Rattle.desk.specs.Says.{refused, given, readIn, placeFault, marked}
 
--- the numbers that the calls look at, in their order: 10 and 11; then 6 of Count, and 9 of Write
+-- the numbers that the calls look at, in their order: 10 and 11; then 6 of Count, and 9 of a placement's text
 abbrev state : DD.Desk → ℕ
 state d = stateFault true (deskIn d)
 
 abbrev noDo : DD.Desk → ℕ → ℕ
 noDo d p = when (not (isDo (deskIn d .nest-is .points) p)) 6
 
-abbrev short : DD.Desk → List ℕ → ℕ
-short d out = when (ltb (length out) (length (keyText (deskIn d .key)))) 9
+abbrev short : List ℕ → List ℕ → ℕ
+short gs out = when (ltb (length out) (length (keyText gs))) 9
 
 -- the number and the line of a reading
 abbrev faultIn : Placed → Fault
@@ -62,34 +62,31 @@ module _ (d : DD.Desk) (p : ℕ) (r : DA.Answer) where
       let z : countFault (deskIn d) p ≡ 0 = do-fault true e i in
       record { number-is = n ∙ sym z; line-is = l; value-is = rw (eq-eqb (countFault (deskIn d) p) 0 z) v }
 
-module _ (d : DD.Desk) (out out′ : List ℕ) (r : DA.Answer) where
-  write-by : (k : ℕ) → writeFault (deskIn d) out ≡ k → (k ≡ 0 → ⊥) → RefusedAs k r → out′ ≡ out → WriteSays d out out′ r
-  write-by k e h a o =
-      let z = is-set (writeFault (deskIn d) out) k e h in
+module _ (state : ℕ) (gs out out′ : List ℕ) (r : DA.Answer) where
+  text-by
+      : (k : ℕ) → textFault state gs out ≡ k → (k ≡ 0 → ⊥) → RefusedAs k r → out′ ≡ out
+      → WrittenAs state gs out out′ r
+  text-by k e h a o =
+      let z = is-set (textFault state gs out) k e h in
       record { number-is = a .number-is ∙ sym e; line-is = a .line-is; value-is = rw z (a .value-is); out-is = rw z o }
 
-  pub write-refused : (k : ℕ) → k ≡ state d → (k ≡ 0 → ⊥) → RefusedAs k r → out′ ≡ out → WriteSays d out out′ r
-  write-refused k e h a o = write-by k (first-set (state d) (short d out) (λ q. h (e ∙ q)) ∙ sym e) h a o
+  pub text-refused : (state ≡ 0 → ⊥) → RefusedAs state r → out′ ≡ out → WrittenAs state gs out out′ r
+  text-refused h a o = text-by state (first-set state (short gs out) h) h a o
 
-  short-fault
-      : (t : Bool) → state d ≡ 0 → ltb (length out) (length (keyText (deskIn d .key))) ≡ t
-      → writeFault (deskIn d) out ≡ when t 9
-  short-fault t e i = first-none (state d) (short d out) e ∙ ap (λ (x : Bool). when x 9) i
+  short-fault : (t : Bool) → state ≡ 0 → ltb (length out) (length (keyText gs)) ≡ t → textFault state gs out ≡ when t 9
+  short-fault t e i = first-none state (short gs out) e ∙ ap (λ (x : Bool). when x 9) i
 
-  pub write-short
-      : state d ≡ 0 → length out < length (keyText (deskIn d .key)) → RefusedAs 9 r → out′ ≡ out
-      → WriteSays d out out′ r
-  write-short e i a o =
-      let t = lt-ltb (length out) (length (keyText (deskIn d .key))) i in
-      write-by 9 (short-fault true e t) (λ q. omega arith) a o
+  pub text-short
+      : state ≡ 0 → length out < length (keyText gs) → RefusedAs 9 r → out′ ≡ out → WrittenAs state gs out out′ r
+  text-short e i a o =
+      text-by 9 (short-fault true e (lt-ltb (length out) (length (keyText gs)) i)) (λ q. omega arith) a o
 
-  pub written
-      : state d ≡ 0 → length (keyText (deskIn d .key)) ≤ length out → r .number ≡ 0 → r .line ≡ 0
-      → r .value ≡ length (keyText (deskIn d .key)) → out′ ≡ over (keyText (deskIn d .key)) out → WriteSays d out out′ r
-  written e i n l v o =
-      let t = le-ltb (length out) (length (keyText (deskIn d .key))) i in
-      let z : writeFault (deskIn d) out ≡ 0 = short-fault false e t in
-      let y = eq-eqb (writeFault (deskIn d) out) 0 z in
+  pub text-written
+      : state ≡ 0 → length (keyText gs) ≤ length out → r .number ≡ 0 → r .line ≡ 0 → r .value ≡ length (keyText gs)
+      → out′ ≡ over (keyText gs) out → WrittenAs state gs out out′ r
+  text-written e i n l v o =
+      let z : textFault state gs out ≡ 0 = short-fault false e (le-ltb (length out) (length (keyText gs)) i) in
+      let y = eq-eqb (textFault state gs out) 0 z in
       record { number-is = n ∙ sym z; line-is = l; value-is = rw y v; out-is = rw y o }
 
 module _ (d : DD.Desk) (s : List ℕ) where

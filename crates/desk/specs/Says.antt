@@ -1,5 +1,6 @@
 -- What the public calls promise: reply, desk after, every lent byte.
--- Main definitions: `EmptySays`, `LoadSays`, `PlanSays`, `ChosenSays`, `CountSays`, `MarkSays`, `WriteSays`, `OverSays`.
+-- Main definitions: `EmptySays`, `LoadSays`, `PlanSays`, `ChosenSays`, `CountSays`, `MarkSays`, `WrittenAs`,
+-- `WriteSays`, `OverSays`.
 use mathlib.Core.Path.{_≡_}
 use mathlib.Core.Bool.{true, not}
 use mathlib.Core.List.{List, []}
@@ -42,8 +43,8 @@ pub record Holds (d : DD.Desk) (x : Desk) : Type 0 where
 abbrev pub EmptySays : DD.Desk → Type 0
 EmptySays d = Holds d emptyDesk
 
--- Load: 1 to 8 and 14 with their line; accepted, it replaces the nest and drops key, sitting and moves; refused, it leaves the
--- desk
+-- Load: 1 to 8 and 14 with their line; accepted, it replaces the nest and drops key, sitting and moves; refused, it
+-- leaves the desk
 pub record LoadSays (d : DD.Desk) (s : List ℕ) (r : DR.Reply) : Type 0 where
   pub number-is : r .number ≡ readNest s .number
   pub line-is : r .line ≡ readNest s .place
@@ -115,15 +116,23 @@ marked x s =
 abbrev pub MarkSays : DD.Desk → List ℕ → DM.Marked → Type 0
 MarkSays d s r = markIn r ≡ marked (deskIn d) s
 
--- Write: 10, 11, 9; the key's text from the start of the buffer, every later byte as it was, and the length
-abbrev pub writeFault : Desk → List ℕ → ℕ
-writeFault x out = firstOf (stateFault true x) (when (ltb (length out) (length (keyText (x .key)))) 9)
+-- a placement as text, where the desk's state gives no number: 9; the text from the start of the buffer, every later
+-- byte as it was, and the length
+abbrev pub textFault : ℕ → List ℕ → List ℕ → ℕ
+textFault state gs out = firstOf state (when (ltb (length out) (length (keyText gs))) 9)
 
-pub record WriteSays (d : DD.Desk) (out out′ : List ℕ) (r : DA.Answer) : Type 0 where
-  pub number-is : r .number ≡ writeFault (deskIn d) out
+pub record WrittenAs (state : ℕ) (gs out out′ : List ℕ) (r : DA.Answer) : Type 0 where
+  pub number-is : r .number ≡ textFault state gs out
   pub line-is : r .line ≡ 0
-  pub value-is : r .value ≡ pick (eqb (writeFault (deskIn d) out) 0) (length (keyText (deskIn d .key))) 0
-  pub out-is : out′ ≡ pick (eqb (writeFault (deskIn d) out) 0) (over (keyText (deskIn d .key)) out) out
+  pub value-is : r .value ≡ pick (eqb (textFault state gs out) 0) (length (keyText gs)) 0
+  pub out-is : out′ ≡ pick (eqb (textFault state gs out) 0) (over (keyText gs) out) out
+
+-- Write: 10, 11, then as every placement; the key
+abbrev pub writeFault : Desk → List ℕ → ℕ
+writeFault x out = textFault (stateFault true x) (x .key) out
+
+abbrev pub WriteSays : DD.Desk → List ℕ → List ℕ → DA.Answer → Type 0
+WriteSays d out out′ r = WrittenAs (stateFault true (deskIn d)) (deskIn d .key) out out′ r
 
 -- the list: 10, 11, then 2, 6, 7 with the record's place; the place of the first that the key doesn't cut, 0 for none
 abbrev pub checkFault : Desk → List Dep → Fault

@@ -10,7 +10,7 @@ ghost use Rattle.paper_placements.specs.Placements.{areGaps};
 ghost use Rattle.paper_placements.specs.Words.{gapsIn};
 ghost use Rattle.paper_order.specs.Verdicts.{markOf};
 ghost use Rattle.desk.specs.Says.{EmptySays, LoadSays, PlanSays, CountSays, MarkSays, WriteSays, OverSays};
-ghost use Rattle.desk.specs.Says.{RefusedAs, NotChosen, verdictIn};
+ghost use Rattle.desk.specs.Says.{RefusedAs, NotChosen, WrittenAs, verdictIn};
 use desk_moves::Moves;
 use desk_sitting::Sitting;
 use paper_nests::Nest;
@@ -217,20 +217,7 @@ pub fn mark_placement(desk: Desk, text: &[u8]) -> Marked
 pub fn write_key(desk: Desk, out: &mut [u8]) -> Answer
     ensures { λ r. ⌜ WriteSays desk (now (out .entry)) (now (out .exit)) r ⌝ }
 {
-    let number = key_fault(desk.loaded, desk.planned);
-    if number != 0 {
-        return refused(number);
-    }
-    let key = desk.key;
-    let length = paper_texts::text_length(key);
-    if out.len() < length {
-        return refused(9);
-    }
-    Answer {
-        number: 0,
-        line: 0,
-        value: paper_texts::write_text(key, out),
-    }
+    write_placement(key_fault(desk.loaded, desk.planned), desk.key, out)
 }
 
 // Empties the desk.
@@ -282,6 +269,24 @@ pub fn judge(nest: Nest, key: Placement, placement: Placement) -> Verdict
     match compared {
         Compared::Differ(counts) => Verdict::Dearer(counts),
         Compared::Same => Verdict::Best,
+    }
+}
+
+// Writes a placement as text from the start of the buffer, unless the desk's state gives a number. Number 9.
+pub fn write_placement(state: u8, placement: Placement, out: &mut [u8]) -> Answer
+    ensures { λ r. ⌜ WrittenAs state (gapsIn (placement .words)) (now (out .entry)) (now (out .exit)) r ⌝ }
+{
+    if state != 0 {
+        return refused(state);
+    }
+    let length = paper_texts::text_length(placement);
+    if out.len() < length {
+        return refused(9);
+    }
+    Answer {
+        number: 0,
+        line: 0,
+        value: paper_texts::write_text(placement, out),
     }
 }
 

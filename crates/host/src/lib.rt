@@ -7,13 +7,13 @@ ghost use Rattle.desk.specs.Says.{EmptySays, LoadSays, PlanSays, CountSays, Wri
 ghost use Rattle.desk.specs.Says.{markIn, verdictIn};
 ghost use Rattle.call_improve.specs.Says.{ImproveSays};
 ghost use Rattle.call_join.specs.Says.{JoinSays};
-ghost use Rattle.call_moves.specs.Says.{PutSays, LiftSays, BackSays};
+ghost use Rattle.call_moves.specs.Says.{PutSays, LiftSays, BackSays, SittingSays};
 ghost use Rattle.call_sheet.specs.Says.{endsOf};
 ghost use Rattle.call_sheet.specs.Sheets.{sheet};
 ghost use Rattle.call_missing.specs.Says.{MissingSays};
 ghost use Rattle.call_slips.specs.Says.{CandidateSays, ExaminerSays};
 ghost use Rattle.call_textbook.specs.Says.{TextbookSays};
-ghost use Rattle.host.specs.Says.{MarkSays, SittingSays};
+ghost use Rattle.host.specs.Says.{MarkSays};
 ghost use Rattle.host.specs.Marks.{coded, markOut, verdictOut};
 ghost use Rattle.host.specs.Records.{recordsOf};
 ghost use mathlib.Core.Path.{_≡_};
@@ -161,17 +161,11 @@ pub extern "C" fn desk_take_back(desk: Desk) -> Moved
     call_moves::take_back(desk)
 }
 
-// Writes the sitting as text, as Write writes the key. Numbers 10, 9.
 #[no_mangle]
 pub extern "C" fn desk_sitting(desk: Desk, out: &mut [u8]) -> Answer
     ensures { λ r. ⌜ SittingSays desk (now (out .entry)) (now (out .exit)) r ⌝ }
 {
-    let sitting = desk.sitting;
-    let placement = sitting.placement;
-    let mut d = desk;
-    d.planned = true;
-    d.key = placement;
-    desk::write_key(d, out)
+    call_moves::write_sitting(desk, out)
 }
 
 #[no_mangle]
