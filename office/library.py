@@ -101,11 +101,11 @@ class Desk:
         return self.written(library().desk_sitting, TEXT)
 
     def textbook(self) -> list[int]:
-        return gaps_in(given(library().desk_textbook(self.held)).gaps)
+        return members(given(library().desk_textbook(self.held)).set)
 
     def missing_runs(self) -> list[int]:
         """The DOs of the loops that need a barrier for their missing run."""
-        return gaps_in(given(library().desk_missing_runs(self.held)).gaps)
+        return members(given(library().desk_missing_runs(self.held)).set)
 
     def count_calls(self, turns: bytes) -> int:
         """The key's barrier calls, with a number of turns for each loop in order of its DO."""
@@ -118,12 +118,12 @@ class Desk:
     def improve(self, turns: bytes, budget: int) -> Improved:
         """Tries from the key, within a budget."""
         found = given(library().desk_improve(self.held, turns, len(turns), budget))
-        return Improved(gaps_in(found.placement), found.calls, found.tries, found.ended, found.floor)
+        return Improved(members(found.placement), found.calls, found.tries, found.ended, found.floor)
 
     def compare(self, first: bytes, second: bytes) -> Compared:
         """Two placement texts beside each other."""
         told = given(library().desk_compare(self.held, first, len(first), second, len(second)))
-        return Compared(told.first, told.second, gaps_in(told.deciding))
+        return Compared(told.first, told.second, members(told.deciding))
 
     def candidate_slip(self, text: bytes) -> bytes:
         return self.written(library().desk_candidate_slip, SLIP, text, len(text))
@@ -181,9 +181,9 @@ def given(reply: ctypes.Structure) -> ctypes.Structure:
     return reply
 
 
-def gaps_in(placement: ctypes.Structure) -> list[int]:
-    """The gaps of a placement, rising."""
-    return [64 * i + bit for i, word in enumerate(placement.words) for bit in range(64) if word >> bit & 1]
+def members(chosen: ctypes.Structure) -> list[int]:
+    """The gaps of a set of them, or the DOs of its loops, rising."""
+    return [64 * i + bit for i, word in enumerate(chosen.words) for bit in range(64) if word >> bit & 1]
 
 
 @functools.cache

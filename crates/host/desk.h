@@ -90,7 +90,7 @@ typedef struct DeskNest {
     uint8_t flagged[DESK_POINTS];
 } DeskNest;
 
-/* A set of gaps: gap g is bit g % 64 of word g / 64. */
+/* A set of gaps, or of loops by their DOs: gap g, or the loop of DO g, is bit g % 64 of word g / 64. */
 typedef struct DeskPlacement {
     uint64_t words[DESK_GAPS / 64];
 } DeskPlacement;
@@ -151,11 +151,11 @@ typedef struct DeskMoved {
     Desk desk;
 } DeskMoved;
 
-/* A set of gaps, or of loops by their DOs, in the same bits; empty where the call is refused. */
+/* A set of gaps by the textbook method, of loops by their DOs for the missing runs; empty where the call is refused. */
 typedef struct DeskChosen {
     uint8_t number;
     size_t line;
-    DeskPlacement gaps;
+    DeskPlacement set;
 } DeskChosen;
 
 typedef struct DeskCalls {
@@ -192,8 +192,8 @@ typedef struct DeskJoined {
 } DeskJoined;
 
 /* `text` is 1 or 2, the text at fault, or 0 for neither; `first`: the first placement is as good or better than the
-   second, `second`: the second than the first; `deciding`: bit d for the loop of DO d, if the counts differ there and
-   are the same in all the loops inside. */
+   second, `second`: the second than the first; `deciding`: the loops, by their DOs, where the counts differ and are the
+   same in all the loops inside. */
 typedef struct DeskCompared {
     uint8_t number;
     uint8_t text;

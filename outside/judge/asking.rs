@@ -100,7 +100,7 @@ pub struct Reply { pub number: u8, pub line: usize, pub values: Vec<usize>, pub 
 
 impl From<host::Chosen> for Reply {
     fn from(c: host::Chosen) -> Reply {
-        let values = c.gaps.words.iter().map(|&word| word as usize).collect();
+        let values = c.set.words.iter().map(|&word| word as usize).collect();
         Reply { number: c.number, line: c.line, values, lent: Vec::new() }
     }
 }

@@ -65,7 +65,7 @@ pub struct Moved { pub number: u8, pub line: usize, pub uncut: usize, pub desk: 
 pub struct Mark { pub number: u8, pub line: usize, pub verdict: u8, pub a: usize, pub b: usize, pub c: usize }
 
 #[repr(C)]
-pub struct Chosen { pub number: u8, pub line: usize, pub gaps: Placement }
+pub struct Chosen { pub number: u8, pub line: usize, pub set: Placement }
 
 #[repr(C)]
 pub struct Calls { pub number: u8, pub line: usize, pub calls: u64 }

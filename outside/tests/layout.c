@@ -78,7 +78,7 @@ AT(DeskCompared, deciding, 24, 32);
 SIZE(DeskChosen, 48);
 AT(DeskChosen, number, 0, 1);
 AT(DeskChosen, line, 8, 8);
-AT(DeskChosen, gaps, 16, 32);
+AT(DeskChosen, set, 16, 32);
 
 SIZE(DeskCalls, 24);
 AT(DeskCalls, number, 0, 1);
@@ -225,7 +225,7 @@ static void barred(Desk desk) {
     that("key beside barred gaps", desk.planned && desk.key.words[0] == (1u << 3 | 1u << 5));
     that("Put of a barred gap", desk_put(desk, 4).number == 16);
     DeskChosen chosen = desk_textbook(desk);
-    that("textbook", chosen.number == 0 && chosen.gaps.words[0] == (1u << 3 | 1u << 6) && chosen.gaps.words[3] == 0);
+    that("textbook", chosen.number == 0 && chosen.set.words[0] == (1u << 3 | 1u << 6) && chosen.set.words[3] == 0);
     DeskPlain plain = {.loaded = true, .nest = desk.nest, .planned = true};
     desk = desk_go_over(plain);
     that("gone over", desk.planned && desk.nest.bars == 3 && desk.key.words[0] == (1u << 3 | 1u << 5));
@@ -238,7 +238,7 @@ static void skipping(Desk desk) {
     that("no key, no list", desk_missing_runs(desk).number == 11);
     desk = desk_plan(desk).desk;
     DeskChosen listed = desk_missing_runs(desk);
-    that("missing runs", listed.number == 0 && listed.gaps.words[0] == 1u << 2 && listed.gaps.words[3] == 0);
+    that("missing runs", listed.number == 0 && listed.set.words[0] == 1u << 2 && listed.set.words[3] == 0);
     DeskPlain plain = {.loaded = true, .nest = desk.nest, .planned = true};
     desk = desk_go_over(plain);
     that("gone over with flags", desk.planned && desk.nest.flags == 1 && desk.key.words[0] == 1u << 3);

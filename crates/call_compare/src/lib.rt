@@ -17,8 +17,8 @@ use paper_weigh::as_good;
 use paper_weigh::deciding;
 
 // The number of a refusal, the text at fault (1 or 2, or 0 for neither) with its line, zeros for none; whether the first
-// placement is as good or better than the second, and the second than the first; and the DOs of the loops that decide
-// between them, as bits.
+// placement is as good or better than the second, and the second than the first; and the set of the loops that decide
+// between them, by their DOs.
 #[repr(C)]
 pub struct Compared {
     pub number: u8,

@@ -35,8 +35,8 @@ module _ (n : Nest) (v : isValid n ≡ true) (ws : List ℕ) (same : (d : ℕ) �
   flags-are-dos d l h = are-flags n v d (sym (same d) ∙ h)
 
 -- a reply that is no refusal has the listed loops
-given : (d : DD.Desk) (r : DC.Chosen) → MissingSays d r → r .number ≡ 0 → gapsIn (r .gaps .words) ≡ missingOn (deskIn d)
-given d r h z = rw (eq-eqb (stateFault true (deskIn d)) 0 (sym (h .number-is) ∙ z)) at (h .gaps-are)
+given : (d : DD.Desk) (r : DC.Chosen) → MissingSays d r → r .number ≡ 0 → gapsIn (r .set .words) ≡ missingOn (deskIn d)
+given d r h z = rw (eq-eqb (stateFault true (deskIn d)) 0 (sym (h .number-is) ∙ z)) at (h .set-is)
 
 pub missing-iff : MissingIff
 missing-iff d r m h z l =

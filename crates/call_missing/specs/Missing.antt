@@ -26,7 +26,7 @@ MissingIff =
     r .number ≡ 0 →
     let n = deskIn d .nest-is in
     (l : ℕ) →
-    (isIn l (gapsIn (r .gaps .words)) ≡ true) ↔ NeedsBarrier (n .points) (n .deps) (n .flagged) (deskIn d .key) l
+    (isIn l (gapsIn (r .set .words)) ≡ true) ↔ NeedsBarrier (n .points) (n .deps) (n .flagged) (deskIn d .key) l
 
 -- 02, job 10: whichever flagged loops are skipped, a dependence to which all of them are foreign is still cut
 abbrev pub MissingReached : Type 0

@@ -19,7 +19,7 @@ ghost use Rattle.desk.specs.Desks.{IsMade};
 ghost use Rattle.call_missing.specs.Says.{AreDos, ListedSays, MissingSays};
 ghost use Rattle.call_missing.specs.Covering.{isApart, AreLoops, WithBarrier, CoverSays, RangeListed, ListedBySays};
 
-// The DOs of the loops that need a barrier for their missing run, as bits. Numbers 10, 11.
+// The set of the loops that need a barrier for their missing run, by their DOs. Numbers 10, 11.
 pub fn missing_runs(desk: Desk) -> Chosen
     requires { ⌜ IsMade desk ⌝ }
     ensures { λ r. ⌜ MissingSays desk r ⌝ }
@@ -33,7 +33,7 @@ pub fn missing_runs(desk: Desk) -> Chosen
     Chosen {
         number: 0,
         line: 0,
-        gaps: listed_loops(nest, flagged, desk.key),
+        set: listed_loops(nest, flagged, desk.key),
     }
 }
 

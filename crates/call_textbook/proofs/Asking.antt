@@ -37,7 +37,7 @@ module _ (d : DD.Desk) where
 
   pub chosen
       : (r : DC.Chosen) → textbookFault (deskIn d) ≡ 0 → r .number ≡ 0 → r .line ≡ 0
-      → gapsIn (r .gaps .words) ≡ textbookOn (deskIn d) → TextbookSays d r
+      → gapsIn (r .set .words) ≡ textbookOn (deskIn d) → TextbookSays d r
   chosen r = chooses (textbookFault (deskIn d)) (textbookOn (deskIn d)) r
 
 -- what the call reads of a desk is its nest

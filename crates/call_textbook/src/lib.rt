@@ -44,7 +44,7 @@ pub fn textbook(desk: Desk) -> Chosen
             return Chosen {
                 number: 0,
                 line: 0,
-                gaps: smallest(nest, paper_barred::barred_of(nest)),
+                set: smallest(nest, paper_barred::barred_of(nest)),
             };
         }
         return not_chosen(14);

@@ -240,7 +240,7 @@ pub fn has_sitting(desk: Desk, number: u8, text: &[u8]) -> bool {
 
 // The reply has this number, and the set of this word.
 pub fn is_chosen(reply: Chosen, number: u8, set: u64) -> bool {
-    let words = reply.gaps.words;
+    let words = reply.set.words;
     reply.number == number
         && reply.line == 0
         && words[0] == set

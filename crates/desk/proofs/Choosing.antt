@@ -10,39 +10,39 @@ use Rattle.desk.specs.Says.{NotChosen, ChosenSays}
 
 -- the reply of a refusal, and that with the set
 pub chooses-none
-    : (f : ℕ) (gs : List ℕ) (r : DC.Chosen) (e : ℕ) → f ≡ e → (e ≡ 0 → ⊥) → NotChosen e r → ChosenSays f gs r
-chooses-none f gs r e is some h =
+    : (f : ℕ) (xs : List ℕ) (r : DC.Chosen) (e : ℕ) → f ≡ e → (e ≡ 0 → ⊥) → NotChosen e r → ChosenSays f xs r
+chooses-none f xs r e is some h =
     record {
       number-is = h .number-is ∙ sym is;
       line-is = h .line-is;
-      gaps-are = rw (ne-eqb f 0 (λ q. some (sym is ∙ q))) (h .gaps-are);
+      set-is = rw (ne-eqb f 0 (λ q. some (sym is ∙ q))) (h .set-is);
     }
 
 pub chooses
-    : (f : ℕ) (gs : List ℕ) (r : DC.Chosen)
+    : (f : ℕ) (xs : List ℕ) (r : DC.Chosen)
     → f ≡ 0
     → r .number ≡ 0
     → r .line ≡ 0
-    → gapsIn (r .gaps .words) ≡ gs
-    → ChosenSays f gs r
-chooses f gs r z n l g = record { number-is = n ∙ sym z; line-is = l; gaps-are = rw (eq-eqb f 0 z) g }
+    → gapsIn (r .set .words) ≡ xs
+    → ChosenSays f xs r
+chooses f xs r z n l g = record { number-is = n ∙ sym z; line-is = l; set-is = rw (eq-eqb f 0 z) g }
 
 -- replies with the same number and the same set
 pub record SameChosen (a b : DC.Chosen) : Type 0 where
   pub same-number : a .number ≡ b .number
   pub same-line : a .line ≡ b .line
-  pub same-gaps : gapsIn (a .gaps .words) ≡ gapsIn (b .gaps .words)
+  pub same-set : gapsIn (a .set .words) ≡ gapsIn (b .set .words)
 
 pub same-chosen
-    : (f f′ : ℕ) (gs gs′ : List ℕ) (a b : DC.Chosen)
+    : (f f′ : ℕ) (xs xs′ : List ℕ) (a b : DC.Chosen)
     → f ≡ f′
-    → gs ≡ gs′
-    → ChosenSays f gs a
-    → ChosenSays f′ gs′ b
+    → xs ≡ xs′
+    → ChosenSays f xs a
+    → ChosenSays f′ xs′ b
     → SameChosen a b
-same-chosen f f′ gs gs′ a b p q h k =
+same-chosen f f′ xs xs′ a b p q h k =
     record {
       same-number = h .number-is ∙ p ∙ sym (k .number-is);
       same-line = h .line-is ∙ sym (k .line-is);
-      same-gaps = h .gaps-are ∙ cc (p, q) ∙ sym (k .gaps-are);
+      same-set = h .set-is ∙ cc (p, q) ∙ sym (k .set-is);
     }

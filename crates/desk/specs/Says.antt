@@ -64,16 +64,16 @@ pub record RefusedAs (number : ℕ) (r : DA.Answer) : Type 0 where
   pub line-is : r .line ≡ 0
   pub value-is : r .value ≡ 0
 
--- a reply that chooses nothing, and one that chooses a set
+-- a reply that chooses nothing, and one that chooses a set, of gaps or of DOs
 pub record NotChosen (number : ℕ) (r : DC.Chosen) : Type 0 where
   pub number-is : r .number ≡ number
   pub line-is : r .line ≡ 0
-  pub gaps-are : gapsIn (r .gaps .words) ≡ []
+  pub set-is : gapsIn (r .set .words) ≡ []
 
-pub record ChosenSays (number : ℕ) (gs : List ℕ) (r : DC.Chosen) : Type 0 where
+pub record ChosenSays (number : ℕ) (xs : List ℕ) (r : DC.Chosen) : Type 0 where
   pub number-is : r .number ≡ number
   pub line-is : r .line ≡ 0
-  pub gaps-are : gapsIn (r .gaps .words) ≡ pick (eqb number 0) gs []
+  pub set-is : gapsIn (r .set .words) ≡ pick (eqb number 0) xs []
 
 -- Count: 10, 11, 6; the loop's count in the key
 abbrev pub countFault : Desk → ℕ → ℕ

@@ -55,12 +55,13 @@ pub struct Answer {
     pub value: usize,
 }
 
-// The number and the line of a refusal, 0 and 0 for none, and a set of gaps or of DOs.
+// The number and the line of a refusal, 0 and 0 for none, and a set: of gaps by the textbook method, of loops by their
+// DOs for the missing runs.
 #[repr(C)]
 pub struct Chosen {
     pub number: u8,
     pub line: usize,
-    pub gaps: Placement,
+    pub set: Placement,
 }
 
 // The number and the line of a refusal.
@@ -318,6 +319,6 @@ pub fn not_chosen(number: u8) -> Chosen
     Chosen {
         number: number,
         line: 0,
-        gaps: Placement::empty(),
+        set: Placement::empty(),
     }
 }

@@ -16,7 +16,7 @@ ghost use Rattle.paper_placements.specs.Words.{GAPS, holds, gapsIn, Lowe
 ghost use Rattle.paper_placements.specs.Answers.{cutOf, isCut, CutSays, CutInSays, foundOf, IsMask};
 ghost use Rattle.paper_placements.specs.Answers.{LoopCountSays, CompareSays};
 
-// A set of gaps: gap g is bit g mod 64 of word g / 64.
+// A set of gaps, or of loops by their DOs: gap g, or the loop of DO g, is bit g mod 64 of word g / 64.
 #[repr(C)]
 pub struct Placement {
     pub words: [u64; 4],

@@ -10,7 +10,11 @@ empty-requires c κs = search needs
 
 returns : tie.Need-returns
 returns c =
-    record { number-is = refl; line-is = refl; gaps-are = gaps-none (c .empty .result .words) (λ i l. c .empty .ensures i) }
+    record {
+      number-is = refl;
+      line-is = refl;
+      set-is = gaps-none (c .empty .result .words) (λ i l. c .empty .ensures i);
+    }
 
 pub not-chosen-spec : {M : Type 1} → statement M
 not-chosen-spec = tie.close (tie.spec empty-requires returns)
