@@ -12,7 +12,8 @@ ghost use Rattle.paper_nests.specs.Valid.{isShape};
 ghost use Rattle.paper_nests.specs.Stored.{nestIn};
 ghost use Rattle.paper_placements.specs.Words.{GAPS, holds};
 ghost use Rattle.desk_sitting.specs.Around.{AreAround, GapSays};
-ghost use Rattle.desk_sitting.specs.Kept.{Ready, EmptySays, PutSays, LiftSays};
+ghost use Rattle.desk_sitting.specs.Kept.{barriers, Ready, EmptySays, PutSays, LiftSays};
+ghost use Rattle.desk_sitting.specs.Recounts.{afterMove, CountsAre};
 
 // The placement; for each dependence how many of its barriers cut it; how many dependences none cuts. A dependence has
 // at most the gaps 1 to 255, so that its count fits a byte.
@@ -42,30 +43,10 @@ pub fn put(nest: Nest, s: Sitting, g: usize) -> Sitting
     requires { ⌜ holds (s .placement .words) g ≡ false ⌝ }
     ensures { λ r. ⌜ PutSays (nestIn nest) g s r ⌝ }
 {
-    let count = nest.count;
-    let points = nest.points;
-    let around = loops_around(&points[..count], g);
-    let mut counts = s.counts;
-    let mut uncut = s.uncut;
-    let mut i = nest.many;
-    while 0 < i {
-        i -= 1;
-        let e = nest.deps[i];
-        let d = e.d as usize;
-        if has_gap(e, g, around[d]) {
-            let c = counts[i];
-            counts[i] = c + 1;
-            if c == 0 {
-                uncut -= 1;
-            }
-        }
-    }
+    let mut r = recounted(nest, s, g, true);
     let p = s.placement;
-    Sitting {
-        placement: p.put(g),
-        counts: counts,
-        uncut: uncut,
-    }
+    r.placement = p.put(g);
+    r
 }
 
 // The sitting without the barrier at gap g.
@@ -73,6 +54,18 @@ pub fn lift(nest: Nest, s: Sitting, g: usize) -> Sitting
     requires { ⌜ Ready nest s g ⌝ }
     requires { ⌜ holds (s .placement .words) g ≡ true ⌝ }
     ensures { λ r. ⌜ LiftSays (nestIn nest) g s r ⌝ }
+{
+    let mut r = recounted(nest, s, g, false);
+    let p = s.placement;
+    r.placement = lifted(p, g);
+    r
+}
+
+// The sitting with the counts of one more barrier, at gap g, or of one less; its placement is still the old one.
+fn recounted(nest: Nest, s: Sitting, g: usize, put: bool) -> Sitting
+    requires { ⌜ Ready nest s g ⌝ }
+    requires { ⌜ holds (s .placement .words) g ≡ not put ⌝ }
+    ensures { λ r. ⌜ CountsAre (nestIn nest) (afterMove put g (barriers s)) r ⌝ }
 {
     let count = nest.count;
     let points = nest.points;
@@ -86,15 +79,22 @@ pub fn lift(nest: Nest, s: Sitting, g: usize) -> Sitting
         let d = e.d as usize;
         if has_gap(e, g, around[d]) {
             let c = counts[i];
-            counts[i] = c - 1;
-            if c == 1 {
-                uncut += 1;
+            if put {
+                counts[i] = c + 1;
+                if c == 0 {
+                    uncut -= 1;
+                }
+            } else {
+                counts[i] = c - 1;
+                if c == 1 {
+                    uncut += 1;
+                }
             }
         }
     }
     let p = s.placement;
     Sitting {
-        placement: lifted(p, g),
+        placement: p,
         counts: counts,
         uncut: uncut,
     }

@@ -1,197 +1,23 @@
--- `put` meets its contract. The invariant: from dependence i on the counts are those after the move, before i those
--- before it (`Moving`). A dependence that has the gap rises by one (`rise-first`, `rise-more`), the others stay
--- (`move-past`). The measure is i.
-use mathlib.Core.Path.{_≡_, sym, _∙_}
-use mathlib.Core.Bool.{Bool, true, false}
-use Prim.Native.Nat.{_+_, _-_, _<_}
-use native.Mathlib.Omega.{arith}
+-- `put` meets its contract: the counts are those of `recounted`, the placement has a gap more (`put-says`).
 use borrow.Author.Needs.{needs}
-use Rattle.laws.specs.Bits.{one}
-use Rattle.paper_nests.specs.Kinds.{DEPENDENCES}
-use Rattle.paper_nests.specs.Nests.{Dep}
-use Rattle.paper_nests.specs.Gaps.{hasGap}
-use Rattle.paper_nests.specs.Stored.{depIn, nestIn}
-use Rattle.paper_nests.proofs.Deps.{valid-is}
-use Rattle.paper_nests.proofs.Stored.{counted-points}
-use Rattle.paper_placements.specs.GapLists.{withGap}
-use Rattle.desk_sitting.specs.Counts.{cutCount}
-use Rattle.desk_sitting.specs.Kept.{barriers}
-use Rattle.desk_sitting.proofs.Counts.{count-with}
-use Rattle.desk_sitting.proofs.Moving.{Moving, Turn, move-start, move-past, move-done}
-use Rattle.desk_sitting.proofs.Moving.{rise-fits, rise-uncut, rise-first, rise-more}
-use Rattle.desk_sitting.proofs.Turns.{depAt, turn-of, turn-inside, gap-told}
-use Rattle.desk_sitting.proofs.Outcome.{below, put-short, put-says}
+use Rattle.desk_sitting.proofs.Outcome.{put-says}
 use Rattle.desk_sitting.proofs.put.Statement.{statement}
 use Rattle.desk_sitting.proofs.put.Tie as tie
 
-abbrev Inv-loop : tie.InvT-loop
-Inv-loop s g nest count around counts₀ uncut₀ i₀ counts uncut i =
-    Moving (nestIn nest) (barriers s) (withGap g (barriers s)) i counts uncut
+recounted-requires : tie.Need-recounted-requires
+recounted-requires c κs = (c .pre .0, c .pre .1)
 
-abbrev μ-loop : tie.MeasureT-loop
-μ-loop s g nest count around counts₀ uncut₀ i₀ counts uncut i = i
+put-requires : tie.Need-put-requires
+put-requires c κs = search needs
 
-array-share-prefix-points : tie.Need-array-share-prefix-points Inv-loop μ-loop
-array-share-prefix-points c = counted-points (c .before .args .t1) (c .before .pre .0 .counted)
-
-slice-aggregate-loops-around : tie.Need-slice-aggregate-loops-around Inv-loop μ-loop
-slice-aggregate-loops-around c = c .before .before .pre .0 .counted .count-is
-
-loops-around-requires : tie.Need-loops-around-requires Inv-loop μ-loop
-loops-around-requires c κs =
-    let p = c .before .before .pre .0 in
-    let v = valid-is (nestIn (c .before .before .args .t1)) (p .valid) in
-    ((v .shape, v .few-points), (p .first, omega (arith, p .inside, p .counted .count-is)))
-
-loop-holds : tie.Need-loop-holds Inv-loop μ-loop
-loop-holds c =
-    let a = c .before .before .before .before .args in
-    let p = c .before .before .before .before .pre .0 in
-    move-start (nestIn (a .t1)) (barriers (a .s)) (withGap (a .g) (barriers (a .s))) (a .t1 .many) (a .s .counts)
-    (a .s .uncut) (p .counted .many-is) (search needs) (p .kept .counts-are) (p .kept .uncut-is)
-
-sub-i : tie.Need-sub-i Inv-loop μ-loop
-sub-i c = omega arith
-
--- a turn's place lies in the table
-inside : (c : tie.In-loop Inv-loop μ-loop) → c .before .loop .i - 1 < DEPENDENCES
-inside c =
-    let b = c .before in
-    turn-inside (b .before .before .before .before .before .pre .0) (c .loop-test .taken) (b .loop .inv)
-
-mul-e : tie.Need-mul-e Inv-loop μ-loop
-mul-e c = omega (arith, inside c)
-
-element-copy-out-e : tie.Need-element-copy-out-e Inv-loop μ-loop
-element-copy-out-e c = inside c
-
-cast-d : tie.Need-cast-d Inv-loop μ-loop
-cast-d c = search needs
-
-array-read-has-gap : tie.Need-array-read-has-gap Inv-loop μ-loop
-array-read-has-gap c = search needs
-
-has-gap-requires : tie.Need-has-gap-requires Inv-loop μ-loop
-has-gap-requires c κs = tt
-
--- the dependence of a turn, and what the test says of it
-abbrev tried : (c : tie.After-has-gap Inv-loop μ-loop) → Dep
-tried c =
-    let b4 = c .before .before .before .before in
-    depIn (depAt (b4 .before .before .before .before .before .args .t1) (b4 .loop .i - 1))
-
-turn
-    : (c : tie.After-has-gap Inv-loop μ-loop)
-    → let l = c .before .before .before .before .loop in
-    let a = c .before .before .before .before .before .before .before .before .before .args in
-    Turn (nestIn (a .t1)) (barriers (a .s)) (withGap (a .g) (barriers (a .s))) (l .i) (l .counts) (l .uncut) (tried c)
-turn c =
-    let b3 = c .before .before .before in
-    let b4 = b3 .before in
-    turn-of (b4 .before .before .before .before .before .pre .0) (b3 .loop-test .taken) (b4 .loop .inv)
-
-told
-    : (c : tie.After-has-gap Inv-loop μ-loop)
-    → let a = c .before .before .before .before .before .before .before .before .before .args in
-    c .has-gap .result ≡ hasGap (nestIn (a .t1) .points) (tried c) (a .g)
-told c =
-    let b3 = c .before .before .before in
-    let b4 = b3 .before in
-    let b6 = b4 .before .before in
-    let r = b6 .loops-around in
-    gap-told (b6 .before .before .before .pre .0) (b3 .loop-test .taken) (b4 .loop .inv) (r .result)
-    (c .has-gap .result) (r .ensures) (c .has-gap .ensures)
-
--- its count after the move
-counted
-    : (c : tie.After-has-gap Inv-loop μ-loop) (b : Bool)
-    → c .has-gap .result ≡ b
-    → let a = c .before .before .before .before .before .before .before .before .before .args in
-    let ps = nestIn (a .t1) .points in
-    cutCount ps (tried c) (withGap (a .g) (barriers (a .s))) ≡ cutCount ps (tried c) (barriers (a .s)) + one b
-counted c b z =
-    let a = c .before .before .before .before .before .before .before .before .before .args in
-    let ps = nestIn (a .t1) .points in
-    let y : hasGap ps (tried c) (a .g) ≡ b = sym (told c) ∙ z in
-    count-with ps (tried c) (a .g) (barriers (a .s)) ∙ rw y
-
-array-read-c : tie.Need-array-read-c Inv-loop μ-loop
-array-read-c c = inside (c .before .before .before .before)
-
-add-counts : tie.Need-add-counts Inv-loop μ-loop
-add-counts c =
-    let p = c .before .before .before .before .before .before .before .before .before .before .pre in
-    omega (arith, rise-fits (turn (c .before)) (counted (c .before) true (c .if1 .taken)) (put-short (p .0) (p .1)))
-
-array-write-counts : tie.Need-array-write-counts Inv-loop μ-loop
-array-write-counts c = inside (c .before .before .before .before)
-
-sub-uncut : tie.Need-sub-uncut Inv-loop μ-loop
-sub-uncut c =
-    let b2 = c .before .before in
-    rise-uncut (turn b2) (counted b2 true (c .before .if1 .taken)) (c .if2 .taken)
-
-loop-less : tie.Need-loop-less Inv-loop μ-loop
-loop-less c = omega arith
-
-loop-again : tie.Need-loop-again Inv-loop μ-loop
-loop-again c =
-    let b2 = c .before .before in
-    rise-first (turn b2) (counted b2 true (c .before .if1 .taken)) (c .if2 .taken)
-
-loop-less-2 : tie.Need-loop-less-2 Inv-loop μ-loop
-loop-less-2 c = omega arith
-
-loop-again-2 : tie.Need-loop-again-2 Inv-loop μ-loop
-loop-again-2 c =
-    let b2 = c .before .before in
-    rise-more (turn b2) (counted b2 true (c .before .if1 .taken)) (c .if2 .left)
-
-loop-less-3 : tie.Need-loop-less-3 Inv-loop μ-loop
-loop-less-3 c = omega arith
-
-loop-again-3 : tie.Need-loop-again-3 Inv-loop μ-loop
-loop-again-3 c = move-past (turn (c .before)) (omega (arith, counted (c .before) false (c .if1 .left)))
-
-put-requires : tie.Need-put-requires Inv-loop μ-loop
-put-requires c κs = below (c .before .before .before .before .before .before .before .pre .0)
-
-returns : tie.Need-returns Inv-loop μ-loop
+returns : tie.Need-returns
 returns c =
-    let l = c .before .before .before .loop in
-    let b8 = c .before .before .before .before .before .before .before .before in
-    let a = b8 .args in
-    put-says (b8 .pre .0) (b8 .pre .1)
-    (record { placement = c .put .result; counts = l .counts; uncut = l .uncut })
+    let p = c .before .before .before .pre in
+    let f = c .before .before .recounted in
+    put-says (p .0) (p .1)
+    (record { placement = c .put .result; counts = f .result .counts; uncut = f .result .uncut })
     (c .put .ensures)
-    (move-done (nestIn (a .t1)) (barriers (a .s)) (withGap (a .g) (barriers (a .s))) (l .i) (l .counts) (l .uncut)
-    (c .before .before .loop-test .left) (l .inv))
+    (record { counts-are = f .ensures .counts-are; uncut-is = f .ensures .uncut-is })
 
 pub put-spec : {M : Type 1} → statement M
-put-spec =
-    tie.close
-    (tie.spec
-    Inv-loop
-    μ-loop
-    array-share-prefix-points
-    slice-aggregate-loops-around
-    loops-around-requires
-    loop-holds
-    sub-i
-    mul-e
-    element-copy-out-e
-    cast-d
-    array-read-has-gap
-    has-gap-requires
-    array-read-c
-    add-counts
-    array-write-counts
-    sub-uncut
-    loop-less
-    loop-again
-    loop-less-2
-    loop-again-2
-    loop-less-3
-    loop-again-3
-    put-requires
-    returns)
+put-spec = tie.close (tie.spec recounted-requires put-requires returns)
