@@ -165,8 +165,8 @@ module _
     points : Points ps
     points = w .tall .points
 
-    one-skip : (getD ps i 0 ≡ 1 → ⊥) → Limiting ps ds heights (i + 1) limit
-    one-skip k =
+    limiting-skip : (getD ps i 0 ≡ 1 → ⊥) → Limiting ps ds heights (i + 1) limit
+    limiting-skip k =
         record {
           done = λ d q h l. p .done d q h (before d h l);
           todo = λ d q h l. p .todo d q h (omega arith);
@@ -178,10 +178,10 @@ module _
             (λ (z : d ≡ i → ⊥). omega arith)
             (eq-or d i)
 
-    one-on :
+    limiting-on :
         AllFit ps ds → getD ps i 0 ≡ 1 → {limit′ : List ℕ} →
         Narrowed limit (at heights i * ROW) i (at ends i) limit′ → Limiting ps ds heights (i + 1) limit′
-    one-on fit k {limit′} n = record { done = done; todo = todo }
+    limiting-on fit k {limit′} n = record { done = done; todo = todo }
       where
         is-do : isDo ps i ≡ true
         is-do = eq-eqb (getD ps i 0) 1 k
@@ -232,12 +232,12 @@ module _
     (s : LimitingAll ps heights limit₀ i limit)
   where
     pub limits-skip : (getD ps i 0 ≡ 1 → ⊥) → LimitingAll ps heights limit₀ (i + 1) limit
-    limits-skip k = record { same = s .same; each = λ ds f r. one-skip w (s .each ds f r) k }
+    limits-skip k = record { same = s .same; each = λ ds f r. limiting-skip w (s .each ds f r) k }
 
     pub limits-on :
         {limit′ : List ℕ} → getD ps i 0 ≡ 1 → length limit′ ≡ length limit →
         Narrowed limit (at heights i * ROW) i (at ends i) limit′ → LimitingAll ps heights limit₀ (i + 1) limit′
-    limits-on k l n = record { same = l ∙ s .same; each = λ ds f r. one-on w (s .each ds f r) f k n }
+    limits-on k l n = record { same = l ∙ s .same; each = λ ds f r. limiting-on w (s .each ds f r) f k n }
 
     pub limits-done : length ps ≤ i → Limited ps heights limit₀ limit
     limits-done l ds f r d q h =

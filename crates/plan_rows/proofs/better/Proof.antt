@@ -17,11 +17,8 @@ returns-2 c =
 
 returns-3 : tie.Need-returns-3
 returns-3 c =
-    let b1 = c .before in
-    let b2 = b1 .before in
-    let b3 = b2 .before in
-    let i = b3 .args in
-    better-higher (i .f) (i .at) (i .m) (i .q) (i .c) (i .here) (b2 .if1 .taken) (b1 .if2 .left)
+    let i = c .before .before .before .args in
+    better-higher (i .f) (i .at) (i .m) (i .q) (i .c) (i .here) (c .before .before .if1 .taken) (c .before .if2 .left)
     (omega (arith, c .if3 .left))
 
 returns-4 : tie.Need-returns-4

@@ -26,12 +26,10 @@ returns c =
 
 returns-2 : tie.Need-returns-2
 returns-2 c =
-    let b3 = c .before .before .before in
-    let i = b3 .args in
+    let i = c .before .before .before .args in
     let left = row (i .left .now) (i .kids) in (
       sym (cost-outer left 0 (i .p) (i .x) (λ h. omega arith)),
-      sym
-          (or-outer left 0 (i .p) (i .x) (i .outer) (λ h. omega arith)),
+      sym (or-outer left 0 (i .p) (i .x) (i .outer) (λ h. omega arith)),
     )
 
 returns-3 : tie.Need-returns-3
