@@ -23,10 +23,12 @@ SCRIPTS, PROGRAMS, QUICK = 25, 60, 10
 
 @dataclass(frozen=True)
 class Part:
-    """A part of the test: what it is, its command, and whether it wants the program, the archive and the judge."""
+    """A part of the test: what it is, its command, whether it wants the program, the archive and the judge, and whether
+    it counts by a closing line; one that does not goes by its status."""
     about: str
     command: list[str]
     built: bool = True
+    counts: bool = True
 
 
 def module(about: str, name: str, built: bool = True) -> Part:
@@ -36,7 +38,7 @@ def module(about: str, name: str, built: bool = True) -> Part:
 def parts(scripts: int = SCRIPTS, programs: int = PROGRAMS) -> dict[str, Part]:
     judge = str(JUDGE)
     return {
-        'layout': Part('rt fmt has nothing to change', ['rt', 'fmt', '--check'], False),
+        'layout': Part('rt fmt has nothing to change', ['rt', 'fmt', '--check'], False, False),
         'proofs': Part('proofs, edits that must be refused, programs, from nothing', ['rt', 'ci'], False),
         'no_division': module('no division in the planner and in the ring of moves', 'checks.no_division', False),
         'edges': module('crates.txt lists what a crate uses', 'checks.edges', False),
@@ -59,8 +61,8 @@ def parts(scripts: int = SCRIPTS, programs: int = PROGRAMS) -> dict[str, Part]:
 
 
 def counted(name: str, part: Part) -> tuple[int, int]:
-    """Runs a part and shows what it prints. How much passed and failed is told by its last closing line, or by its
-    status where it has none."""
+    """Runs a part and shows what it prints; how much passed and failed. A part that should count and has no closing line
+    has failed, whatever its status."""
     print(f'== {name}: {part.about}', flush=True)
     closing = None
     with subprocess.Popen(part.command, cwd=ROOT, stdout=subprocess.PIPE, stderr=subprocess.STDOUT, text=True,
@@ -69,8 +71,10 @@ def counted(name: str, part: Part) -> tuple[int, int]:
             print(line, end='', flush=True)
             closing = CLOSING.match(line) or closing
     well = ran.returncode == 0
-    if closing is None:
+    if not part.counts:
         return int(well), int(not well)
+    if closing is None:
+        return 0, 1
     passed, failed = int(closing[1]), int(closing[2])
     return passed, failed if well else max(failed, 1)
 
@@ -105,7 +109,7 @@ def tried(chosen: dict[str, Part]) -> bool:
 def quick() -> dict[str, Part]:
     """What a change is tried by before it is tried whole: nothing from nothing, and no edit that must be refused."""
     some = parts(QUICK, QUICK)
-    proofs = Part('every proof that is not up to date, programs', ['rt', 'check'], False)
+    proofs = Part('every proof that is not up to date, programs', ['rt', 'check'], False, False)
     return {'layout': some['layout'], 'proofs': proofs} | {
         name: some[name] for name in ('imports', 'types', 'reading', 'scripts', 'judge', 'documents')}
 
