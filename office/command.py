@@ -3,6 +3,7 @@ import argparse
 import contextlib
 import os
 import pathlib
+import select
 import signal
 import sys
 from collections.abc import Callable
@@ -46,6 +47,14 @@ def tell(name: str, message: str) -> None:
     """Says something on standard error, a sentence a line."""
     for sentence in message.splitlines():
         print(f'{name}: {sentence}', file=sys.stderr)
+
+
+def mention(message: str) -> None:
+    """Says something on standard error while others wait for an answer: if it is not taken at once, it is not said."""
+    lines = ''.join(f'desk: {sentence}\n' for sentence in message.splitlines()).encode('utf-8', 'replace')
+    with contextlib.suppress(OSError):
+        if select.select([], [2], [], 0)[1]:
+            os.write(2, lines[:select.PIPE_BUF])
 
 
 def write_out(data: bytes) -> None:

@@ -31,6 +31,11 @@ class Connection(asyncio.Protocol):
             raise LookupError('no request is under way')
         return self.under_way
 
+    @property
+    def machine(self) -> str:
+        """The address of the machine at the other end."""
+        return str((self.transport.get_extra_info('peername') or '-')[0])
+
     def connection_made(self, transport: asyncio.BaseTransport) -> None:
         assert isinstance(transport, asyncio.Transport)  # as every one over a socket is
         self.transport = transport

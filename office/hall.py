@@ -1,174 +1,235 @@
-"""A hall: a desk for each candidate, every move made by the library and kept in the log, answers handed in as files.
+"""A hall: what candidates do is made by the library and kept in the log, and answers are handed in.
 
 What candidates ask for in one moment is made at once and kept together. What is not kept is not made: as desks are
-values, that of before is put back. No desk here is ever planned: there is no key in the process that candidates talk
-to.
+values, that of before is put back. The log is the sitting; the files of answers are written from it, afterwards.
 """
-import contextlib
-import ctypes
-import hashlib
+import enum
 import os
+import pathlib
 import re
-from dataclasses import dataclass
+from typing import Self
 
-from office.candidates import tickets_for
-from office.command import Fault, printable, tell, write_over
-from office.library import Desk
-from office.logbook import Logbook
-from office.paper import placed
+from office import oldlog
+from office.candidates import Candidate, Tickets, folded, identity_of
+from office.candidates import hash_of as ticket_hash
+from office.chain import OFFICE, Event
+from office.command import Fault, mention, printable, read_in, take_away, write_over
+from office.logbook import LOG, Logbook, NotKnown
 from office.refusal import Refused
-from office.words import ranges
+from office.sittings import ENTER, HAND_IN, LEAVE, Sitting, Sittings, State, hash_of, made, told_gaps
 
-LOG, TICKETS = 'sitting.log', 'tickets.csv'
-MOVE = re.compile('(put|lift) (0|[1-9][0-9]{0,2})|take back')
-HAND_IN = 'hand in'
+TICKETS, ANSWER = 'tickets.csv', '.hex'
+MACHINE = re.compile('[!-~]{1,64}')
 OVER = 'You have handed in. Nothing can be changed any more.'
+CLOSED = 'The sitting is closed. Nothing can be changed any more.'
 MOVED_ON = 'Not handed in: the sitting was changed in another window. Look at it as it is now, and hand in again.'
-NOT_KEPT = 'This was not done: it could not be kept. Tell the person in charge.'
-NO_FILE = 'Handed in and kept. The file of the answer could not be written: tell the person in charge.'
+
+
+class Kept(enum.Enum):
+    """Whether the disk has what candidates asked for, and what is said to them if not."""
+    DONE = ''
+    NOT_DONE = 'This was not done: it could not be kept. Tell the person in charge.'
+    NOT_KNOWN = 'It is not known whether this was kept. Tell the person in charge.'
+
+    @property
+    def words(self) -> str:
+        return self.value
 
 
 class Declined(Exception):
     """What a candidate asked for is not done; why, in words."""
 
 
-def told_gaps(gaps: list[int]) -> str:
-    if not gaps:
-        return 'no barrier'
-    return f'{"a barrier in gap" if len(gaps) == 1 else "barriers in gaps"} {ranges(gaps)}'
+class Hall:
+    """The sittings over one paper, one log and one folder of answers. It is read and looked over when it is made, and
+    writes nothing before it is opened."""
 
+    def __init__(self, text: bytes, candidates: list[Candidate], answers: str):
+        self.answers, self.paper = answers, hash_of(text)
+        self.unkept: list[tuple[Sitting, State]] = []
+        self.unwritten: list[Sitting] = []
+        self.stale: list[str] = []
+        self.told: set[str] = set()
+        self.broken = False
+        self.room = Sittings(self.paper)
+        self.log = Logbook(answers)
+        try:
+            self.read(text, candidates)
+            self.tickets = Tickets(os.path.join(answers, TICKETS), candidates)
+            self.seat(candidates)
+            self.new_tickets = self.tickets_given()
+            self.look_at_answers()
+        except BaseException:
+            self.log.close()
+            raise
 
-def made(desk: Desk, move: str) -> str:
-    """Makes a move and says so in words. One that means nothing is a ValueError."""
-    asked = MOVE.fullmatch(move)
-    if not asked:
-        raise ValueError(move)
-    if asked[1] == 'put':
-        desk.put(int(asked[2]))
-        return f'A barrier stands in gap {asked[2]}.'
-    if asked[1] == 'lift':
-        desk.lift(int(asked[2]))
-        return f'The barrier in gap {asked[2]} is lifted.'
-    desk.take_back()
-    return 'The latest move is taken back.'
+    def __enter__(self) -> Self:
+        return self
 
-
-State = tuple[ctypes.Structure, int, bool]
-
-
-@dataclass
-class Sitting:
-    """A candidate's desk, how many moves were made on it, and whether it is handed in."""
-    candidate: str
-    desk: Desk
-    moves: int = 0
-    handed_in: bool = False
+    def __exit__(self, *_: object) -> None:
+        self.close()
 
     @property
-    def state(self) -> State:
-        return self.desk.held, self.moves, self.handed_in
+    def sittings(self) -> dict[str, Sitting]:
+        return self.room.by_identity
 
-    def go_back(self, to: State) -> None:
-        self.desk.held, self.moves, self.handed_in = to
+    @property
+    def handed_in(self) -> int:
+        return sum(sitting.handed_in for sitting in self.sittings.values())
 
-    def told(self, said: str) -> dict[str, object]:
-        """The whole sitting, as the desk has it, and words for what was asked. The cuts are two digits a dependence."""
-        now, cuts = placed(self.desk, self.desk.sitting()), self.desk.cuts
-        state = f'Barriers: {len(now.gaps)}. Dependences uncut: {self.desk.uncut} of {len(cuts)}.'
-        return {'gaps': now.gaps, 'cuts': cuts.hex(), 'counts': [*now.counts.items()], 'moves': self.moves,
-                'handed_in': self.handed_in, 'state': state, 'said': said,
-                'question': f'Hand in {told_gaps(now.gaps)}? {state} Nothing can be changed afterwards.'}
+    def sitting_with(self, ticket: str) -> Sitting | None:
+        """The sitting that a ticket opens. It is looked up by a hash, so that the time it takes tells nothing."""
+        return self.room.by_ticket.get(ticket_hash(ticket))
 
+    # ---- A start
 
-class Hall:
-    """The sittings by candidate, with their tickets, over one paper, one log and one folder of answers."""
+    def read(self, text: bytes, candidates: list[Candidate]) -> None:
+        """Makes all of a time before once more, or begins with nothing."""
+        if self.log.is_there() and not oldlog.is_old(self.log.file):
+            for event in self.log.events(self.paper):
+                self.replay(event, event.seq + 1)
+            return
+        self.log.top(self.paper)
+        self.note(f'paper {" ".join(text.decode("ascii").split())}'.rstrip())
+        if self.log.is_there():
+            self.migrate(candidates)
+        else:
+            left = [file for file in os.listdir(self.answers) if file == TICKETS or file.endswith(ANSWER)]
+            if left:
+                raise Fault(f'{printable(self.answers)} has {printable(min(left))} and no {LOG}: put the log back, or '
+                            'give another folder for a new sitting')
 
-    def __init__(self, text: bytes, names: list[str], answers: str):
+    def replay(self, event: Event, line: int) -> None:
         try:
-            os.makedirs(answers, exist_ok=True)
-        except OSError as fault:
-            raise Fault(f'cannot write in {printable(answers)}: {fault.strerror}') from fault
-        self.answers = answers
-        self.unkept: list[tuple[Sitting, State]] = []
-        self.sittings = {name: Sitting(name, self.desk_with(text)) for name in names}
-        self.log = Logbook(os.path.join(answers, LOG), hashlib.sha256(text).hexdigest())
-        for number, candidate, move in self.log.moves():
-            self.replay(number, candidate, move)
-        self.settle()
-        self.tickets = {ticket: self.sittings[name] for name, ticket in
-                        tickets_for(names, os.path.join(answers, TICKETS)).items()}
+            self.room.make(event)
+        except (LookupError, ValueError, Refused) as fault:
+            raise Fault(f'{printable(self.log.file)}: line {line} is no act that can be made: {printable(event.act)}; '
+                        'put back a copy of the log that is whole, or start with the desk that wrote it') from fault
 
-    @staticmethod
-    def desk_with(text: bytes) -> Desk:
-        desk = Desk()
-        desk.load(text)
-        return desk
+    def migrate(self, candidates: list[Candidate]) -> None:
+        """Takes a log of the older form down anew."""
+        self.seat(candidates)
+        for number, at, name, act in oldlog.lines_of(self.log.file, self.paper):
+            who = identity_of(name, candidates)
+            if who not in self.sittings:
+                raise Fault(f'{printable(self.log.file)}: line {number} is of {printable(name)}, who is not among the '
+                            'candidates: add the name, with an id')
+            if act == HAND_IN:
+                act = f'{HAND_IN} {hash_of(self.sittings[who].desk.sitting())}'
+            self.replay(self.log.add(who, OFFICE, act, at), number)
 
-    def replay(self, number: int, candidate: str, move: str) -> None:
-        """Makes a move of the log once more."""
-        sitting = self.sittings.get(candidate)
-        if sitting is None:
-            raise Fault(f'{printable(self.log.file)}: line {number} is of {printable(candidate)}, who is not among '
-                        'the candidates: add the name')
-        try:
-            if sitting.handed_in:
-                raise self.log.damaged(number)
-            if move == HAND_IN:
-                sitting.handed_in = True
-            else:
-                made(sitting.desk, move)
-                sitting.moves += 1
-        except (Refused, ValueError) as fault:
-            raise self.log.damaged(number) from fault
+    def note(self, act: str) -> None:
+        """Takes down what the desk itself does."""
+        self.room.make(self.log.add(OFFICE, OFFICE, act))
 
-    def settle(self) -> None:
-        """Of what was handed in and of nothing else there is a file."""
+    def seat(self, candidates: list[Candidate]) -> None:
+        """Takes down who is new on the list, or has another name there."""
+        known = {folded(identity): sitting for identity, sitting in self.sittings.items()}
+        for candidate in candidates:
+            sitting = known.get(folded(candidate.identity))
+            if sitting is None or (sitting.name, sitting.minutes) != (candidate.name, candidate.minutes):
+                identity = sitting.candidate if sitting else candidate.identity
+                self.note(f'candidate {identity} {candidate.minutes or OFFICE} {OFFICE} {candidate.name}')
+
+    def tickets_given(self) -> dict[str, str]:
+        """The tickets that candidates get now."""
+        given = {}
         for sitting in self.sittings.values():
-            file = self.file_of(sitting)
-            try:
-                with open(file, 'rb') as opened:
-                    there = opened.read()
-            except FileNotFoundError:
-                if sitting.handed_in:
-                    write_over(file, sitting.desk.sitting(), lasting=True)
-            except OSError as fault:
-                raise Fault(f'cannot read {printable(file)}: {fault.strerror}') from fault
-            else:
-                if not sitting.handed_in or there != sitting.desk.sitting():
-                    raise Fault(f'{printable(file)} is there, and {sitting.candidate} did not hand it in: move it away')
+            who = sitting.candidate
+            ticket = self.tickets.given(who, sitting.name, sitting.ticket)
+            if ticket and ticket_hash(ticket) in self.room.by_ticket:
+                raise Fault(f'{printable(self.tickets.file)}: {who} has the ticket of another candidate: clear it, and '
+                            f'{who} gets a new one')
+            if ticket:
+                given[who] = ticket
+        return given
 
-    def file_of(self, sitting: Sitting) -> str:
-        return os.path.join(self.answers, f'{sitting.candidate}.hex')
+    def look_at_answers(self) -> None:
+        """Of what was handed in and of nothing else there may be a file. What is missing is to be written, and what was
+        handed in before a sitting was reopened goes."""
+        files = {folded(file.stem): str(file) for file in pathlib.Path(self.answers).glob(f'*{ANSWER}')}
+        for sitting in self.sittings.values():
+            who = sitting.candidate
+            file = files.pop(folded(who), None)
+            there = hash_of(read_in(file)) if file else ''
+            if file and there not in sitting.given:
+                raise Fault(f'{printable(file)} is there, and {who} did not hand it in: move it away')
+            if sitting.handed_in and there != hash_of(sitting.desk.sitting()):
+                self.unwritten.append(sitting)
+            if file and not sitting.handed_in:
+                self.stale.append(file)
+        for file in files.values():
+            raise Fault(f'{printable(file)} is there, and no candidate has this id: move it away')
 
-    def move(self, sitting: Sitting, move: str) -> str:
+    def open(self) -> None:
+        """Begins: writes what a start has to write. One that fails leaves nothing behind."""
+        try:
+            self.log.begin()
+            self.tickets.write()
+            for identity, ticket in self.new_tickets.items():
+                self.note(f'ticket {identity} {ticket_hash(ticket)}')
+            self.note('opened')
+            self.log.keep()
+            for file in self.stale:
+                take_away(file)
+        except (OSError, Fault) as fault:
+            self.tickets.give_up()
+            self.log.give_up()
+            raise self.log.unable(fault) if isinstance(fault, OSError) else fault
+        if self.log.old:
+            mention(f'{printable(self.log.file)} was of an older form: it is taken down anew, and the old one kept as '
+                    f'{printable(self.log.old)}')
+        self.write_files()
+
+    def close(self) -> None:
+        """Ends, with the log in its place and the files of answers written."""
+        if self.log.begun:
+            self.write_files()
+        self.log.close()
+
+    # ---- What candidates do
+
+    def enter(self, sitting: Sitting, machine: str) -> None:
+        sitting.make(self.take_down(sitting, ENTER, machine))
+
+    def leave(self, sitting: Sitting, machine: str) -> None:
+        sitting.make(self.take_down(sitting, LEAVE, machine))
+
+    def move(self, sitting: Sitting, move: str, machine: str) -> str:
         """Makes a move, to be kept, and says what was done."""
+        self.must_be_open(sitting)
         before = sitting.state
-        if sitting.handed_in:
-            raise Declined(OVER)
         try:
             said = made(sitting.desk, move)
         except Refused as refused:
             raise Declined(f'Refused, {refused.refusal.rule}.') from refused
         sitting.moves += 1
-        self.take_down(sitting, before, move)
+        self.take_down(sitting, move, machine, before)
         return said
 
-    def hand_in(self, sitting: Sitting, moves: int) -> None:
-        """Hands in the sitting that the candidate saw, after so many moves. When it is kept, its file is to be
-        written, at the next start at the latest."""
-        before = sitting.state
+    def hand_in(self, sitting: Sitting, moves: int, gaps: list[int], machine: str) -> str:
+        """Hands in the sitting that the candidate saw, after so many moves and with these gaps, and says what was
+        done."""
+        self.must_be_open(sitting)
+        if (moves, gaps) != (sitting.moves, sitting.gaps):
+            raise Declined(MOVED_ON)
+        sitting.make(self.take_down(sitting, f'{HAND_IN} {hash_of(sitting.desk.sitting())}', machine))
+        return f'Handed in: {told_gaps(gaps)}.'
+
+    def must_be_open(self, sitting: Sitting) -> None:
         if sitting.handed_in:
             raise Declined(OVER)
-        if moves != sitting.moves:
-            raise Declined(MOVED_ON)
-        sitting.handed_in = True
-        self.take_down(sitting, before, HAND_IN)
+        if self.room.closed:
+            raise Declined(CLOSED)
 
-    def take_down(self, sitting: Sitting, before: State, move: str) -> None:
-        self.unkept.append((sitting, before))
-        self.log.add(sitting.candidate, move)
+    def take_down(self, sitting: Sitting, act: str, machine: str, before: State | None = None) -> Event:
+        """Takes an act down, to be kept; the state before it comes back if it cannot be."""
+        self.unkept.append((sitting, before or sitting.state))
+        return self.log.add(sitting.candidate, machine if MACHINE.fullmatch(machine) else OFFICE, act)
 
-    def keep(self) -> bool:
+    # ---- What is kept
+
+    def keep(self) -> Kept:
         """Keeps all that was taken down. If that cannot be done, nothing of it was made, and the person in charge hears
         of it."""
         unkept, self.unkept = self.unkept, []
@@ -177,16 +238,37 @@ class Hall:
         except OSError as fault:
             for sitting, before in reversed(unkept):
                 sitting.go_back(before)
-            with contextlib.suppress(OSError):
-                tell('desk', f'cannot keep {printable(self.log.file)}: {fault.strerror}')
-            return False
-        return True
+            mention(str(self.log.unable(fault)))
+            self.broken = True
+            return Kept.NOT_KNOWN if isinstance(fault, NotKnown) else Kept.NOT_DONE
+        self.unwritten += [sitting for sitting, (_, _, ended, _) in unkept if sitting.handed_in and not ended]
+        return Kept.DONE
 
-    def write_file(self, sitting: Sitting) -> str:
-        """Writes the file of what was handed in and kept, and says what was done."""
+    def look(self) -> None:
+        """Looks whether the log is still in its place and clean, to be done every second. A fault is told once."""
         try:
-            write_over(self.file_of(sitting), sitting.desk.sitting(), lasting=True)
-        except Fault as fault:
-            tell('desk', str(fault))
-            return NO_FILE
-        return f'Handed in: {told_gaps(placed(sitting.desk, sitting.desk.sitting()).gaps)}.'
+            self.log.mend()
+            self.broken = False
+        except OSError as fault:
+            if not self.broken:
+                mention(str(self.log.unable(fault)))
+            self.broken = True
+
+    @property
+    def due(self) -> bool:
+        """Whether files of answers are to be written."""
+        return bool(self.unwritten)
+
+    def write_files(self) -> None:
+        """Writes files of what was handed in and kept. One that cannot be written is told once, and stays to be
+        written."""
+        for _ in range(len(self.unwritten)):
+            sitting = self.unwritten.pop(0)
+            file = os.path.join(self.answers, f'{sitting.candidate}{ANSWER}')
+            try:
+                write_over(file, sitting.desk.sitting(), lasting=True)
+            except Fault as fault:
+                self.unwritten.append(sitting)
+                if sitting.candidate not in self.told:
+                    mention(f'{fault}; {sitting.candidate} has handed in, and the file will be written when it can be')
+                self.told.add(sitting.candidate)

@@ -5,7 +5,6 @@ No file is served: the pieces of the page are read once. A body has a few bytes,
 import asyncio
 import concurrent.futures
 import functools
-import hashlib
 import html
 import json
 import re
@@ -18,13 +17,14 @@ from http import HTTPStatus
 from typing import TypeVar
 
 from office.board import Board
-from office.candidates import TICKET
+from office.candidates import ticket_in
 from office.command import ROOT
 from office.connection import Connection, Connections
-from office.hall import HAND_IN, MOVE, NOT_KEPT, Declined, Hall, Sitting
+from office.hall import Declined, Hall, Kept
 from office.messages import Reply, Request, Unfit
 from office.paper import Paper
 from office.show import listing_of
+from office.sittings import HAND_IN, MOVE, Sitting
 
 Sense = TypeVar('Sense')
 SERVED = ROOT / 'office' / 'served'
@@ -53,11 +53,10 @@ class Pages:
 
 @dataclass(frozen=True)
 class Made:
-    """Something that was made and is to be kept before it is told, to whom, and in which words. Of what was handed in
-    the file has to be there first."""
+    """Something that was made and is to be kept before it is told, to whom, and by which reply."""
     connection: Connection
     sitting: Sitting
-    said: str | None
+    reply: Callable[[], Reply]
 
 
 class Server:
@@ -77,7 +76,6 @@ class Server:
         self.hosts = {f'{name}:{self.port}' for name in names}
         if self.port == HTTP_PORT:
             self.hosts |= {*names}
-        self.tickets = {digest(ticket): sitting for ticket, sitting in hall.tickets.items()}
         self.made: list[Made] = []
         self.seen = 0
         self.waiting: dict[str, list[Connection]] = {}
@@ -89,6 +87,7 @@ class Server:
         connections = Connections(self.loop, self.answer)
         self.loop.run_until_complete(self.loop.create_server(
             lambda: Connection(connections), sock=self.listening, backlog=WAITING))
+        self.look()
         self.loop.add_signal_handler(signal.SIGINT, self.loop.stop)  # also where a script in the background started it
         self.loop.run_forever()
         connections.closed = True
@@ -130,16 +129,21 @@ class Server:
         made, self.made, self.seen = self.made, [], 0
         kept = self.hall.keep()
         for one in made:
-            if not kept:
-                self.tell(one, functools.partial(about, one.sitting, HTTPStatus.CONFLICT, NOT_KEPT))
-            elif one.said is None:
-                writing = self.loop.run_in_executor(None, self.hall.write_file, one.sitting)
-                writing.add_done_callback(functools.partial(self.written, one))
+            if kept is Kept.DONE:
+                self.tell(one, one.reply)
             else:
-                self.tell(one, functools.partial(about, one.sitting, HTTPStatus.OK, one.said))
+                self.tell(one, functools.partial(about, one.sitting, HTTPStatus.CONFLICT, kept.words))
+        self.write_files()
 
-    def written(self, made: Made, writing: asyncio.Future[str]) -> None:
-        self.tell(made, lambda: about(made.sitting, HTTPStatus.OK, writing.result()))
+    def look(self) -> None:
+        """Once a second: is the log still there as it was, and can files be written that could not?"""
+        self.hall.look()
+        self.write_files()
+        self.loop.call_later(1, self.look)
+
+    def write_files(self) -> None:
+        if self.hall.due:
+            self.loop.run_in_executor(None, self.hall.write_files)
 
     def tell(self, made: Made, reply: Callable[[], Reply]) -> None:
         """Tells of something; then those are answered who wait for it."""
@@ -162,28 +166,40 @@ class Server:
     def script(self, _: Connection) -> Reply:
         return Reply(HTTPStatus.OK, SCRIPT, self.pages.script)
 
-    def enter(self, connection: Connection) -> Reply:
-        field, _, ticket = connection.request.body.lower().replace('+', '').partition('=')
-        if field != COOKIE or not TICKET.fullmatch(ticket) or digest(ticket) not in self.tickets:
+    def enter(self, connection: Connection) -> Reply | None:
+        field, _, typed = connection.request.body.replace('+', ' ').partition('=')
+        ticket = ticket_in(typed) if field == COOKIE else None
+        sitting = self.hall.sitting_with(ticket) if ticket else None
+        if sitting is None or ticket is None:
             return self.asks_ticket(NO_TICKET)
-        return with_cookie(ticket)
+        if not self.waits(connection, sitting):
+            self.hall.enter(sitting, connection.machine)
+            self.keep_soon(Made(connection, sitting, functools.partial(with_cookie, ticket)))
+        return None
 
-    def leave(self, _: Connection) -> Reply:
-        return with_cookie('')
+    def leave(self, connection: Connection) -> Reply | None:
+        sitting = self.sitting_of(connection.request)
+        if sitting is None:
+            return with_cookie('')
+        if not self.waits(connection, sitting):
+            self.hall.leave(sitting, connection.machine)
+            self.keep_soon(Made(connection, sitting, functools.partial(with_cookie, '')))
+        return None
 
     def now(self, connection: Connection) -> Reply | None:
         return self.asked(connection, True, lambda sitting, _: about(sitting, HTTPStatus.OK, ''))
 
     def move(self, connection: Connection) -> Reply | None:
         def make(sitting: Sitting, move: re.Match[str]) -> None:
-            self.keep_soon(Made(connection, sitting, self.hall.move(sitting, move[0])))
+            said = self.hall.move(sitting, move[0], connection.machine)
+            self.keep_soon(Made(connection, sitting, functools.partial(about, sitting, HTTPStatus.OK, said)))
 
         return self.asked(connection, MOVE.fullmatch(connection.request.body), make)
 
     def hand_in(self, connection: Connection) -> Reply | None:
         def take(sitting: Sitting, asked: re.Match[str]) -> None:
-            self.hall.hand_in(sitting, int(asked[1]))
-            self.keep_soon(Made(connection, sitting, None))
+            said = self.hall.hand_in(sitting, int(asked[1]), sitting.gaps, connection.machine)
+            self.keep_soon(Made(connection, sitting, functools.partial(about, sitting, HTTPStatus.OK, said)))
 
         return self.asked(connection, HANDS_IN.fullmatch(connection.request.body), take)
 
@@ -193,19 +209,25 @@ class Server:
         sitting = self.sitting_of(connection.request)
         if sitting is None or sense is None:
             return Reply(HTTPStatus.FORBIDDEN if sitting is None else HTTPStatus.BAD_REQUEST, DATA, b'{}')
-        if sitting.candidate in self.waiting:
-            self.waiting[sitting.candidate].append(connection)
+        if self.waits(connection, sitting):
             return None
         try:
             return act(sitting, sense)
         except Declined as declined:
             return about(sitting, HTTPStatus.CONFLICT, str(declined))
 
+    def waits(self, connection: Connection, sitting: Sitting) -> bool:
+        """Whether something of the sitting is not kept yet, for which this has to wait."""
+        waiting = self.waiting.get(sitting.candidate)
+        if waiting is not None:
+            waiting.append(connection)
+        return waiting is not None
+
     def sitting_of(self, request: Request) -> Sitting | None:
         """The sitting of the candidate who asks."""
         cookies = [part.strip().partition('=') for part in ';'.join(request.headers.get('cookie', [])).split(';')]
         tickets = [value for name, _, value in cookies if name == COOKIE]
-        return self.tickets.get(digest(tickets[0])) if len(tickets) == 1 else None
+        return self.hall.sitting_with(tickets[0]) if len(tickets) == 1 else None
 
     def asks_ticket(self, said: str = '') -> Reply:
         body = self.pages.ticket.substitute(said=html.escape(said)).encode()
@@ -215,11 +237,6 @@ class Server:
 ROUTES = {('GET', '/'): Server.page, ('GET', '/hall.css'): Server.style, ('GET', '/sitting.js'): Server.script,
           ('GET', '/sitting'): Server.now, ('POST', '/enter'): Server.enter, ('POST', '/leave'): Server.leave,
           ('POST', '/move'): Server.move, ('POST', '/hand-in'): Server.hand_in}
-
-
-def digest(ticket: str) -> bytes:
-    """Tickets are looked up by this, so that the time it takes tells nothing of them."""
-    return hashlib.sha256(ticket.encode()).digest()
 
 
 def with_cookie(value: str) -> Reply:

@@ -6,7 +6,7 @@ import signal
 
 from office.asked import PAPER_HELP, loaded
 from office.board import Board
-from office.candidates import names_in
+from office.candidates import candidates_in
 from office.command import Fault, printable, write_out
 from office.hall import TICKETS, Hall
 from office.paper import paper_on, placed
@@ -23,7 +23,8 @@ HERE, EVERYWHERE, PORT = '127.0.0.1', '0.0.0.0', 8000
 
 def arguments(parser: argparse.ArgumentParser) -> None:
     parser.add_argument('paper', metavar='PAPER', help=PAPER_HELP)
-    parser.add_argument('--candidates', metavar='FILE', required=True, help='the names of the candidates, one a line')
+    parser.add_argument('--candidates', metavar='FILE', required=True,
+                        help='the candidates: an id a line, or CSV with the columns id, name, minutes, paper')
     parser.add_argument('--answers', metavar='DIR', required=True,
                         help='where answers (DIR/NAME.hex), tickets and the log of moves are kept')
     parser.add_argument('--bind', metavar='ADDRESS', default=HERE,
@@ -41,16 +42,16 @@ def main(asked: argparse.Namespace) -> None:
     os.umask(0o077)  # what is kept is nobody else's to read
     desk, text = loaded(asked.paper)
     paper, name = paper_on(desk), printable(pathlib.Path(asked.paper).stem)
-    hall = Hall(text, names_in(asked.candidates), asked.answers)
     pages = Pages(Board(paper, placed(desk, b''), name), paper, name)
     names = [*asked.name, asked.bind, *['localhost'] * (asked.bind == HERE)]
-    try:
-        server = Server((asked.bind, asked.port), names, hall, pages)
-    except (OSError, OverflowError) as fault:
-        raise Fault(f'cannot listen at {asked.bind}, port {asked.port}: {fault}') from fault
-    done = counted(sum(sitting.handed_in for sitting in hall.sittings.values()), 'answer')
-    write_out(f'http://{names[0]}:{server.port}/ is open for {counted(len(hall.sittings), "candidate")}, '
-              f'{done} handed in\n'
-              f'tickets: {printable(os.path.join(asked.answers, TICKETS))}; Ctrl-C ends the sitting\n'.encode())
-    signal.signal(signal.SIGPIPE, signal.SIG_IGN)  # a candidate who goes away must not end the hall
-    server.serve()
+    with Hall(text, candidates_in(asked.candidates, [name]), asked.answers) as hall:
+        try:
+            server = Server((asked.bind, asked.port), names, hall, pages)
+        except (OSError, OverflowError) as fault:
+            raise Fault(f'cannot listen at {asked.bind}, port {asked.port}: {fault}') from fault
+        hall.open()
+        write_out(f'http://{names[0]}:{server.port}/ is open for {counted(len(hall.sittings), "candidate")}, '
+                  f'{counted(hall.handed_in, "answer")} handed in\n'
+                  f'tickets: {printable(os.path.join(asked.answers, TICKETS))}; Ctrl-C ends the sitting\n'.encode())
+        signal.signal(signal.SIGPIPE, signal.SIG_IGN)  # a candidate who goes away must not end the hall
+        server.serve()

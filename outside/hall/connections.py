@@ -27,7 +27,7 @@ os.fsync = fsync
 """
 # The sitting of a candidate cannot be told while a file is there.
 FAULT = """
-from office.hall import Sitting
+from office.sittings import Sitting
 told = Sitting.told
 def fails(sitting, said):
     if sitting.candidate == 'anna' and os.path.exists({0!r} + '/is at fault'):
@@ -128,7 +128,7 @@ def in_order(tally: Tally, folder: pathlib.Path) -> None:
 
 def not_kept(tally: Tally, folder: pathlib.Path) -> None:
     """Many moves in one moment that cannot be kept: none of them is made, kept, shown, or told as made."""
-    names = [f'candidate {number}' for number in range(MANY)]
+    names = [f'candidate-{number}' for number in range(MANY)]
     hall = Hall(folder / 'unkept', EXAMPLES['p'], names).altered(DISK.format(str(folder / 'unkept'))).start()
     broken, slow, log = hall.folder / 'is broken', hall.folder / 'is slow', hall.answers / 'sitting.log'
     lines = [Line(hall, name) for name in names]
@@ -150,7 +150,7 @@ def not_kept(tally: Tally, folder: pathlib.Path) -> None:
     for number, line in [*enumerate(lines)][1:]:
         status, told = line.reply()
         if (status, told['gaps'], told['moves'], told['handed_in'], told['said'][:17]) != (
-                409, [1 + number % 13], 1, False, 'This was not done'):
+                409, [1 + number % 13], 1, False, 'It is not known w'):
             wrong.append((status, told))
     tally.check('none is made', not wrong, wrong)
     tally.check('none is shown', other.reply()[1]['gaps'] == [2])
@@ -166,7 +166,7 @@ def not_kept(tally: Tally, folder: pathlib.Path) -> None:
     lines[-1].made.sendall(lines[-1].spelled('POST', '/hand-in', 'hand in 1'))
     told = [line.reply()[1] for line in lines[1:]]
     tally.check('all go on', all((some['gaps'], some['moves']) == ([], 2) for some in told[:-1]), told)
-    tally.check('and hand in', told[-1]['handed_in'] and (hall.answers / f'{names[-1]}.hex').exists(), told[-1])
+    tally.check('and hand in', told[-1]['handed_in'] and hall.moves(names[-1])[-1] == 'hand in', told[-1])
     hall.end()
 
 

@@ -4,6 +4,7 @@ nothing of it is lost. How long it takes is measured by outside/measure/crowd.py
 import pathlib
 import random
 import selectors
+import signal
 import socket
 import time
 
@@ -126,9 +127,9 @@ def marks(hall: Hall, name: str) -> int:
 
 
 def crowd(tally: Tally, folder: pathlib.Path) -> None:
-    """A click alone is one write and one wait for the disk. A hundred in one moment are two: the first goes at once,
-    and what comes while the disk has it goes together."""
-    hall = Hall(folder / 'crowd', EXAMPLES['p'], [f'candidate {number:03}' for number in range(MANY)])
+    """A click alone is a write to the log, one to its copy, and one wait for the disk. A hundred in one moment are two
+    of each: the first goes at once, and what comes while the disk has it goes together."""
+    hall = Hall(folder / 'crowd', EXAMPLES['p'], [f'candidate-{number:03}' for number in range(MANY)])
     people = Crowd(hall.altered(HELD.format(str(hall.folder))).start())
     people.click(0)
     people.wait()
@@ -136,7 +137,7 @@ def crowd(tally: Tally, folder: pathlib.Path) -> None:
     people.click(0)
     people.wait()
     once = {name: marks(hall, name) - many for name, many in before.items()}
-    tally.check('a click is one write and one wait', once == {'writes': 1, 'waits': 1}, once)
+    tally.check('a click is one write and one wait', once == {'writes': 2, 'waits': 1}, once)
     (hall.folder / 'is held').touch()
     before = {name: marks(hall, name) for name in ('writes', 'waits')}
     people.click(0)
@@ -148,7 +149,7 @@ def crowd(tally: Tally, folder: pathlib.Path) -> None:
     (hall.folder / 'is held').unlink()
     people.wait()
     together = {name: marks(hall, name) - many for name, many in before.items()}
-    tally.check('a hundred in one moment are two writes', together == {'writes': 2, 'waits': 2}, together)
+    tally.check('a hundred in one moment are two writes', together == {'writes': 4, 'waits': 2}, together)
     people.together(ROUNDS)
     for name, clicks in zip(hall.names, people.clicks):
         tally.check(f'{name}: every click is kept, in order', hall.moves(name) == [*map(people.nth, range(clicks))])
@@ -157,12 +158,14 @@ def crowd(tally: Tally, folder: pathlib.Path) -> None:
 
 def rush(tally: Tally, folder: pathlib.Path) -> None:
     """A hundred hand in at one moment, and others click meanwhile: each has a file, and no click is lost."""
-    hall = Hall(folder / 'rush', EXAMPLES['p'], [f'candidate {number:03}' for number in range(MANY + BESIDE)]).start()
+    hall = Hall(folder / 'rush', EXAMPLES['p'], [f'candidate-{number:03}' for number in range(MANY + BESIDE)]).start()
     people = Crowd(hall)
     people.together(1)
     people.handing_in(BESIDE)
-    files = {file.stem: file.read_bytes() for file in hall.answers.glob('*.hex')}
-    tally.check('all are handed in', files == dict.fromkeys(hall.names[BESIDE:], b'2101\n'), files)
     kept = [len(hall.moves(name)) for name in hall.names[:BESIDE]]
     tally.check('every click is kept', kept == people.clicks[:BESIDE] and min(kept) > 1, kept)
-    hall.end()
+    handed_in = [hall.moves(name) for name in hall.names[BESIDE:]]
+    tally.check('all are handed in', handed_in == [['put 1', 'hand in']] * MANY, handed_in)
+    hall.end(signal.SIGINT)
+    files = {file.stem: file.read_bytes() for file in hall.answers.glob('*.hex')}
+    tally.check('all have a file', files == dict.fromkeys(hall.names[BESIDE:], b'2101\n'), files)

@@ -39,6 +39,8 @@ class Hall:
     names: list[str]
     file: str = 'paper.hex'
     more: list[str] = field(default_factory=list)
+    listed: str = ''
+    environment: dict[str, str] = field(default_factory=dict)
     process: subprocess.Popen | None = None
     port: int = 0
     said: str = ''
@@ -47,7 +49,7 @@ class Hall:
         self.folder.mkdir(exist_ok=True)
         self.answers = self.folder / 'answers'
         (self.folder / self.file).write_bytes(self.paper)
-        (self.folder / 'names.txt').write_text(''.join(f'{name}\n' for name in self.names))
+        (self.folder / 'names.txt').write_text(self.listed or ''.join(f'{name}\n' for name in self.names))
         (self.folder / 'sitecustomize.py').write_text(GUARD)
 
     def altered(self, lines: str) -> 'Hall':
@@ -66,7 +68,7 @@ class Hall:
         with open(self.folder / 'said', 'ab') as said:
             self.process = subprocess.Popen(
                 ['bash', '-c', f'{limit} exec "$@"', 'bash', *self.command], stdout=subprocess.PIPE, stderr=said,
-                env={**os.environ, 'PYTHONPATH': str(self.folder)}, text=True)
+                env={**os.environ, 'PYTHONPATH': str(self.folder), **self.environment}, text=True)
         atexit.register(self.process.kill)
         self.said = self.process.stdout.readline() + self.process.stdout.readline()
         opened = re.match(r'http://[^/]*:(\d+)/ is open', self.said)
@@ -95,12 +97,16 @@ class Hall:
     @property
     def tickets(self) -> dict[str, str]:
         with open(self.answers / 'tickets.csv', newline='') as opened:
-            return dict([*csv.reader(opened)][1:])
+            return {row['candidate']: row['ticket'] for row in csv.DictReader(opened)}
+
+    @property
+    def log(self) -> pathlib.Path:
+        return self.answers / 'sitting.log'
 
     def moves(self, name: str) -> list[str]:
-        """The moves that the log has of a candidate."""
-        lines = (self.answers / 'sitting.log').read_text().splitlines()[1:]
-        return [move for _, candidate, move in (line.split('\t') for line in lines) if candidate == name]
+        """The moves that the log has of a candidate, and the hand-in without its hash."""
+        acts = [line.split('\t')[4] for line in self.log.read_text().splitlines()[1:] if line.split('\t')[2] == name]
+        return ['hand in' if act.startswith('hand in') else act for act in acts if act not in ('enter', 'leave')]
 
 
 def until_there(seen: Callable[[], bool], patience: float = 30) -> bool:

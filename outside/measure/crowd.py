@@ -66,7 +66,7 @@ def quietest(name: str, trials: Iterable[Trial]) -> None:
 
 def crowded(folder: pathlib.Path, paper: bytes, many: int, waits: float) -> tuple[Hall, Crowd]:
     """A hall with candidates who have all clicked once."""
-    hall = Hall(folder, paper, [f'candidate {number:03}' for number in range(many)])
+    hall = Hall(folder, paper, [f'candidate-{number:03}' for number in range(many)])
     people = Crowd(hall.altered(DISK.format(waits)).start() if waits else hall.start())
     people.together(1)
     return hall, people

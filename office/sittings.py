@@ -1,0 +1,180 @@
+"""The sittings of a hall, as the events of its log make them: a desk for each candidate, moves made by the library.
+
+No desk here is ever planned: there is no key in the process that candidates talk to.
+"""
+import ctypes
+import hashlib
+import re
+from dataclasses import dataclass, field
+
+from office.chain import OFFICE, Event
+from office.library import Desk
+from office.paper import placed
+from office.words import ranges
+
+MOVE = re.compile('(put|lift) (0|[1-9][0-9]{0,2})|take back')
+ENTER, LEAVE, HAND_IN, COLLECTED = 'enter', 'leave', 'hand in', 'collected'
+
+
+def told_gaps(gaps: list[int]) -> str:
+    if not gaps:
+        return 'no barrier'
+    return f'{"a barrier in gap" if len(gaps) == 1 else "barriers in gaps"} {ranges(gaps)}'
+
+
+def hash_of(text: bytes) -> str:
+    return hashlib.sha256(text).hexdigest()
+
+
+def made(desk: Desk, move: str) -> str:
+    """Makes a move and says so in words. One that means nothing is a ValueError."""
+    asked = MOVE.fullmatch(move)
+    if not asked:
+        raise ValueError(move)
+    if asked[1] == 'put':
+        desk.put(int(asked[2]))
+        return f'A barrier stands in gap {asked[2]}.'
+    if asked[1] == 'lift':
+        desk.lift(int(asked[2]))
+        return f'The barrier in gap {asked[2]} is lifted.'
+    desk.take_back()
+    return 'The latest move is taken back.'
+
+
+State = tuple[ctypes.Structure, int, Event | None, str]
+
+
+@dataclass
+class Sitting:
+    """A candidate's desk, how many moves were made on it, the event that ended it, and the machine where it was entered
+    and not left. The hash of the ticket that opens it, and those of all texts that were handed in."""
+    candidate: str
+    name: str
+    minutes: int | None
+    desk: Desk
+    moves: int = 0
+    ended: Event | None = None
+    machine: str = ''
+    ticket: str = ''
+    given: set[str] = field(default_factory=set)
+
+    @property
+    def handed_in(self) -> bool:
+        return self.ended is not None
+
+    @property
+    def collected(self) -> bool:
+        return self.ended is not None and self.ended.who == OFFICE
+
+    @property
+    def gaps(self) -> list[int]:
+        return placed(self.desk, self.desk.sitting()).gaps
+
+    @property
+    def state(self) -> State:
+        return self.desk.held, self.moves, self.ended, self.machine
+
+    def go_back(self, to: State) -> None:
+        self.desk.held, self.moves, self.ended, self.machine = to
+
+    def make(self, event: Event) -> None:
+        """Makes what the candidate did. What cannot be made is a ValueError, or refused."""
+        if event.act == ENTER:
+            self.machine = event.machine
+        elif event.act == LEAVE:
+            self.machine = ''
+        elif self.ended:
+            raise ValueError(event.act)
+        elif event.act.startswith(HAND_IN):
+            self.end(event, event.act.removeprefix(f'{HAND_IN} '))
+        else:
+            made(self.desk, event.act)
+            self.moves += 1
+
+    def end(self, event: Event, text: str) -> None:
+        """Ends with the barriers that are there, whose text must have the hash."""
+        if self.ended or hash_of(self.desk.sitting()) != text:
+            raise ValueError(event.act)
+        self.ended = event
+        self.given.add(text)
+
+    def told(self, said: str) -> dict[str, object]:
+        """The whole sitting, as the desk has it, and words for what was asked. The cuts are two digits a dependence."""
+        now, cuts = placed(self.desk, self.desk.sitting()), self.desk.cuts
+        state = f'Barriers: {len(now.gaps)}. Dependences uncut: {self.desk.uncut} of {len(cuts)}.'
+        return {'gaps': now.gaps, 'cuts': cuts.hex(), 'counts': [*now.counts.items()], 'moves': self.moves,
+                'handed_in': self.handed_in, 'state': state, 'said': said,
+                'question': f'Hand in {told_gaps(now.gaps)}? {state} Nothing can be changed afterwards.'}
+
+
+class Sittings:
+    """All sittings over a paper, by identity, and by the hash of the ticket."""
+
+    def __init__(self, paper: str):
+        self.paper, self.text = paper, b''
+        self.blank: Desk | None = None
+        self.by_identity: dict[str, Sitting] = {}
+        self.by_ticket: dict[str, Sitting] = {}
+        self.closed = False
+
+    def make(self, event: Event) -> None:
+        """Makes an event. What cannot be made is a LookupError or a ValueError, or refused."""
+        if event.who != OFFICE:
+            self.by_identity[event.who].make(event)
+            return
+        word, _, rest = event.act.partition(' ')
+        ACTS[word](self, event, rest)
+
+    def take_paper(self, event: Event, lines: str) -> None:
+        self.text = ''.join(f'{line}\n' for line in lines.split()).encode()
+        if self.blank or hash_of(self.text) != self.paper:
+            raise ValueError(event.act)
+        self.blank = Desk()
+        self.blank.load(self.text)
+
+    def seat(self, event: Event, told: str) -> None:
+        """A candidate of the list, or another name for one."""
+        identity, time, paper, name = told.split(' ', 3)
+        minutes = None if time == OFFICE else int(time)
+        if paper != OFFICE or self.blank is None:
+            raise ValueError(event.act)
+        if identity in self.by_identity:
+            sitting = self.by_identity[identity]
+            sitting.name, sitting.minutes = name, minutes
+        else:
+            desk = Desk()
+            desk.held = self.blank.held
+            self.by_identity[identity] = Sitting(identity, name, minutes, desk)
+
+    def give_ticket(self, _: Event, told: str) -> None:
+        identity, ticket = told.split(' ')
+        sitting = self.by_identity[identity]
+        self.by_ticket.pop(sitting.ticket, None)
+        sitting.ticket = ticket
+        self.by_ticket[ticket] = sitting
+
+    def reopen(self, event: Event, identity: str) -> None:
+        if not self.by_identity[identity].ended:
+            raise ValueError(event.act)
+        self.by_identity[identity].ended = None
+
+    def collect(self, event: Event, told: str) -> None:
+        identity, text = told.split(' ')
+        self.by_identity[identity].end(event, text)
+
+    def close(self, _: Event, identity: str) -> None:
+        self.closed |= self.of(identity) is None
+
+    def hear(self, _: Event, told: str) -> None:
+        """What changes no sitting: a start, more time, a message. It must be of somebody who is here, or of all."""
+        if told:
+            self.of(told.split(' ')[0])
+
+    def of(self, identity: str) -> Sitting | None:
+        """The sitting of a candidate; none where an act is for all."""
+        return None if identity == OFFICE else self.by_identity[identity]
+
+
+ACTS = {'paper': Sittings.take_paper, 'candidate': Sittings.seat, 'ticket': Sittings.give_ticket,
+        'reopen': Sittings.reopen, COLLECTED: Sittings.collect, 'close': Sittings.close, 'opened': Sittings.hear,
+        'extra': Sittings.hear, 'message': Sittings.hear}

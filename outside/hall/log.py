@@ -1,0 +1,26 @@
+"""The hall's log and what a start makes of it: the chain, lists and tickets, other programs, bad disks, kills.
+
+Needs the library's archive (rt staticlib host) and gcc. The last line is 'N passed, M failed'.
+"""
+import pathlib
+import tempfile
+
+from outside.hall.chains import chained, started_again
+from outside.hall.disks import on_bad_disks
+from outside.hall.kills import killed
+from outside.hall.lists import listed
+from outside.hall.ours import stays_ours
+from outside.hall.starts import started
+from outside.trying import Tally
+
+
+def main() -> None:
+    tally = Tally()
+    with tempfile.TemporaryDirectory() as name:
+        for some in (listed, chained, started_again, started, stays_ours, on_bad_disks, killed):
+            some(tally, pathlib.Path(name))
+    tally.close()
+
+
+if __name__ == '__main__':
+    main()
