@@ -1,7 +1,8 @@
 """./desk: the commands of an office's day, each in a module of its own."""
 import argparse
 
-from office import calls, check, draw, improve, join, key, mark, missing, sheet, show, sit, spell, textbook, why
+from office import (calls, check, draw, improve, join, key, mark, missing, sheet, show, sit, spell, story, textbook,
+                    why)
 from office.command import Parser, version
 
 HELP = """The office's day, over the proved library: the setter checks a text, the desk works out the key, answers are
@@ -10,7 +11,7 @@ hexadecimal in texts."""
 STATUS = 'Status: 0 done, 1 refused, 2 bad usage or a file that cannot be read or written.'
 COMMANDS = {'check': check, 'show': show, 'spell': spell, 'key': key, 'mark': mark, 'why': why, 'draw': draw,
             'join': join, 'calls': calls, 'textbook': textbook, 'missing': missing, 'improve': improve,
-            'sheet': sheet, 'sit': sit}
+            'sheet': sheet, 'sit': sit, 'story': story}
 
 
 def parser() -> Parser:

@@ -11,13 +11,14 @@ from outside.hall.kills import killed
 from outside.hall.lists import listed
 from outside.hall.ours import stays_ours
 from outside.hall.starts import started
+from outside.hall.stories import told_again
 from outside.trying import Tally
 
 
 def main() -> None:
     tally = Tally()
     with tempfile.TemporaryDirectory() as name:
-        for some in (listed, chained, started_again, started, stays_ours, on_bad_disks, killed):
+        for some in (listed, chained, started_again, started, stays_ours, on_bad_disks, told_again, killed):
             some(tally, pathlib.Path(name))
     tally.close()
 

@@ -1,0 +1,153 @@
+"""./desk story: what the log of a hall tells, each line held against the chain, and the story of one candidate."""
+import argparse
+import os
+import re
+from collections.abc import Iterator
+
+from office import oldlog
+from office.candidates import folded
+from office.chain import OFFICE, Event, Reader, receipt_of
+from office.command import REFUSED, Fault, printable, write_out
+from office.logbook import LOG
+from office.refusal import Refused
+from office.sittings import COLLECTED, ENTER, HAND_IN, LEAVE, MOVE, Sitting, Sittings, told_gaps
+from office.words import counted
+
+HELP = 'tells what the log of a hall has: whether it is whole, who handed in, or the story of one candidate'
+MORE = """Each line is held against the chain of hashes, and every move is made once more by the library. The head is the
+code of the last line: who has written it down can look it up by --code, as candidates can the code of a
+receipt. Times are UTC.
+
+  ./desk story answers
+  ./desk story answers --candidate anna
+  ./desk story answers --code 3f2a-91bc-04de-77aa
+"""
+CODE = re.compile('[0-9a-f]{16,64}')
+# What the desk and the person in charge do, by the first word of the act.
+OFFICE_ACTS = {'paper': 'the paper is laid out', 'opened': 'the hall is opened', 'candidate': 'on the list as {}',
+               'ticket': 'a ticket is made', 'close': 'the sitting is closed', 'extra': 'more minutes: {}',
+               'message': 'told: {}', 'reopen': 'reopened', COLLECTED: 'collected'}
+
+
+def arguments(parser: argparse.ArgumentParser) -> None:
+    parser.add_argument('answers', metavar='DIR', help='the folder of the answers, with the log')
+    parser.add_argument('--candidate', metavar='ID', help='each act of one candidate, with the barriers after it')
+    parser.add_argument('--code', metavar='CODE', help='the line that has a code, of a receipt or a head')
+
+
+def played(answers: str) -> Iterator[tuple[Event, Sittings]]:
+    """The events of a log, each with the sittings after it."""
+    file = os.path.join(answers, LOG)
+    if oldlog.is_old(file):
+        raise Fault(f'{printable(file)} is of an older form: ./desk sit takes it down anew')
+    try:
+        with open(file, 'rb') as opened:
+            read = Reader(file, opened)
+            room = Sittings(read.paper)
+            for event in read:
+                room.make(event)
+                yield event, room
+    except OSError as fault:
+        raise Fault(f'cannot read {printable(file)}: {fault.strerror}') from fault
+    except (LookupError, ValueError, Refused) as fault:
+        raise Fault(f'{printable(file)}: line {read.chain.seq + 1} is no act that can be made') from fault
+
+
+def when(event: Event) -> str:
+    return event.at.removesuffix('+00:00').replace('T', ' ')
+
+
+def called(sitting: Sitting) -> str:
+    """A candidate by identity and name."""
+    return sitting.candidate + f' ({sitting.name})' * (sitting.name != sitting.candidate)
+
+
+def ended(sitting: Sitting) -> str:
+    """How a sitting ended: when, with what, by which code."""
+    if sitting.ended is None:
+        return f'not handed in; {told_gaps(sitting.gaps)}'
+    how = 'collected' if sitting.collected else 'handed in'
+    return f'{how} {when(sitting.ended)}: {told_gaps(sitting.gaps)}; receipt {receipt_of(sitting.ended)}'
+
+
+def subject(event: Event) -> tuple[str, str]:
+    """Whom an act is about, a dash for all, and what is said of it."""
+    if event.who != OFFICE:
+        return event.who, ''
+    word, _, rest = event.act.partition(' ')
+    who, _, more = rest.partition(' ') if word not in ('paper', 'opened') else (OFFICE, '', '')
+    return who, more.split(' ', 2)[-1] if word == 'candidate' else more
+
+
+def told(event: Event, sitting: Sitting) -> str:
+    """An act in words, and the barriers after it where it is a move or an end."""
+    if event.who == OFFICE:
+        word = event.act.split(' ')[0]
+        words = OFFICE_ACTS[word].format(subject(event)[1])
+        return f'{words}: {told_gaps(sitting.gaps)}; receipt {receipt_of(event)}' if word == COLLECTED else words
+    at = f' at {event.machine}' * (event.machine != OFFICE)
+    if event.act in (ENTER, LEAVE):
+        return f'{"enters" if event.act == ENTER else "leaves"}{at}'
+    now = f'{told_gaps(sitting.gaps)}, {sitting.desk.uncut} of {len(sitting.desk.cuts)} dependences uncut'
+    if MOVE.fullmatch(event.act):
+        return f'{event.act}{at}: {now}'
+    return f'hands in{at}: {now}; receipt {receipt_of(event)}'
+
+
+def of_candidate(answers: str, asked: str) -> Iterator[str]:
+    """The story of one candidate."""
+    found: Sitting | None = None
+    last = ''
+    for event, room in played(answers):
+        found = found or next((sitting for identity, sitting in room.by_identity.items()
+                               if folded(identity) == folded(asked)), None)
+        if found and subject(event)[0] in (found.candidate, OFFICE):
+            back = ' (the clock was put back)' * (event.at < last)
+            yield f'{event.seq:>6}  {when(event)}  {told(event, found)}{back}'
+            last = event.at
+    if found is None:
+        raise Fault(f'{printable(asked)} is no candidate of this log')
+    yield f'{called(found)}: {counted(found.moves, "move")}, {ended(found)}'
+
+
+def of_all(answers: str) -> Iterator[str]:
+    """Whether the log is whole, and how each sitting stands."""
+    first = None
+    for event, room in played(answers):
+        first = first or event
+    if first is None:
+        raise Fault(f'{printable(answers)} has a log with nothing in it')
+    for sitting in room.by_identity.values():
+        yield f'{called(sitting)}: {counted(sitting.moves, "move")}, {ended(sitting)}'
+    yield f'the log is whole: {counted(event.seq, "line")}, {when(first)} to {when(event)}'
+    yield f'head {receipt_of(event)}'
+
+
+def of_code(answers: str, typed: str) -> Iterator[str]:
+    """The line that a code is of."""
+    code = re.sub(r'[\s-]', '', typed).lower()
+    if not CODE.fullmatch(code):
+        raise Fault(f'a code has sixteen digits 0-9 a-f, in groups of four: {printable(typed)}')
+    found, last = None, 0
+    for event, room in played(answers):
+        last = event.seq
+        if event.own.startswith(code):
+            who = room.by_identity.get(subject(event)[0])
+            found = event.seq, f'{when(event)}  ' + (
+                f'{called(who)}: {told(event, who)}' if who else OFFICE_ACTS[event.act.split(' ')[0]])
+    if found is None:
+        raise Fault(f'no line of this log has the code {printable(typed)}: lines are missing, or it is another log\'s',
+                    REFUSED)
+    yield f'line {found[0]} of {last}: {found[1]}'
+
+
+def main(asked: argparse.Namespace) -> None:
+    if asked.candidate is not None and asked.code is not None:
+        raise Fault('ask for a candidate or for a code, not for both')
+    if asked.code is not None:
+        lines = of_code(asked.answers, asked.code)
+    elif asked.candidate is not None:
+        lines = of_candidate(asked.answers, asked.candidate)
+    else:
+        lines = of_all(asked.answers)
+    write_out(''.join(f'{line}\n' for line in lines).encode())
