@@ -84,12 +84,13 @@ class Reader:
             raise self.damaged(1, 'is not the top line of a log')
 
     def __iter__(self) -> Iterator[Event]:
-        chain, head = self.chain, self.chain.head.encode()
-        for number, line in enumerate(iter(lambda: self.opened.readline(LONGEST), b''), 1):
-            whole = line[-1:] == b'\n'
+        chain, head, number = self.chain, self.chain.head.encode(), 0
+        while line := self.opened.readline(LONGEST):
+            whole = line.endswith(b'\n')
             if not whole and self.cut_off(line):
                 return
             body, _, own = line[:-1].rpartition(b'\t')
+            number += 1
             try:
                 seq, at, who, machine, act = body.decode().split('\t')
             except ValueError:
@@ -98,8 +99,7 @@ class Reader:
                 raise self.damaged(number + 1, 'is not the one that was written there')
             if seq != str(number):
                 raise self.damaged(number + 1, f'has the number {printable(seq)} instead of {number}')
-            head = own
-            chain.seq, chain.head = number, own.decode()
+            head, chain.seq, chain.head = own, number, own.decode()
             self.length += len(line)
             yield Event(number, at, who, machine, act, chain.head)
 

@@ -10,12 +10,14 @@ import fcntl
 import os
 import tempfile
 from collections.abc import Iterable, Iterator
+from typing import NoReturn
 
 from office.chain import Chain, Event, Reader, now
 from office.command import Fault, mention, printable
 
 LOG = 'sitting.log'
-OTHERS, TRIES, PIECE = 9, 3, 1 << 20
+OTHERS, TRIES, TAIL, PIECE = 9, 3, 1 << 12, 1 << 20
+MEDDLED = 'another program writes into it again and again'
 
 
 class NotKnown(OSError):
@@ -99,22 +101,35 @@ class Logbook:
         self.kept = self.chain.end
 
     def write(self, data: bytes) -> None:
-        """Writes behind what is kept. A write that fails leaves nothing there, if the disk can still do that."""
-        self.mend()
-        try:
-            write_at(self.opened, data, self.length)
-            os.fsync(self.opened)
-        except OSError as fault:
+        """Writes behind what is kept; again, where another program has written into the file meanwhile."""
+        for _ in range(TRIES):
+            self.mend()
+            self.append(data)
+            if self.copy.is_before(data, self.opened):
+                break
             self.clean = False
-            try:
-                self.cut()
-            except OSError as again:
-                raise NotKnown(*again.args) from fault
-            raise
+        else:
+            self.cut_or_not_known(OSError(errno.EBUSY, MEDDLED))
         self.length += len(data)
         self.copy.add(data)
         with contextlib.suppress(OSError):
             self.seen = os.fstat(self.opened).st_mtime_ns
+
+    def append(self, data: bytes) -> None:
+        """Has the disk take the data. A write that fails leaves nothing there, if the disk can still do that."""
+        try:
+            write_at(self.opened, data, self.length)
+            os.fsync(self.opened)
+        except OSError as fault:
+            self.cut_or_not_known(fault)
+
+    def cut_or_not_known(self, fault: OSError) -> NoReturn:
+        self.clean = False
+        try:
+            self.cut()
+        except OSError as again:
+            raise NotKnown(*again.args) from fault
+        raise fault
 
     # ---- The file stays ours, and clean
 
@@ -128,7 +143,7 @@ class Logbook:
             found = self.put(self.pieces(), f'{self.file}.other')
             mention(f'{printable(self.file)} was changed or removed by another program: the log is put back as it was'
                     + f', and what was there is now {printable(found)}' * bool(found))
-        raise OSError(errno.EBUSY, 'another program writes into it again and again')
+        raise OSError(errno.EBUSY, MEDDLED)
 
     def cut(self) -> None:
         """Cuts off what stands behind all that was kept."""
@@ -145,7 +160,8 @@ class Logbook:
             ours = os.fstat(self.opened)
             if not os.path.samestat(os.stat(self.file), ours) or ours.st_size != self.length:
                 return True
-            if ours.st_mtime_ns != self.seen and not self.copy.is_in(self.opened):
+            touched = ours.st_mtime_ns != self.seen or not self.copy.is_before(b'', self.opened)
+            if touched and not self.copy.is_in(self.opened):
                 return True
         except OSError:
             return True
@@ -238,6 +254,11 @@ class Copy:
         """Whether a file begins with all of it. Without a copy nobody can tell that it does not."""
         return not self.good or all(here == there for here, there in zip(
             pieces_of(self.opened, self.length), pieces_of(other, self.length)))
+
+    def is_before(self, data: bytes, other: int) -> bool:
+        """Whether a file has the end of it, and then the data."""
+        begin = max(self.length - TAIL, 0)
+        return not self.good or os.pread(other, TAIL + len(data), begin) == os.pread(self.opened, TAIL, begin) + data
 
     def close(self) -> None:
         if self.opened >= 0:

@@ -79,11 +79,11 @@ class Server:
         self.made: list[Made] = []
         self.seen = 0
         self.waiting: dict[str, list[Connection]] = {}
-        self.loop = asyncio.new_event_loop()
-        self.loop.set_default_executor(concurrent.futures.ThreadPoolExecutor(1))
 
     def serve(self) -> None:
         """Serves until Ctrl-C. What was asked for before is still kept and told, and files are written."""
+        self.loop = asyncio.new_event_loop()
+        self.loop.set_default_executor(concurrent.futures.ThreadPoolExecutor(1))
         connections = Connections(self.loop, self.answer)
         self.loop.run_until_complete(self.loop.create_server(
             lambda: Connection(connections), sock=self.listening, backlog=WAITING))
@@ -94,6 +94,7 @@ class Server:
         if self.made:
             self.settle()
         self.loop.run_until_complete(self.loop.shutdown_default_executor())
+        self.loop.close()
 
     def answer(self, connection: Connection) -> Reply | None:
         """Answers a request that comes by the right name, on a route. None says that the reply comes later."""
@@ -157,7 +158,7 @@ class Server:
         sitting = self.sitting_of(connection.request)
         if sitting is None:
             return self.asks_ticket()
-        body = self.pages.sitting.substitute(candidate=html.escape(sitting.candidate)).encode()
+        body = self.pages.sitting.substitute(candidate=html.escape(sitting.name)).encode()
         return Reply(HTTPStatus.OK, HTML, body)
 
     def style(self, _: Connection) -> Reply:

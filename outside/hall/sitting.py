@@ -108,7 +108,8 @@ def keyboard(tally: Tally, page: Page) -> None:
     seen.press(TAB, ENTER)
     page.handed_in = 'Handed in. '
     page.shows('handed in', 'Handed in: barriers in gaps 5, 11.')
-    tally.check('the file', (page.hall.answers / f'{page.name}.hex').read_bytes() == page.desk.sitting())
+    file = page.hall.answers / f'{page.name}.hex'
+    tally.check('the file', until(file.exists, True) and file.read_bytes() == page.desk.sitting())
 
 
 def register(tally: Tally, hall: Hall, name: str) -> None:
@@ -196,7 +197,7 @@ def nothing_inline(tally: Tally, page: Page) -> None:
 
 def two(tally: Tally, seen: list[Browser], folder: pathlib.Path) -> None:
     """A sitting of two candidates, each in a browser."""
-    hall = Hall(folder / 'hall', EXAMPLES['p'], ['anna', 'Özge K.']).start()
+    hall = Hall(folder / 'hall', EXAMPLES['p'], ['anna', 'oezge'], listed='id,name\nanna,\noezge,Özge K.\n').start()
     anna, other = (Page(tally, browser, hall, name) for browser, name in zip(seen, hall.names))
     entered(tally, anna)
     day(tally, anna)
