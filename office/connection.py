@@ -1,28 +1,62 @@
 """A connection with a browser: requests are answered one after the other, and neither side leaves much unread.
 
 A request is read when the reply to the one before it has gone out, so that one connection has one request under way,
-however many it sends. Who says nothing for long, or does not take a reply, is cut off; so is, where there are too many
-connections, the one that was silent longest.
+however many it sends. Reading one is a piece of work of the machine that sends it, answering one of the candidate who
+asks; each has its turn.
 """
 import asyncio
 import contextlib
+import socket
+import ssl
 import traceback
 from collections.abc import Callable
+from http import HTTPStatus
+from typing import Protocol
 
-from office.messages import HEAD, LONGEST, Reply, Request, Unfit, refusal, request_in
+from office.called import machine_at
+from office.command import mention
+from office.messages import HEAD, LONGEST, Reply, Request, Unfit, request_in
+from office.room import Room
+from office.turns import Turns
 
-# Seconds for a request, for a reply to be taken, or for the next request to come; the most connections; how much is
-# read of what is not asked yet.
-IDLE, MOST, ROOM = 60, 800, HEAD + LONGEST
+# How much is read of what is not asked yet.
+ROOM = HEAD + LONGEST
+
+
+class Answering(Protocol):
+    """Who answers requests: what goes with every reply, whose a request is, what is said to one that is refused, and
+    the answer, which None puts off."""
+    always: str
+
+    def whose(self, request: Request) -> str | None: ...
+    def refusal(self, status: HTTPStatus, more: str) -> Reply: ...
+    def answer(self, connection: 'Connection') -> Reply | None: ...
+
+
+class Connections:
+    """What all connections share: the loop, who answers, whether they may still ask, whose turn it is, who is in."""
+
+    def __init__(self, loop: asyncio.AbstractEventLoop, desk: Answering, most: int, tls: ssl.SSLContext | None):
+        self.loop, self.desk, self.tls, self.closed = loop, desk, tls, False
+        self.turns, self.room = Turns(loop), Room[Connection](loop, most)
+
+    def take(self, made: socket.socket, address: str) -> None:
+        """Takes a connection that was accepted. It begins when its machine has its turn."""
+        connection = Connection(self, made, address)
+        self.room.enter(connection)
+        self.turns.add(connection.machine, connection.begin)
 
 
 class Connection(asyncio.Protocol):
     """A connection. The request under way is the one that is not answered yet."""
 
-    def __init__(self, others: 'Connections'):
-        self.others, self.unread = others, b''
+    def __init__(self, others: Connections, made: socket.socket, address: str):
+        self.others, self.made, self.address, self.unread = others, made, address, b''
+        self.machine = machine_at(address)
+        self.beginning: asyncio.Task[object] | None = None
+        self.transport: asyncio.Transport | None = None
         self.under_way: Request | None = None
-        self.ended = self.over = self.full = False
+        self.ended = self.over = self.full = self.due = False
 
     @property
     def request(self) -> Request:
@@ -31,47 +65,80 @@ class Connection(asyncio.Protocol):
             raise LookupError('no request is under way')
         return self.under_way
 
-    @property
-    def machine(self) -> str:
-        """The address of the machine at the other end."""
-        return str((self.transport.get_extra_info('peername') or '-')[0])
+    # ---- How it begins and ends
+
+    def begin(self) -> None:
+        """Begins to talk, by way of a handshake where it is encrypted."""
+        if not self.over:
+            making = self.others.loop.connect_accepted_socket(lambda: self, self.made, ssl=self.others.tls)
+            self.beginning = self.others.loop.create_task(making)
+            self.beginning.add_done_callback(self.begun)
+
+    def begun(self, beginning: asyncio.Task[object]) -> None:
+        if beginning.cancelled() or beginning.exception():
+            self.made.close()
+            self.connection_lost(None)
+
+    def cut(self) -> None:
+        """Ends it at once."""
+        self.over = True
+        if self.transport or self.beginning:
+            self.others.room.end(self)
+        else:
+            self.others.room.leave(self)
+        if self.transport:
+            self.transport.abort()
+        elif self.beginning:
+            self.beginning.cancel()
+        else:
+            self.made.close()
 
     def connection_made(self, transport: asyncio.BaseTransport) -> None:
         assert isinstance(transport, asyncio.Transport)  # as every one over a socket is
         self.transport = transport
-        transport.set_write_buffer_limits(0)
-        self.others.make_room()
-        self.others.heard_of(self)
+        transport.set_write_buffer_limits(1, 0)
+        if self.over:
+            transport.abort()
 
     def connection_lost(self, _: Exception | None) -> None:
-        self.others.since.pop(self, None)
+        self.over = True
+        self.others.room.leave(self)
+
+    # ---- What comes in
 
     def data_received(self, data: bytes) -> None:
-        if self.over:
+        if self.over or self.transport is None:
             return
         if not self.unread:
-            self.others.heard_of(self)
+            self.others.room.heard_of(self)
         self.unread += data
-        self.look()
+        self.look_soon()
         if len(self.unread) > ROOM:
             self.transport.pause_reading()
 
     def eof_received(self) -> bool:
-        """Whoever has said all still gets the replies."""
+        """Whoever has said all still gets the replies, unless it was encrypted: then nothing can follow."""
         self.ended = True
-        self.look()
-        return not self.over
+        self.look_soon()
+        return not self.over and self.transport is not None and self.transport.can_write_eof()
 
     def pause_writing(self) -> None:
         self.full = True
 
     def resume_writing(self) -> None:
         self.full = False
-        self.look()
+        self.look_soon()
+
+    def look_soon(self) -> None:
+        """Looks for a request when the machine has its turn."""
+        if not self.due:
+            self.due = True
+            self.others.turns.add(self.machine, self.look)
 
     def look(self) -> None:
         """Takes the next request, if it is there and its turn has come."""
-        if self.under_way or self.over or self.full or self.others.closed:
+        self.due = False
+        if self.under_way or self.over or self.full or self.others.closed or self.transport is None:
             return
         try:
             found = request_in(self.unread, self.ended) if self.unread else None
@@ -83,9 +150,16 @@ class Connection(asyncio.Protocol):
             self.unread = self.unread[length:]
             if len(self.unread) <= ROOM:
                 self.transport.resume_reading()
-            self.tell(lambda: self.others.answer(self))
+            candidate = self.others.desk.whose(self.under_way)
+            self.others.room.used_by(self, candidate)
+            self.others.turns.add(('candidate', candidate) if candidate else self.machine, self.answer)
         elif self.ended:
             self.end()
+
+    # ---- What goes out
+
+    def answer(self) -> None:
+        self.tell(lambda: self.others.desk.answer(self))
 
     def tell(self, reply: Callable[[], Reply | None]) -> None:
         """Sends a reply to the request under way, unless there is none yet. A fault of ours ends this connection."""
@@ -96,59 +170,32 @@ class Connection(asyncio.Protocol):
         except Unfit as unfit:
             self.refuse(unfit)
         except Exception:
-            traceback.print_exc()
-            self.transport.abort()
+            mention(traceback.format_exc())
+            self.cut()
 
     def refuse(self, unfit: Unfit) -> None:
-        self.send(refusal(unfit.status), last=True)
+        self.send(self.others.desk.refusal(unfit.status, unfit.more), last=True)
 
     def send(self, reply: Reply, last: bool) -> None:
+        bare = self.under_way is not None and self.under_way.method == 'HEAD'
         self.under_way = None
-        if self.transport.is_closing():
+        if self.transport is None or self.transport.is_closing():
             return
-        self.others.heard_of(self)
-        self.transport.write(reply.spelled(last))
+        self.others.room.heard_of(self)
+        self.transport.write(reply.spelled(last, self.others.desk.always, bare))
         if last:
             self.end()
         elif self.unread or self.ended:
-            self.others.loop.call_soon(self.look)
+            self.look_soon()
 
     def end(self) -> None:
         """Says no more. What still comes in is not looked at; to close at once could cost the other side a reply."""
         self.over, self.unread = True, b''
-        if self.ended:
+        if self.transport is None:
+            return
+        if self.ended or not self.transport.can_write_eof():
             self.transport.close()
         else:
             self.transport.resume_reading()
             with contextlib.suppress(OSError):  # the other side may be gone
                 self.transport.write_eof()
-
-
-class Connections:
-    """Those that are open, with the time since when each is silent, the longest first; and who answers requests, until
-    it is closed."""
-
-    def __init__(self, loop: asyncio.AbstractEventLoop, answer: Callable[[Connection], Reply | None]):
-        self.loop, self.answer, self.closed = loop, answer, False
-        self.since: dict[Connection, float] = {}
-        self.cut_off()
-
-    def heard_of(self, connection: Connection) -> None:
-        self.since.pop(connection, None)
-        self.since[connection] = self.loop.time()
-
-    def make_room(self) -> None:
-        """Ends the connection that was silent longest, if there is no room for one more."""
-        if len(self.since) >= MOST:
-            silent = (connection for connection in self.since if not connection.under_way)
-            ended = next(silent, next(iter(self.since)))
-            del self.since[ended]
-            ended.transport.abort()
-
-    def cut_off(self) -> None:
-        """Ends all that were silent too long, now and again and again."""
-        early = self.loop.time() - IDLE
-        for connection, since in self.since.items():
-            if since < early and not connection.under_way:
-                connection.transport.abort()
-        self.loop.call_later(IDLE / 4, self.cut_off)

@@ -9,12 +9,13 @@ import time
 from dataclasses import dataclass
 from http import HTTPStatus
 
-# The most bytes of a head, headers in it, and bytes of a body.
-HEAD, MANY, LONGEST = 1 << 14, 100, 64
+# The most bytes of a head, headers in it, and bytes of a body: every gap of a full-size paper has room in it.
+HEAD, MANY, LONGEST = 1 << 14, 100, 1024
 TOKEN = rb"[!#$%&'*+.^_`|~0-9A-Za-z-]+"
 LINE = re.compile(rb'(%b) ([!-~]+) HTTP/([0-9]\.[0-9])' % TOKEN)
 HEADER = re.compile(rb'(%b):([\t -~\x80-\xff]*)' % TOKEN)
-METHODS, VERSIONS = ('GET', 'POST'), ('1.0', '1.1')
+WHOLE = re.compile('(https?://[^/?#]+)(/.*)?', re.I)
+METHODS, VERSIONS = ('GET', 'HEAD', 'POST', 'PUT', 'DELETE', 'OPTIONS', 'TRACE', 'CONNECT', 'PATCH'), ('1.0', '1.1')
 HEADERS = '''Server: desk
 Content-Security-Policy: default-src 'none'; script-src 'self'; style-src 'self'; connect-src 'self'; \
 form-action 'self'; base-uri 'none'; frame-ancestors 'none'
@@ -22,26 +23,34 @@ X-Content-Type-Options: nosniff
 Referrer-Policy: same-origin
 Cache-Control: no-store
 Cross-Origin-Resource-Policy: same-origin
+Cross-Origin-Opener-Policy: same-origin
 '''
-LAST = 'Connection: close\n'
+LAST, END = 'Connection: close\n', b'\r\n'
 
 
 class Unfit(Exception):
-    """A request that is refused, and the status that says why."""
+    """A request that is refused, the status that says why, and further headers, a line each."""
 
-    def __init__(self, status: HTTPStatus):
+    def __init__(self, status: HTTPStatus, more: str = ''):
         super().__init__(status)
-        self.status = status
+        self.status, self.more = status, more
 
 
 @dataclass(frozen=True)
 class Request:
-    """A request: headers by their names in small letters, each with all its values; whether it is the last."""
+    """A request: whom it names before its path, if it does; headers by their names in small letters, each with all its
+    values; whether it is the last."""
     method: str
+    named: str
     path: str
     headers: dict[str, list[str]]
     body: str
     last: bool
+
+    def header(self, name: str) -> str | None:
+        """The value of a header that is told once."""
+        values = self.headers.get(name, [])
+        return values[0] if len(values) == 1 else None
 
 
 @dataclass(frozen=True)
@@ -52,11 +61,11 @@ class Reply:
     body: bytes
     more: str = ''
 
-    def spelled(self, last: bool) -> bytes:
-        """Its bytes; the last of a connection says so."""
-        head = (f'HTTP/1.1 {self.status.value} {self.status.phrase}\nDate: {date(int(time.time()))}\n{HEADERS}'
+    def spelled(self, last: bool, more: str = '', bare: bool = False) -> bytes:
+        """Its bytes, with still more headers; the last of a connection says so, and a bare one has no body."""
+        head = (f'HTTP/1.1 {self.status.value} {self.status.phrase}\nDate: {date(int(time.time()))}\n{HEADERS}{more}'
                 f'{self.more}{LAST if last else ""}Content-Type: {self.kind}\nContent-Length: {len(self.body)}\n\n')
-        return head.replace('\n', '\r\n').encode() + self.body
+        return head.replace('\n', '\r\n').encode() + (b'' if bare else self.body)
 
 
 @functools.lru_cache(1)
@@ -64,42 +73,41 @@ def date(second: int) -> str:
     return email.utils.formatdate(second, usegmt=True)
 
 
-def refusal(status: HTTPStatus) -> Reply:
-    """A refusal. It says nothing of what was asked."""
-    return Reply(status, 'text/plain; charset=utf-8', f'{status.value} {status.phrase}\n'.encode())
-
-
 def request_in(data: bytes, ended: bool) -> tuple[Request, int] | None:
-    """The request that the data begin with, and its length; None while more has to come. Unfit refuses it."""
-    end = data.find(b'\r\n\r\n', 0, HEAD)
+    """The request that the data begin with, and its length; None while more has to come. Unfit refuses it. An empty
+    line before it is passed over, as the standard has it."""
+    skipped = len(END) if data.startswith(END) else 0
+    end = data.find(END + END, skipped, HEAD)
     if end < 0:
         if len(data) >= HEAD:
-            raise Unfit(HTTPStatus.REQUEST_HEADER_FIELDS_TOO_LARGE if b'\r\n' in data[:HEAD] else
+            raise Unfit(HTTPStatus.REQUEST_HEADER_FIELDS_TOO_LARGE if END in data[skipped:HEAD] else
                         HTTPStatus.REQUEST_URI_TOO_LONG)
-        if ended or data.count(b'\n') > data.count(b'\r\n'):
+        if ended or data.count(b'\n') > data.count(END):
             raise Unfit(HTTPStatus.BAD_REQUEST)
         return None
-    method, path, version, headers = head_of(data[:end])
+    method, target, version, headers = head_of(data[skipped:end])
     length = length_of(method, headers)
-    begin = end + len(b'\r\n\r\n')
+    begin = end + len(END + END)
     body = data[begin:begin + length]
     if len(body) < length and not ended:
         return None
     if len(body) < length or not body.isascii():
         raise Unfit(HTTPStatus.BAD_REQUEST)
     last = version == '1.0' or 'close' in ','.join(headers.get('connection', [])).lower()
-    return Request(method, path, headers, body.decode(), last), begin + length
+    whole = WHOLE.fullmatch(target)
+    named, path = (whole[1].lower(), whole[2] or '/') if whole else ('', target)
+    return Request(method, named, path, headers, body.decode(), last), begin + length
 
 
 def head_of(head: bytes) -> tuple[str, str, str, dict[str, list[str]]]:
-    """Method, path, version and headers of a request."""
-    first, *rest = head.split(b'\r\n')
+    """Method, target, version and headers of a request."""
+    first, *rest = head.split(END)
     if len(rest) > MANY:
         raise Unfit(HTTPStatus.REQUEST_HEADER_FIELDS_TOO_LARGE)
     line, lines = LINE.fullmatch(first), [header for header in map(HEADER.fullmatch, rest) if header]
     if line is None or len(lines) < len(rest):
         raise Unfit(HTTPStatus.BAD_REQUEST)
-    method, path, version = (part.decode() for part in line.groups())
+    method, target, version = (part.decode() for part in line.groups())
     headers: dict[str, list[str]] = {}
     for name, value in (header.groups() for header in lines):
         headers.setdefault(name.decode().lower(), []).append(value.strip(b' \t').decode('latin-1'))
@@ -107,12 +115,12 @@ def head_of(head: bytes) -> tuple[str, str, str, dict[str, list[str]]]:
         raise Unfit(HTTPStatus.HTTP_VERSION_NOT_SUPPORTED)
     if method not in METHODS:
         raise Unfit(HTTPStatus.NOT_IMPLEMENTED)
-    return method, path, version, headers
+    return method, target, version, headers
 
 
 def length_of(method: str, headers: dict[str, list[str]]) -> int:
     """The length of a body, which is told, and short."""
-    lengths = headers.get('content-length', ['0'] if method == 'GET' else [])
+    lengths = headers.get('content-length', [] if method == 'POST' else ['0'])
     if 'expect' in headers:
         raise Unfit(HTTPStatus.EXPECTATION_FAILED)
     if 'transfer-encoding' in headers or len(lengths) != 1:

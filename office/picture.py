@@ -14,11 +14,12 @@ from office.words import ranges
 
 ROW, INDENT, MARGIN, LABEL, LEFT = 44, 30, 10, 172, 52
 NARROWEST, CAPTION, TITLE = 560, 460, 1000
+UNCUT = ' u'
 INK, PALE, BLUE, BROWN, RED = '#17202a', '#5b6875', '#00619a', '#a34700', '#b3001e'
 SHADES = ['#f3f6f9', '#e4ebf2', '#d5e0ea', '#c6d5e3', '#b8cadb', '#a9bfd4', '#9bb4cc', '#8da9c5']
-SIGNS = ['Small numbers are gaps, in the column of the loop they belong to.',
-         'A black bar is a barrier; a dot marks each dependence that it cuts. A hollow number: uncut.',
-         'A dashed line goes round to the next turn of the loop.']
+GAP_SIGN = 'Small numbers are gaps, in the column of the loop they belong to.'
+BAR_SIGN = 'A black bar is a barrier; a dot marks each dependence that it cuts. A hollow number: uncut.'
+TURN_SIGN = 'A dashed line goes round to the next turn of the loop.'
 BARRED_SIGN = 'A red band of strokes is a barred gap: no barrier may stand there.'
 FLAGGED_SIGN = 'A dashed box is a loop that may not run.'
 STYLE = f'''
@@ -59,6 +60,7 @@ def rows_of(paper: Paper, x: Dependence) -> tuple[int, int]:
 
 class Picture:
     """Drawn piece by piece into a list of elements."""
+    bar_sign = BAR_SIGN
 
     def __init__(self, paper: Paper, placed: Placed, name: str, missing: tuple[int, ...] = ()):
         self.paper, self.barriers, self.counts, self.missing = paper, placed.gaps, placed.counts, missing
@@ -155,13 +157,17 @@ class Picture:
     def barrier(self, gap: int) -> None:
         left, right = self.edges(self.paper.owner[gap])
         y, middle = self.gap_y(gap), left + INDENT / 2
-        cut = sorted(self.x(i, gap) for i, x in enumerate(self.paper.dependences) if gap in x.gaps)
+        cut = self.cut_at(gap)
         self.add('path', cls='on', d=f'M{right:g} {y:g}H{max(cut, default=right):g}')
         self.add('path', cls='bar', d=f'M{left + 4:g} {y:g}H{right - 4:g}')
         self.add('rect', x=middle - 14, y=y - 9, width=28, height=18, rx=9, fill=INK)
         self.label(middle, y, gap, 'word middle bold white', 12)
         if cut:
             self.dots(cut, y)
+
+    def cut_at(self, gap: int) -> list[float]:
+        """Where the dependences run that a barrier cuts, from left to right."""
+        return sorted(self.x(i, gap) for i, x in enumerate(self.paper.dependences) if gap in x.gaps)
 
     def dots(self, places: list[float], y: float) -> None:
         """A dot at each place: a line of dots where one stands in each lane."""
@@ -206,7 +212,7 @@ class Picture:
         """A dependence's number in some places; hollow if no barrier cuts it."""
         dependence = self.paper.dependences[number]
         is_cut = bool(self.cutting(dependence))
-        self.open_badges(number, ('i' if dependence.d is None else 'c') + ('' if is_cut else ' u'))
+        self.open_badges(number, ('i' if dependence.d is None else 'c') + ('' if is_cut else UNCUT))
         for x, y in places:
             self.add('circle', cls='b', cx=x, cy=y, r=self.radius)
             self.label(x, y, number, 'n', self.digits)
@@ -229,7 +235,8 @@ class Picture:
 
     def signs(self) -> list[str]:
         """What the signs mean that the picture has, and the loops that need a barrier for their missing run."""
-        lines = [*SIGNS, *[BARRED_SIGN] * bool(self.paper.barred), *[FLAGGED_SIGN] * bool(self.paper.flagged)]
+        lines = [GAP_SIGN, self.bar_sign, TURN_SIGN, *[BARRED_SIGN] * bool(self.paper.barred),
+                 *[FLAGGED_SIGN] * bool(self.paper.flagged)]
         if self.missing:
             many = len(self.missing) > 1
             lines.append(f'{"Loops" if many else "Loop"} {ranges(list(self.missing))} '

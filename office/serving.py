@@ -1,111 +1,133 @@
 """The page of a hall over HTTP: a few fixed routes, each candidate known by a cookie, and nothing else is answered.
 
 No file is served: the pieces of the page are read once. A body has a few bytes, and only whitelisted words are moves.
+Every request of a page says whose page it is; of a page that is no longer the cookie's, nothing is done.
 """
 import asyncio
 import concurrent.futures
 import functools
-import html
+import hashlib
 import json
 import re
 import signal
 import socket
-import string
+import ssl
+import urllib.parse
 from collections.abc import Callable
 from dataclasses import dataclass
 from http import HTTPStatus
-from typing import TypeVar
 
-from office.board import Board
+from office.called import Called
 from office.candidates import ticket_in
-from office.command import ROOT
+from office.command import mention
 from office.connection import Connection, Connections
+from office.door import Door
 from office.hall import Declined, Hall, Kept
 from office.messages import Reply, Request, Unfit
-from office.paper import Paper
-from office.show import listing_of
+from office.pages import CSS, SCRIPT, Pages
+from office.room import most_connections
 from office.sittings import HAND_IN, MOVE, Sitting
+from office.told import sitting_told
 
-Sense = TypeVar('Sense')
-SERVED = ROOT / 'office' / 'served'
-COOKIE, HTTP_PORT, WAITING = 'ticket', 80, 512
-HANDS_IN = re.compile(f'{HAND_IN} ([0-9]{{1,9}})')
-HTML, CSS, SCRIPT, DATA = ('text/html; charset=utf-8', 'text/css; charset=utf-8', 'text/javascript; charset=utf-8',
-                           'application/json')
+DATA, HTML = 'application/json', 'text/html; charset=utf-8'
+ASKED = re.compile('(.*) at ([0-9]{1,9})')
+HANDS_IN = re.compile(f'{HAND_IN}((?: [1-9][0-9]{{0,2}})*)')
+MOVED_ON = ('Not done: the sitting was changed in another window, or by a click that came late. Look at it as it is '
+            'now.')
 NO_TICKET = 'This ticket is not known here. Look whether it is typed as it was handed out.'
-
-
-def template(name: str) -> string.Template:
-    return string.Template((SERVED / name).read_text())
-
-
-class Pages:
-    """The pieces of the page, made once for a paper."""
-
-    def __init__(self, board: Board, paper: Paper, name: str):
-        self.ticket = template('ticket.html')
-        self.sitting = string.Template(template('sitting.html').safe_substitute(
-            paper=html.escape(name).replace('$', '$$'), board=board.svg(), dependences=board.told(),
-            signs=html.escape(' '.join(board.signs())), listing=html.escape(listing_of(paper))))
-        self.style = (board.style() + (SERVED / 'hall.css').read_text()).encode()
-        self.script = (SERVED / 'sitting.js').read_bytes()
+STRICT = 'Strict-Transport-Security: max-age=86400\n'
+ENDS, LOOK, DIGITS = (signal.SIGINT, signal.SIGTERM, signal.SIGHUP), 1, 16
 
 
 @dataclass(frozen=True)
 class Made:
-    """Something that was made and is to be kept before it is told, to whom, and by which reply."""
+    """Something that was made and is to be kept before it is told, to whom, what is said when it is kept, and what with
+    the words why it is not."""
     connection: Connection
     sitting: Sitting
-    reply: Callable[[], Reply]
+    kept: Callable[[], Reply]
+    unkept: Callable[[str], Reply]
 
 
 class Server:
-    """Listens for candidates. The names are those by which they may call it.
+    """Listens for candidates. One thread answers, and one writes files. Whoever asks about a sitting of which something
+    is not kept yet waits for that."""
 
-    One thread answers, and one writes files. Whoever asks about a sitting of which something is not kept yet, or has no
-    file yet, waits for that.
-    """
-
-    def __init__(self, address: tuple[str, int], names: list[str], hall: Hall, pages: Pages):
-        self.listening = socket.socket()
-        self.listening.setsockopt(socket.SOL_SOCKET, socket.SO_REUSEADDR, 1)
-        self.listening.bind(address)
-        self.listening.listen(WAITING)
-        self.port = self.listening.getsockname()[1]
-        self.hall, self.pages = hall, pages
-        self.hosts = {f'{name}:{self.port}' for name in names}
-        if self.port == HTTP_PORT:
-            self.hosts |= {*names}
+    def __init__(self, listening: socket.socket, tls: ssl.SSLContext | None, called: Called, hall: Hall, pages: Pages,
+                 practice: bool):
+        self.listening, self.tls, self.called = listening, tls, called
+        self.hall, self.pages, self.practice = hall, pages, practice
+        self.always = STRICT if called.secure else ''
         self.made: list[Made] = []
         self.seen = 0
         self.waiting: dict[str, list[Connection]] = {}
-
-    def serve(self) -> None:
-        """Serves until Ctrl-C. What was asked for before is still kept and told, and files are written."""
         self.loop = asyncio.new_event_loop()
         self.loop.set_default_executor(concurrent.futures.ThreadPoolExecutor(1))
-        connections = Connections(self.loop, self.answer)
-        self.loop.run_until_complete(self.loop.create_server(
-            lambda: Connection(connections), sock=self.listening, backlog=WAITING))
+        self.loop.set_exception_handler(lambda _, fault: mention(f'{fault.get("message")}: {fault.get("exception")!r}'))
+
+    def serve(self) -> None:
+        """Serves until Ctrl-C, or a signal that asks for the same. What was asked for before is still kept and told."""
+        connections = Connections(self.loop, self, most_connections(), self.tls)
+        door = Door(self.loop, self.listening, connections)
+        ends = [number for number in ENDS if number == signal.SIGINT or signal.getsignal(number) != signal.SIG_IGN]
+        for number in ends:  # Ctrl-C also where a script in the background started it
+            self.loop.add_signal_handler(number, self.loop.stop)
         self.look()
-        self.loop.add_signal_handler(signal.SIGINT, self.loop.stop)  # also where a script in the background started it
         self.loop.run_forever()
+        for number in ends:
+            self.loop.remove_signal_handler(number)
+        door.close()
+        connections.turns.finish()
         connections.closed = True
         if self.made:
             self.settle()
         self.loop.run_until_complete(self.loop.shutdown_default_executor())
-        self.loop.close()
+
+    def look(self) -> None:
+        """Has the hall look after its log and its files, now and again and again."""
+        self.hall.look()
+        self.write_files()
+        self.loop.call_later(LOOK, self.look)
+
+    def write_files(self) -> None:
+        if self.hall.due:
+            self.loop.run_in_executor(None, self.hall.write_files)
+
+    # ---- Requests
+
+    def whose(self, request: Request) -> str | None:
+        """The candidate who asks."""
+        sitting = self.sitting_of(request)
+        return sitting.candidate if sitting else None
+
+    def refusal(self, status: HTTPStatus, more: str) -> Reply:
+        return self.pages.refusal(status, more)
 
     def answer(self, connection: Connection) -> Reply | None:
         """Answers a request that comes by the right name, on a route. None says that the reply comes later."""
         request = connection.request
-        host, origin = request.headers.get('host', []), request.headers.get('origin', [])
-        if len(host) != 1 or host[0] not in self.hosts or origin not in ([], [f'http://{host[0]}']):
+        if not self.called.calls(request):
             raise Unfit(HTTPStatus.MISDIRECTED_REQUEST)
-        route = ROUTES.get((request.method, request.path))
-        if route is None:
+        if request.path not in ROUTES:
             raise Unfit(HTTPStatus.NOT_FOUND)
+        method, route = ROUTES[request.path]
+        if request.method != method and (request.method, method) != ('HEAD', 'GET'):
+            raise Unfit(HTTPStatus.METHOD_NOT_ALLOWED, f'Allow: {"GET, HEAD" if method == "GET" else method}\n')
         return route(self, connection)
+
+    def ticket_of(self, request: Request) -> str:
+        """The ticket in the cookie."""
+        cookies = [part.strip().partition('=') for part in ';'.join(request.headers.get('cookie', [])).split(';')]
+        tickets = [value for name, _, value in cookies if name == self.called.cookie]
+        return tickets[0] if len(tickets) == 1 else ''
+
+    def sitting_of(self, request: Request) -> Sitting | None:
+        """The sitting of the candidate who asks."""
+        return self.hall.sitting_with(self.ticket_of(request))
+
+    def is_page_of(self, request: Request, told: str | None) -> bool:
+        """Whether the page that asks is that of the cookie's candidate."""
+        return told == token_of(self.ticket_of(request))
 
     # ---- What is made, and kept before it is told
 
@@ -126,127 +148,139 @@ class Server:
             self.settle()
 
     def settle(self) -> None:
-        """Keeps what was made, and tells of it. What was handed in is written by another thread meanwhile."""
+        """Keeps what was made, and tells of it; then those are answered who wait for it."""
         made, self.made, self.seen = self.made, [], 0
         kept = self.hall.keep()
         for one in made:
-            if kept is Kept.DONE:
-                self.tell(one, one.reply)
-            else:
-                self.tell(one, functools.partial(about, one.sitting, HTTPStatus.CONFLICT, kept.words))
+            reply: Callable[[], Reply] = functools.partial(one.unkept, kept.words)
+            one.connection.tell(one.kept if kept is Kept.DONE else reply)
+            for other in self.waiting.pop(one.sitting.candidate):
+                other.answer()
         self.write_files()
-
-    def look(self) -> None:
-        """Once a second: is the log still there as it was, and can files be written that could not?"""
-        self.hall.look()
-        self.write_files()
-        self.loop.call_later(1, self.look)
-
-    def write_files(self) -> None:
-        if self.hall.due:
-            self.loop.run_in_executor(None, self.hall.write_files)
-
-    def tell(self, made: Made, reply: Callable[[], Reply]) -> None:
-        """Tells of something; then those are answered who wait for it."""
-        made.connection.tell(reply)
-        for other in self.waiting.pop(made.sitting.candidate):
-            other.tell(functools.partial(self.answer, other))
 
     # ---- The routes
 
     def page(self, connection: Connection) -> Reply:
         sitting = self.sitting_of(connection.request)
         if sitting is None:
-            return self.asks_ticket()
-        body = self.pages.sitting.substitute(candidate=html.escape(sitting.name)).encode()
-        return Reply(HTTPStatus.OK, HTML, body)
+            return self.pages.asks_ticket()
+        return self.pages.of_sitting(sitting.name, token_of(self.ticket_of(connection.request)))
+
+    def another(self, connection: Connection) -> Reply:
+        sitting = self.sitting_of(connection.request)
+        return self.pages.another(sitting.name if sitting else None)
 
     def style(self, _: Connection) -> Reply:
-        return Reply(HTTPStatus.OK, CSS, self.pages.style)
+        return Reply(HTTPStatus.OK, CSS, self.pages.css)
 
     def script(self, _: Connection) -> Reply:
         return Reply(HTTPStatus.OK, SCRIPT, self.pages.script)
 
     def enter(self, connection: Connection) -> Reply | None:
-        field, _, typed = connection.request.body.replace('+', ' ').partition('=')
-        ticket = ticket_in(typed) if field == COOKIE else None
-        sitting = self.hall.sitting_with(ticket) if ticket else None
-        if sitting is None or ticket is None:
-            return self.asks_ticket(NO_TICKET)
-        if not self.waits(connection, sitting):
-            self.hall.enter(sitting, connection.machine)
-            self.keep_soon(Made(connection, sitting, functools.partial(with_cookie, ticket)))
-        return None
+        ticket = ticket_in(field_in(connection.request.body, 'ticket')) or ''
+        sitting = self.hall.sitting_with(ticket)
+        if sitting is None:
+            return self.pages.asks_ticket(NO_TICKET)
+
+        def enter(sitting: Sitting, machine: str) -> Made:
+            self.hall.enter(sitting, machine)
+            return Made(connection, sitting, lambda: self.with_cookie(ticket), self.pages.asks_ticket)
+
+        return self.done(connection, sitting, enter)
 
     def leave(self, connection: Connection) -> Reply | None:
+        """Forgets the ticket, unless the page is not that of the cookie's candidate."""
         sitting = self.sitting_of(connection.request)
         if sitting is None:
-            return with_cookie('')
-        if not self.waits(connection, sitting):
-            self.hall.leave(sitting, connection.machine)
-            self.keep_soon(Made(connection, sitting, functools.partial(with_cookie, '')))
-        return None
+            return self.with_cookie('')
+        if not self.is_page_of(connection.request, field_in(connection.request.body, 'sitting')):
+            return self.pages.another(sitting.name)
+
+        def leave(sitting: Sitting, machine: str) -> Made:
+            self.hall.leave(sitting, machine)
+            return Made(connection, sitting, lambda: self.with_cookie(''), lambda _: self.with_cookie(''))
+
+        return self.done(connection, sitting, leave)
 
     def now(self, connection: Connection) -> Reply | None:
-        return self.asked(connection, True, lambda sitting, _: about(sitting, HTTPStatus.OK, ''))
+        return self.asked(connection, lambda sitting, _: self.about(sitting, HTTPStatus.OK, ''))
 
     def move(self, connection: Connection) -> Reply | None:
-        def make(sitting: Sitting, move: re.Match[str]) -> None:
-            said = self.hall.move(sitting, move[0], connection.machine)
-            self.keep_soon(Made(connection, sitting, functools.partial(about, sitting, HTTPStatus.OK, said)))
+        asked = ASKED.fullmatch(connection.request.body)
+        move = MOVE.fullmatch(asked[1]) if asked else None
 
-        return self.asked(connection, MOVE.fullmatch(connection.request.body), make)
+        def make(sitting: Sitting, machine: str) -> Made:
+            assert asked and move
+            if int(asked[2]) != sitting.moves and not sitting.handed_in:
+                raise Declined(MOVED_ON)
+            return self.telling(connection, sitting, self.hall.move(sitting, move[0], machine))
+
+        return self.asked(connection, make if move else None)
 
     def hand_in(self, connection: Connection) -> Reply | None:
-        def take(sitting: Sitting, asked: re.Match[str]) -> None:
-            said = self.hall.hand_in(sitting, int(asked[1]), sitting.gaps, connection.machine)
-            self.keep_soon(Made(connection, sitting, functools.partial(about, sitting, HTTPStatus.OK, said)))
+        asked = ASKED.fullmatch(connection.request.body)
+        gaps = HANDS_IN.fullmatch(asked[1]) if asked else None
 
-        return self.asked(connection, HANDS_IN.fullmatch(connection.request.body), take)
+        def take(sitting: Sitting, machine: str) -> Made:
+            assert asked and gaps
+            return self.telling(connection, sitting, self.hall.hand_in(
+                sitting, int(asked[2]), [*map(int, gaps[1].split())], machine))
 
-    def asked(self, connection: Connection, sense: Sense | None,
-              act: Callable[[Sitting, Sense], Reply | None]) -> Reply | None:
-        """Does something to the sitting of the candidate who asks, if it has sense, as soon as all of it is kept."""
-        sitting = self.sitting_of(connection.request)
-        if sitting is None or sense is None:
-            return Reply(HTTPStatus.FORBIDDEN if sitting is None else HTTPStatus.BAD_REQUEST, DATA, b'{}')
-        if self.waits(connection, sitting):
+        return self.asked(connection, take if gaps else None)
+
+    def telling(self, connection: Connection, sitting: Sitting, said: str) -> Made:
+        return Made(connection, sitting, lambda: self.about(sitting, HTTPStatus.OK, said),
+                    lambda why: self.about(sitting, HTTPStatus.CONFLICT, why))
+
+    def asked(self, connection: Connection, act: Callable[[Sitting, str], Made | Reply] | None) -> Reply | None:
+        """Does what the page of a candidate asks for, if it has sense."""
+        request = connection.request
+        sitting = self.sitting_of(request)
+        if sitting is None or not self.is_page_of(request, request.header('sitting')):
+            return Reply(HTTPStatus.FORBIDDEN, DATA, b'{}')
+        if act is None:
+            return Reply(HTTPStatus.BAD_REQUEST, DATA, b'{}')
+        return self.done(connection, sitting, act)
+
+    def done(self, connection: Connection, sitting: Sitting,
+             act: Callable[[Sitting, str], Made | Reply]) -> Reply | None:
+        """Does something to a sitting, as soon as all of it is kept; what was made is kept before it is told."""
+        if sitting.candidate in self.waiting:
+            self.waiting[sitting.candidate].append(connection)
             return None
         try:
-            return act(sitting, sense)
+            made = act(sitting, self.called.machine(connection.address, connection.request))
         except Declined as declined:
-            return about(sitting, HTTPStatus.CONFLICT, str(declined))
+            return self.about(sitting, HTTPStatus.CONFLICT, str(declined))
+        if isinstance(made, Reply):
+            return made
+        self.keep_soon(made)
+        return None
 
-    def waits(self, connection: Connection, sitting: Sitting) -> bool:
-        """Whether something of the sitting is not kept yet, for which this has to wait."""
-        waiting = self.waiting.get(sitting.candidate)
-        if waiting is not None:
-            waiting.append(connection)
-        return waiting is not None
+    def about(self, sitting: Sitting, status: HTTPStatus, said: str) -> Reply:
+        """The whole of a sitting that may be told, and what is said."""
+        told = sitting_told(sitting, said, self.practice)
+        return Reply(status, DATA, json.dumps(told, separators=(',', ':')).encode())
 
-    def sitting_of(self, request: Request) -> Sitting | None:
-        """The sitting of the candidate who asks."""
-        cookies = [part.strip().partition('=') for part in ';'.join(request.headers.get('cookie', [])).split(';')]
-        tickets = [value for name, _, value in cookies if name == COOKIE]
-        return self.hall.sitting_with(tickets[0]) if len(tickets) == 1 else None
-
-    def asks_ticket(self, said: str = '') -> Reply:
-        body = self.pages.ticket.substitute(said=html.escape(said)).encode()
-        return Reply(HTTPStatus.FORBIDDEN, HTML, body)
+    def with_cookie(self, value: str) -> Reply:
+        """Sends the browser to the page with a ticket, or with none."""
+        ends = ('; Secure' if self.called.secure else '') + ('' if value else '; Max-Age=0')
+        cookie = f'{self.called.cookie}={value}; HttpOnly; SameSite=Strict; Path=/{ends}'
+        return Reply(HTTPStatus.SEE_OTHER, HTML, b'', f'Location: /\nSet-Cookie: {cookie}\n')
 
 
-ROUTES = {('GET', '/'): Server.page, ('GET', '/hall.css'): Server.style, ('GET', '/sitting.js'): Server.script,
-          ('GET', '/sitting'): Server.now, ('POST', '/enter'): Server.enter, ('POST', '/leave'): Server.leave,
-          ('POST', '/move'): Server.move, ('POST', '/hand-in'): Server.hand_in}
+ROUTES: dict[str, tuple[str, Callable[[Server, Connection], Reply | None]]] = {
+    '/': ('GET', Server.page), '/another': ('GET', Server.another), '/hall.css': ('GET', Server.style),
+    '/sitting.js': ('GET', Server.script), '/sitting': ('GET', Server.now), '/enter': ('POST', Server.enter),
+    '/leave': ('POST', Server.leave), '/move': ('POST', Server.move), '/hand-in': ('POST', Server.hand_in)}
 
 
-def with_cookie(value: str) -> Reply:
-    """Sends the browser to the page with a ticket, or with none."""
-    ends = '' if value else '; Max-Age=0'
-    cookie = f'{COOKIE}={value}; HttpOnly; SameSite=Strict; Path=/{ends}'
-    return Reply(HTTPStatus.SEE_OTHER, HTML, b'', f'Location: /\nSet-Cookie: {cookie}\n')
+def token_of(ticket: str) -> str:
+    """What a page says that is of a ticket. It tells nothing of the ticket."""
+    return hashlib.sha256(f'page of {ticket}'.encode()).hexdigest()[:DIGITS]
 
 
-def about(sitting: Sitting, status: HTTPStatus, said: str) -> Reply:
-    """The whole of a sitting, and what is said."""
-    return Reply(status, DATA, json.dumps(sitting.told(said), separators=(',', ':')).encode())
+def field_in(body: str, name: str) -> str:
+    """The field of a form that has this one."""
+    fields = urllib.parse.parse_qs(body, keep_blank_values=True, max_num_fields=1) if body.count('&') == 0 else {}
+    return fields.get(name, [''])[0]

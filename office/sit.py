@@ -6,6 +6,7 @@ import signal
 
 from office.asked import PAPER_HELP, loaded
 from office.board import Board
+from office.called import Called, called_by, is_everywhere, is_here, name_of
 from office.candidates import candidates_in
 from office.command import Fault, printable, write_out
 from office.hall import TICKETS, Hall
@@ -17,40 +18,79 @@ MORE = """Each candidate gets a ticket. The answers handed in are files that ./d
 the same command goes on where it was. docs/HALL.md tells the person in charge more.
 
   ./desk sit paper.hex --candidates names.txt --answers answers
+  ./desk sit paper.hex --candidates names.txt --answers answers --practice
+  ./desk sit paper.hex --candidates names.txt --answers answers --bind 0.0.0.0 --name hall.example \\
+      --certificate hall.crt --key hall.key
 """
-HERE, EVERYWHERE, PORT = '127.0.0.1', '0.0.0.0', 8000
+HERE, PORT = '127.0.0.1', 8000
 
 
 def arguments(parser: argparse.ArgumentParser) -> None:
     parser.add_argument('paper', metavar='PAPER', help=PAPER_HELP)
-    parser.add_argument('--candidates', metavar='FILE', required=True,
+    parser.add_argument('--candidates', metavar='FILE', required=True, 
                         help='the candidates: an id a line, or CSV with the columns id, name, minutes, paper')
     parser.add_argument('--answers', metavar='DIR', required=True,
                         help='where answers (DIR/NAME.hex), tickets and the log of moves are kept')
+    parser.add_argument('--practice', action='store_true',
+                        help='tells also which dependences are cut; without it only how many are not')
     parser.add_argument('--bind', metavar='ADDRESS', default=HERE,
                         help=f'the address to listen at ({HERE}, which no other machine reaches)')
     parser.add_argument('--port', metavar='N', type=int, default=PORT,
                         help=f'the port ({PORT}); 0 for any that is free')
     parser.add_argument('--name', metavar='NAME', action='append', default=[],
                         help='a name or an address by which candidates call this machine; may be given again')
+    parser.add_argument('--certificate', metavar='FILE', help='encrypts (TLS) with this certificate, in PEM')
+    parser.add_argument('--key', metavar='FILE', help="the certificate's key, in PEM")
+    parser.add_argument('--address', metavar='URL', help='what candidates call, where that is something in front of '
+                        'the hall: https://hall.example')
+
+
+def hold_standard_files() -> None:
+    """Opens what is closed of standard input, output and error on nothing: no file of the hall may take its place."""
+    for number in range(3):
+        try:
+            os.fstat(number)
+        except OSError:
+            os.open(os.devnull, os.O_RDWR)  # the lowest number that is free
+
+
+def called(asked: argparse.Namespace, port: int) -> Called:
+    """How candidates call the hall that listens at a port."""
+    if asked.address is not None:
+        return called_by(asked.address)
+    names = [*asked.name, asked.bind, *['localhost'] * is_here(asked.bind)]
+    return Called('https' if asked.certificate else 'http', tuple(map(name_of, names)), port)
+
+
+def look_at(asked: argparse.Namespace) -> None:
+    """Refuses what does not go together, before anything is opened."""
+    if is_everywhere(asked.bind) and not asked.name and asked.address is None:
+        raise Fault(f'with --bind {asked.bind} say by --name how candidates call this machine')
+    if asked.address is not None and asked.name:
+        raise Fault('--address says how candidates call the hall: --name has no place beside it')
+    if bool(asked.certificate) != bool(asked.key):
+        raise Fault('--certificate and --key go together')
+    if called(asked, PORT).scheme == 'http' and asked.certificate:
+        raise Fault('with --certificate the hall is called by https, and --address says http')
 
 
 def main(asked: argparse.Namespace) -> None:
-    from office.serving import Pages, Server  # takes long to load, and no other command needs it
-    if asked.bind == EVERYWHERE and not asked.name:
-        raise Fault(f'with --bind {EVERYWHERE} say by --name how candidates call this machine')
+    from office.door import listening_at, tls_with  # these take long to load, and no other command needs them
+    from office.pages import Pages
+    from office.serving import Server
+    hold_standard_files()
+    look_at(asked)
     os.umask(0o077)  # what is kept is nobody else's to read
     desk, text = loaded(asked.paper)
     paper, name = paper_on(desk), printable(pathlib.Path(asked.paper).stem)
-    pages = Pages(Board(paper, placed(desk, b''), name), paper, name)
-    names = [*asked.name, asked.bind, *['localhost'] * (asked.bind == HERE)]
-    with Hall(text, candidates_in(asked.candidates, [name]), asked.answers) as hall:
-        try:
-            server = Server((asked.bind, asked.port), names, hall, pages)
-        except (OSError, OverflowError) as fault:
-            raise Fault(f'cannot listen at {asked.bind}, port {asked.port}: {fault}') from fault
+    candidates = candidates_in(asked.candidates, [name])
+    tls = tls_with(asked.certificate, asked.key) if asked.certificate else None
+    with listening_at(asked.bind, asked.port) as listening, Hall(text, candidates, asked.answers) as hall:
+        here = called(asked, listening.getsockname()[1])
+        pages = Pages(Board(paper, placed(desk, b''), name, asked.practice), paper, name, here)
+        server = Server(listening, tls, here, hall, pages, asked.practice)
         hall.open()
-        write_out(f'http://{names[0]}:{server.port}/ is open for {counted(len(hall.sittings), "candidate")}, '
+        write_out(f'{here.address} is open for {counted(len(hall.sittings), "candidate")}, '
                   f'{counted(hall.handed_in, "answer")} handed in\n'
                   f'tickets: {printable(os.path.join(asked.answers, TICKETS))}; Ctrl-C ends the sitting\n'.encode())
         signal.signal(signal.SIGPIPE, signal.SIG_IGN)  # a candidate who goes away must not end the hall

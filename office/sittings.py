@@ -98,14 +98,6 @@ class Sitting:
         self.ended = event
         self.given.add(text)
 
-    def told(self, said: str) -> dict[str, object]:
-        """The whole sitting, as the desk has it, and words for what was asked. The cuts are two digits a dependence."""
-        now, cuts = placed(self.desk, self.desk.sitting()), self.desk.cuts
-        state = f'Barriers: {len(now.gaps)}. Dependences uncut: {self.desk.uncut} of {len(cuts)}.'
-        return {'gaps': now.gaps, 'cuts': cuts.hex(), 'counts': [*now.counts.items()], 'moves': self.moves,
-                'handed_in': self.handed_in, 'state': state, 'said': said,
-                'question': f'Hand in {told_gaps(now.gaps)}? {state} Nothing can be changed afterwards.'}
-
 
 class Sittings:
     """All sittings over a paper, by identity, and by the hash of the ticket."""

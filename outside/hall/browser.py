@@ -58,8 +58,8 @@ class Driver:
 class Browser:
     """A browser with cookies of its own."""
 
-    def __init__(self, driver: Driver, wide: int = 1200, high: int = 800):
-        chrome = {'binary': shutil.which('chromium'), 'args': [*OPTIONS, f'--window-size={wide},{high}']}
+    def __init__(self, driver: Driver, wide: int = 1200, high: int = 800, *options: str):
+        chrome = {'binary': shutil.which('chromium'), 'args': [*OPTIONS, f'--window-size={wide},{high}', *options]}
         wanted = {'browserName': 'chrome', 'goog:chromeOptions': chrome, 'goog:loggingPrefs': {'browser': 'ALL'}}
         self.driver = driver
         made = driver.ask('POST', '/session', capabilities={'alwaysMatch': wanted})
@@ -81,6 +81,27 @@ class Browser:
     def click(self, selector: str) -> None:
         """A click with the mouse, in the middle of what is seen of an element."""
         self.ask(f'/element/{self.find(selector)}/click')
+
+    def double_click(self, selector: str) -> None:
+        place = {'type': 'pointerMove', 'origin': {ELEMENT: self.find(selector)}, 'x': 0, 'y': 0}
+        strokes = [{'type': kind, 'button': 0} for kind in ('pointerDown', 'pointerUp') * 2]
+        self.ask('/actions', actions=[{'type': 'pointer', 'id': 'mouse', 'actions': [place, *strokes]}])
+
+    def window(self) -> str:
+        """The window that is in front."""
+        return self.driver.ask('GET', f'{self.path}/window')
+
+    def new_window(self) -> str:
+        """Opens one more window, with the same cookies, in front."""
+        handle = self.ask('/window/new', type='window')['handle']
+        self.go_to(handle)
+        return handle
+
+    def go_to(self, window: str) -> None:
+        self.ask('/window', handle=window)
+
+    def address(self) -> str:
+        return self.driver.ask('GET', f'{self.path}/url')
 
     def press(self, *keys: str, held: str = '') -> None:
         """Keys, one after the other, while one is held down."""

@@ -8,7 +8,7 @@ import signal
 import socket
 import time
 
-from outside.hall.opened import Candidate, Hall
+from outside.hall.opened import Candidate, Hall, hands_in
 from outside.hall.refusing import raw, request, status
 from outside.trying import EXAMPLES, Tally
 
@@ -27,17 +27,17 @@ os.fsync = fsync
 """
 # The sitting of a candidate cannot be told while a file is there.
 FAULT = """
-from office.sittings import Sitting
-told = Sitting.told
-def fails(sitting, said):
+import office.told
+told = office.told.sitting_told
+def fails(sitting, *more):
     if sitting.candidate == 'anna' and os.path.exists({0!r} + '/is at fault'):
         raise ZeroDivisionError('at fault')
-    return told(sitting, said)
-Sitting.told = fails
+    return told(sitting, *more)
+office.told.sitting_told = fails
 """
 LIMIT = """
-import office.connection
-office.connection.{} = {}
+import office.room
+office.room.{} = {}
 """
 # How long a test waits for what must come.
 PATIENCE = 30
@@ -50,14 +50,22 @@ class Line:
         self.hall, self.name = hall, name
         self.made = socket.create_connection(('127.0.0.1', hall.port), timeout=30)
         self.made.setsockopt(socket.IPPROTO_TCP, socket.TCP_NODELAY, 1)
-        self.got = b''
+        self.got, self.moves, self.gaps = b'', 0, []
+        self.whose = ''.join(f'{header}: {value}\r\n' for header, value in hall.whose(name).items())
 
     def spelled(self, method: str, path: str, body: str = '') -> bytes:
         return (f'{method} {path} HTTP/1.1\r\nHost: 127.0.0.1:{self.hall.port}\r\nContent-Length: {len(body)}\r\n'
-                f'Cookie: ticket={self.hall.tickets[self.name]}\r\n\r\n{body}').encode()
+                f'{self.whose}\r\n{body}').encode()
+
+    def spelled_move(self, move: str, at: int) -> bytes:
+        return self.spelled('POST', '/move', f'{move} at {at}')
 
     def click(self, move: str) -> None:
-        self.made.sendall(self.spelled('POST', '/move', move))
+        """Asks for a move, by the sitting that was last told."""
+        self.made.sendall(self.spelled_move(move, self.moves))
+
+    def hand_in(self) -> None:
+        self.made.sendall(self.spelled('POST', '/hand-in', hands_in(self.gaps, self.moves)))
 
     def reply(self) -> tuple[int, dict]:
         """The next reply: its status, and what is told."""
@@ -68,7 +76,9 @@ class Line:
         while len(self.got) < length:
             self.more()
         body, self.got = self.got[:length], self.got[length:]
-        return int(head[9:12]), json.loads(body) if body.startswith(b'{') else {}
+        told = json.loads(body) if body.startswith(b'{') else {}
+        self.moves, self.gaps = told.get('moves', self.moves), told.get('gaps', self.gaps)
+        return int(head[9:12]), told
 
     def more(self) -> None:
         some = self.made.recv(1 << 16)
@@ -96,7 +106,7 @@ def in_order(tally: Tally, folder: pathlib.Path) -> None:
     line, *others = Line(hall), Line(hall, 'bert'), Line(hall, 'bert')
     moves = [f'{word} {gap % 13 + 1}' for gap in range(PIPELINED // 2) for word in ('put', 'lift')]
     for some in (line, *others):
-        some.made.sendall(b''.join(some.spelled('POST', '/move', move) for move in moves))
+        some.made.sendall(b''.join(some.spelled_move(move, at) for at, move in enumerate(moves)))
     line.made.sendall(line.spelled('GET', '/sitting'))
     replies = [line.reply() for _ in moves]
     seen = [(status, told['moves'], told['gaps'], f'gap {move.split()[1]} ' in told['said'].replace('.', ' '))
@@ -108,14 +118,14 @@ def in_order(tally: Tally, folder: pathlib.Path) -> None:
     both = [some.reply() for some in others for _ in moves]
     made = sorted(told['moves'] for status, told in both if status == 200)
     tally.check('two lines of one candidate', made == [*range(1, len(made) + 1)] and
-                len(hall.moves('bert')) == len(made) >= PIPELINED, made)
+                len(hall.moves('bert')) == len(made) == PIPELINED, made)
     anna = Line(hall)
-    anna.made.sendall(b'nonsense\r\n\r\n'.join(anna.spelled('POST', '/move', move) for move in ('put 5', 'put 6')))
+    anna.made.sendall(b'nonsense\r\n\r\n'.join(anna.spelled_move(move, PIPELINED) for move in ('put 5', 'put 6')))
     tally.check('done before nonsense', anna.reply()[1]['gaps'] == [5])
     tally.check('nonsense', anna.reply()[0] == 400 and anna.ended(PATIENCE))
     tally.check('nothing behind nonsense', Candidate(hall, 'anna').ask('/sitting')[1]['gaps'] == [5])
     slow = Line(hall)
-    for byte in slow.spelled('POST', '/move', 'lift 5') + slow.spelled('GET', '/sitting'):
+    for byte in slow.spelled_move('lift 5', PIPELINED + 1) + slow.spelled('GET', '/sitting'):
         slow.made.sendall(bytes([byte]))
         time.sleep(0.0005)
     tally.check('byte by byte', slow.reply()[1]['said'] == 'The barrier in gap 5 is lifted.' and slow.reply()[0] == 200)
@@ -142,7 +152,7 @@ def not_kept(tally: Tally, folder: pathlib.Path) -> None:
     broken.touch()
     for line in lines[1:-1]:
         line.click('take back')
-    lines[-1].made.sendall(lines[-1].spelled('POST', '/hand-in', 'hand in 1'))
+    lines[-1].hand_in()
     time.sleep(0.05)
     other.made.sendall(other.spelled('GET', '/sitting'))
     tally.check('before the fault', first.reply()[1]['gaps'] == [1, 13])
@@ -163,7 +173,7 @@ def not_kept(tally: Tally, folder: pathlib.Path) -> None:
     slow.unlink()
     for line in lines[1:-1]:
         line.click('take back')
-    lines[-1].made.sendall(lines[-1].spelled('POST', '/hand-in', 'hand in 1'))
+    lines[-1].hand_in()
     told = [line.reply()[1] for line in lines[1:]]
     tally.check('all go on', all((some['gaps'], some['moves']) == ([], 2) for some in told[:-1]), told)
     tally.check('and hand in', told[-1]['handed_in'] and hall.moves(names[-1])[-1] == 'hand in', told[-1])
@@ -171,7 +181,13 @@ def not_kept(tally: Tally, folder: pathlib.Path) -> None:
 
 
 def own_fault(tally: Tally, folder: pathlib.Path) -> None:
-    """A fault of the hall's own is told to the person in charge, ends one connection, and nothing else."""
+    """A fault of the hall's own is told to the person in charge, if that can be done, ends one connection, and nothing
+    else."""
+    deaf = Hall(folder / 'deaf', EXAMPLES['p'], ['anna']).altered(FAULT.format(str(folder / 'deaf')))
+    deaf.start('exec 2>&-;')
+    (deaf.folder / 'is at fault').touch()
+    tally.check('nobody can be told', raw(deaf.port, request(deaf, 'GET', '/sitting')) == b'' and deaf.lives())
+    deaf.end()
     hall = Hall(folder / 'fault', EXAMPLES['p'], ['anna', 'bert', 'cleo']).altered(
         (DISK + FAULT).format(str(folder / 'fault'))).start()
     fault, slow = hall.folder / 'is at fault', hall.folder / 'is slow'
@@ -193,25 +209,32 @@ def own_fault(tally: Tally, folder: pathlib.Path) -> None:
     hall.end()
 
 
-def ended_by_hand(tally: Tally, folder: pathlib.Path) -> None:
-    """Ctrl-C while the disk is at work, where a script in the background started the hall: what was asked for before is
-    kept, told, and has its file."""
-    hall = Hall(folder / 'ended', EXAMPLES['p'], ['anna', 'bert', 'cleo']).altered(
-        DISK.format(str(folder / 'ended'))).start("trap '' INT;")
-    anna, bert, cleo = (Line(hall, name) for name in hall.names)
-    anna.click('put 5')
-    tally.check('put', anna.reply()[0] == 200)
-    (hall.folder / 'is slow').touch()
-    bert.click('put 6')
-    time.sleep(0.1)
-    anna.made.sendall(anna.spelled('POST', '/hand-in', 'hand in 1'))
-    cleo.click('put 7')
-    time.sleep(0.3)
-    tally.check('Ctrl-C', hall.end(signal.SIGINT) == 0)
-    tally.check('told', [line.reply()[1]['gaps'] for line in (anna, bert, cleo)] == [[5], [6], [7]])
-    tally.check('kept', [hall.moves(name) for name in hall.names] == [['put 5', 'hand in'], ['put 6'], ['put 7']])
-    tally.check('the file', (hall.answers / 'anna.hex').read_bytes() == b'2105\n')
-    tally.check('nothing to complain about', hall.complaints() == '', hall.complaints())
+def ended(tally: Tally, folder: pathlib.Path) -> None:
+    """Ctrl-C, a signal to end or a terminal that is closed, while the disk is at work: what was asked for before is
+    kept, told, and has its file. Ctrl-C also where a script in the background started the hall."""
+    for by, before in ((signal.SIGINT, "trap '' INT;"), (signal.SIGTERM, ''), (signal.SIGHUP, '')):
+        name = by.name
+        hall = Hall(folder / f'ended {name}', EXAMPLES['p'], ['anna', 'bert', 'cleo']).altered(
+            DISK.format(str(folder / f'ended {name}'))).start(before)
+        anna, bert, cleo = (Line(hall, candidate) for candidate in hall.names)
+        anna.click('put 5')
+        tally.check(f'{name}: put', anna.reply()[0] == 200)
+        (hall.folder / 'is slow').touch()
+        bert.click('put 6')
+        time.sleep(0.1)
+        anna.hand_in()
+        cleo.click('put 7')
+        time.sleep(0.3)
+        tally.check(f'{name}: ends well', hall.end(by) == 0)
+        tally.check(f'{name}: told', [line.reply()[1]['gaps'] for line in (anna, bert, cleo)] == [[5], [6], [7]])
+        kept = [hall.moves(candidate) for candidate in hall.names]
+        tally.check(f'{name}: kept', kept == [['put 5', 'hand in'], ['put 6'], ['put 7']], kept)
+        tally.check(f'{name}: the file', (hall.answers / 'anna.hex').read_bytes() == b'2105\n')
+        tally.check(f'{name}: nothing to complain about', hall.complaints() == '', hall.complaints())
+    hall = Hall(folder / 'nohup', EXAMPLES['p'], ['anna']).start("trap '' HUP;")
+    hall.process.send_signal(signal.SIGHUP)
+    tally.check('under nohup a closed terminal does nothing', Candidate(hall, 'anna').move('put 5')[0] == 200)
+    tally.check('it is ended by a signal', hall.end(signal.SIGTERM) == 0)
 
 
 def memory(hall: Hall) -> int:
@@ -279,7 +302,7 @@ def silent(tally: Tally, folder: pathlib.Path) -> None:
     used, nothing, cut, another, drip = (Line(hall) for _ in range(5))
     cut.made.sendall(cut.spelled('GET', '/sitting')[:-7])
     another.made.sendall(another.spelled('GET', '/sitting') + b'GET')
-    dripped, number, begun = drip.spelled('POST', '/move', 'put 9'), 0, time.monotonic()
+    dripped, number, begun = drip.spelled_move('put 9', 0), 0, time.monotonic()
     left = {'nothing is said': nothing, 'cut off': cut, 'the next cut off': another, 'in drops': drip}
     while left and time.monotonic() - begun < PATIENCE:
         used.click(f'{("put", "lift")[number % 2]} 5')
@@ -297,5 +320,5 @@ def silent(tally: Tally, folder: pathlib.Path) -> None:
 
 
 def connected(tally: Tally, folder: pathlib.Path) -> None:
-    for some in (in_order, not_kept, own_fault, ended_by_hand, slow_readers, too_many, silent):
+    for some in (in_order, not_kept, own_fault, ended, slow_readers, too_many, silent):
         some(tally, folder)

@@ -8,7 +8,7 @@ import signal
 import socket
 import time
 
-from outside.hall.opened import Hall, until_there
+from outside.hall.opened import Hall, hands_in, until_there
 from outside.trying import EXAMPLES, Tally
 
 MANY, BESIDE, ROUNDS = 100, 20, 20
@@ -40,12 +40,12 @@ class Crowd:
         self.got = [b''] * len(hall.names)
         self.took: list[tuple[int, float]] = []
         self.select, self.lines = selectors.DefaultSelector(), []
-        for number, ticket in enumerate(hall.tickets.values()):
+        for number, name in enumerate(hall.names):
             line = socket.create_connection(('127.0.0.1', hall.port))
             line.setsockopt(socket.IPPROTO_TCP, socket.TCP_NODELAY, 1)
             self.select.register(line, selectors.EVENT_READ, number)
-            head = f'HTTP/1.1\r\nHost: 127.0.0.1:{hall.port}\r\nCookie: ticket={ticket}\r\n'
-            self.lines.append((line, head))
+            whose = ''.join(f'{header}: {value}\r\n' for header, value in hall.whose(name).items())
+            self.lines.append((line, f'HTTP/1.1\r\nHost: 127.0.0.1:{hall.port}\r\n{whose}'))
 
     def ask(self, number: int, path: str, body: str) -> None:
         line, head = self.lines[number]
@@ -57,8 +57,13 @@ class Crowd:
         """The move that a candidate's click is, counted from 0."""
         return f'{("put", "lift")[click % 2]} {1 + click // 2 % 13}'
 
+    @staticmethod
+    def gaps(clicks: int) -> list[int]:
+        """The gaps that have a barrier after some clicks."""
+        return [1 + clicks // 2 % 13] * (clicks % 2)
+
     def click(self, number: int) -> None:
-        self.ask(number, '/move', self.nth(self.clicks[number]))
+        self.ask(number, '/move', f'{self.nth(self.clicks[number])} at {self.clicks[number]}')
         self.clicks[number] += 1
 
     def look(self, wait: float | None = None) -> None:
@@ -105,7 +110,7 @@ class Crowd:
         """All hand in at one moment but some, who click all the time meanwhile; how long these and those waited."""
         self.took, those = [], range(beside, len(self.lines))
         for number in those:
-            self.ask(number, '/hand-in', f'hand in {self.clicks[number]}')
+            self.ask(number, '/hand-in', hands_in(self.gaps(self.clicks[number]), self.clicks[number]))
         while self.waiting.keys() & those:
             for number in range(beside):
                 if number not in self.waiting:

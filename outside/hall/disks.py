@@ -48,9 +48,9 @@ def library_in(folder: pathlib.Path) -> pathlib.Path:
 
 def declined(tally: Tally, disk: Disk, fault: str, words: list[str]) -> None:
     """Three acts on a bad disk: none is made or shown, and each is told in its words."""
-    for (path, body), said in zip((('/move', 'put 6'), ('/move', 'take back'), ('/hand-in', 'hand in 1')), words):
-        status, told = disk.anna.ask(path, body)
-        tally.check(f'{fault}: {body}', status == 409 and told['said'].startswith(said) and (
+    for act, said in zip(('put 6', 'take back', 'hand in'), words):
+        status, told = disk.anna.hand_in() if act == 'hand in' else disk.anna.move(act)
+        tally.check(f'{fault}: {act}', status == 409 and told['said'].startswith(said) and (
             told['gaps'], told['moves'], told['handed_in']) == ([5], 1, False), told)
 
 
@@ -155,14 +155,14 @@ def full_disk(tally: Tally, folder: pathlib.Path) -> None:
     now = anna.ask('/sitting')[1]
     tally.check('a full disk', 10 < len(good) < 26 and bool(bad) and now['gaps'] == good[-1]['gaps'], now)
     tally.check('the person in charge hears of it', 'cannot keep' in hall.complaints(), hall.complaints())
-    status, told = anna.ask('/hand-in', f'hand in {good[-1]["moves"]}')
+    status, told = anna.hand_in()
     tally.check('not handed in', status == 409 and not told['handed_in'] and not [*hall.answers.glob('*.hex')], told)
     hall.end()
     anna.leave()
     hall.start()
     tally.check('the next start', anna.ask('/sitting')[1]['gaps'] == good[-1]['gaps'])
     (hall.answers / 'anna.hex').mkdir()
-    status, told = anna.ask('/hand-in', f'hand in {good[-1]["moves"]}')
+    status, told = anna.hand_in()
     tally.check('no file yet', status == 200 and told['handed_in'] and told['said'].startswith('Handed in'), told)
     tally.check('of which is told', until_there(lambda: 'anna has handed in' in hall.complaints()), hall.complaints())
     (hall.answers / 'anna.hex').rmdir()
@@ -191,7 +191,7 @@ def nobody_listens(tally: Tally, folder: pathlib.Path) -> None:
         hall = Hall(folder / f'error-{name}', EXAMPLES['p'], ['anna', 'bert']).start(f'exec 2>{where};')
         (hall.answers / 'anna.hex').mkdir()
         anna, bert = Candidate(hall, 'anna'), Candidate(hall, 'bert')
-        tally.check(f'{name}: handed in', anna.ask('/hand-in', 'hand in 0')[1]['handed_in'])
+        tally.check(f'{name}: handed in', anna.hand_in()[1]['handed_in'])
         time.sleep(1.2)
         hall.log.unlink()
         tally.check(f'{name}: the next request', anna.ask('/sitting')[0] == 200)

@@ -80,7 +80,8 @@ def late_save(hall: Hall, clickers: list[Clicker], turn: int) -> None:
 def killed(tally: Tally, folder: pathlib.Path) -> None:
     """Killed again and again among clicks, with an editor that saves an old log now and then, the hall loses no move
     that was answered, and its log stays whole."""
-    hall, rng = Hall(folder / 'killed', EXAMPLES['p'], ['anna', 'bert', 'cleo', 'dora']).start(), random.Random(2)
+    hall = Hall(folder / 'killed', EXAMPLES['p'], ['anna', 'bert', 'cleo', 'dora'], more=['--practice']).start()
+    rng = random.Random(2)
     clickers, answered, begun = [Clicker(hall, name) for name in hall.names], 0, time.monotonic()
     for turn in range(KILLS):
         for clicker in clickers:

@@ -15,6 +15,7 @@ import time
 from collections.abc import Callable
 from dataclasses import dataclass, field
 
+from office.serving import token_of
 from outside.trying import DESK, ROOT
 
 FORBIDDEN = ['plan', 'key', 'mark', 'count', 'textbook', 'examiner_slip']
@@ -44,6 +45,7 @@ class Hall:
     process: subprocess.Popen | None = None
     port: int = 0
     said: str = ''
+    address: str = ''
 
     def __post_init__(self) -> None:
         self.folder.mkdir(exist_ok=True)
@@ -71,10 +73,10 @@ class Hall:
                 env={**os.environ, 'PYTHONPATH': str(self.folder), **self.environment}, text=True)
         atexit.register(self.process.kill)
         self.said = self.process.stdout.readline() + self.process.stdout.readline()
-        opened = re.match(r'http://[^/]*:(\d+)/ is open', self.said)
+        opened = re.match(r'(https?://[^/]*?(?::(\d+))?/) is open', self.said)
         if not opened:
             raise RuntimeError(f'the hall did not open: {self.complaints()}')
-        self.port = int(opened[1])
+        self.address, self.port = opened[1], self.port or int(opened[2])
         return self
 
     def end(self, by: int = signal.SIGKILL) -> int:
@@ -91,13 +93,16 @@ class Hall:
         return self.process.poll() is None
 
     @property
-    def address(self) -> str:
-        return f'http://127.0.0.1:{self.port}/'
-
-    @property
     def tickets(self) -> dict[str, str]:
         with open(self.answers / 'tickets.csv', newline='') as opened:
             return {row['candidate']: row['ticket'] for row in csv.DictReader(opened)}
+
+    def whose(self, name: str) -> dict[str, str]:
+        """What the page of a candidate sends along: the ticket, and whose page it is."""
+        return self.with_ticket(self.tickets[name])
+
+    def with_ticket(self, ticket: str) -> dict[str, str]:
+        return {'Cookie': f'ticket-{self.port}={ticket}', 'Sitting': token_of(ticket)}
 
     @property
     def log(self) -> pathlib.Path:
@@ -118,20 +123,22 @@ def until_there(seen: Callable[[], bool], patience: float = 30) -> bool:
 
 
 class Candidate:
-    """A candidate without a browser: asks over one connection, with a cookie."""
+    """A candidate without a browser: asks over one connection, as the page would, by the sitting that was last told."""
 
-    def __init__(self, hall: Hall, name: str):
-        self.hall, self.headers = hall, {'Cookie': f'ticket={hall.tickets[name]}'}
-        self.name, self.connection = name, None
+    def __init__(self, hall: Hall, name: str, machine: str = '127.0.0.1'):
+        self.hall, self.headers, self.machine = hall, hall.whose(name), machine
+        self.name, self.connection, self.told = name, None, {}
 
     def ask(self, path: str, body: str | None = None) -> tuple[int, dict]:
         """The status and what is told. An OSError says that no whole answer came."""
         try:
             if self.connection is None:
-                self.connection = http.client.HTTPConnection('127.0.0.1', self.hall.port, timeout=30)
+                self.connection = http.client.HTTPConnection('127.0.0.1', self.hall.port, timeout=30,
+                                                             source_address=(self.machine, 0))
             self.connection.request('GET' if body is None else 'POST', path, body, self.headers)
             reply = self.connection.getresponse()
-            return reply.status, json.loads(reply.read())
+            self.told = json.loads(reply.read())
+            return reply.status, self.told
         except (http.client.HTTPException, ValueError) as fault:
             self.leave()
             raise ConnectionError from fault
@@ -140,9 +147,21 @@ class Candidate:
             raise
 
     def move(self, move: str) -> tuple[int, dict]:
-        return self.ask('/move', move)
+        if not self.told:
+            self.ask('/sitting')
+        return self.ask('/move', f'{move} at {self.told["moves"]}')
+
+    def hand_in(self) -> tuple[int, dict]:
+        if not self.told:
+            self.ask('/sitting')
+        return self.ask('/hand-in', hands_in(self.told['gaps'], self.told['moves']))
 
     def leave(self) -> None:
         if self.connection is not None:
             self.connection.close()
         self.connection = None
+
+
+def hands_in(gaps: list[int], moves: int) -> str:
+    """What a page asks for after the question about these gaps, after so many moves."""
+    return ' '.join(['hand in', *map(str, gaps), 'at', str(moves)])

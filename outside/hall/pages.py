@@ -1,4 +1,5 @@
 """A candidate's page in a browser: what is done on it, and what it shows beside the library's sitting."""
+import contextlib
 
 from office.library import Desk
 from office.paper import placed
@@ -18,22 +19,31 @@ return {
     bars: places.filter((place) => drawn(place, '.bar')).map(number),
     empty: places.filter((place) => drawn(place, '.gap, .barred')).map(number),
     pressed: all('button[data-gap][aria-pressed="true"]').map(number),
-    hollow: all('g[data-cut]').filter((place) => getComputedStyle(place.querySelector('circle')).fill ===
+    hollow: all('g[data-cut]').filter((place) => getComputedStyle(place.querySelector('circle.b')).fill ===
         'rgb(255, 255, 255)').map(number),
+    dots: places.some((place) => drawn(place, '.dots')),
     words: all('li[data-cut] span').map((words) => words.textContent),
     counts: all('[data-count]').map((place) => [number(place), place.textContent.trim()]),
     state: document.getElementById('state')?.textContent,
-    said: document.getElementById('said')?.textContent,
+    said: ['said', 'refused', 'lost'].map((id) => document.getElementById(id)?.textContent).join(''),
+    who: document.getElementById('candidate')?.textContent,
 };
 """
 GAP = 'button[data-gap="{}"]'.format
 
 
+def complaints(seen: Browser) -> list[str]:
+    """What the browser has to complain about, but for replies that say no, and a desk that is away."""
+    return [line for line in seen.complaints() if not any(word in line for word in (
+        'status of 403', 'status of 409', 'ERR_CONNECTION'))]
+
+
 class Page:
     """A candidate's page, and beside it a desk of the library on which the same moves are made."""
 
-    def __init__(self, tally: Tally, browser: Browser, hall: Hall, name: str):
-        self.tally, self.hall, self.name = tally, hall, name
+    def __init__(self, tally: Tally, browser: Browser, hall: Hall, name: str, called: str = ''):
+        self.tally, self.hall, self.name, self.called = tally, hall, name, called or name
+        self.practice = '--practice' in hall.more
         self.browser, self.desk, self.handed_in = browser, Desk(), ''
         self.desk.load(hall.paper)
 
@@ -42,16 +52,33 @@ class Page:
         until(lambda: self.browser.at('#ticket'), True)
         self.browser.press(*(ticket or self.hall.tickets[self.name]), ENTER)
 
+    def leave(self, question: str) -> None:
+        """Leaves the desk, after a question."""
+        self.browser.click('#leave button')
+        asked = self.browser.script('return document.getElementById("asked").textContent')
+        self.tally.check(f'{self.name}: asked before leaving', asked == question, asked)
+        self.browser.click('#go')
+        until(lambda: self.browser.script('return document.title'), 'Ticket')
+
     def wanted(self, said: str) -> dict[str, object]:
         """What the page must show of the library's sitting."""
         now, cuts = placed(self.desk, self.desk.sitting()), self.desk.cuts
-        return {'bars': now.gaps, 'pressed': now.gaps, 'said': said,
+        return {'bars': now.gaps, 'pressed': now.gaps, 'said': said, 'who': self.called,
                 'empty': [gap for gap in range(1, len(self.desk.nest.points)) if gap not in now.gaps],
-                'hollow': [number for number, many in enumerate(cuts) if not many],
-                'words': [f'; cut, barriers: {many}' if many else '; UNCUT' for many in cuts],
+                'hollow': [number for number, many in enumerate(cuts) if not many and self.practice],
+                'words': [f'; cut, barriers: {many}' if many else '; UNCUT' for many in cuts if self.practice],
+                'dots': any(self.dots(gap) for gap in now.gaps) and self.practice,
                 'counts': [[d, f'count {count}'] for d, count in now.counts.items()],
                 'state': f'{self.handed_in}Barriers: {len(now.gaps)}. Dependences uncut: {self.desk.uncut} of '
                          f'{len(cuts)}.'}
+
+    def dots(self, gap: int) -> bool:
+        """Whether a barrier cuts anything."""
+        alone = Desk()
+        alone.load(self.hall.paper)
+        with contextlib.suppress(Refused):
+            alone.put(gap)
+        return any(alone.cuts)
 
     def shows(self, step: str, said: str = '') -> None:
         wanted = self.wanted(said)

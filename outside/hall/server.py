@@ -1,5 +1,5 @@
-"""The hall without a browser: a hundred candidates at once, from handing in to the register, connections of every sort,
-bad requests.
+"""The hall without a browser: a hundred candidates at once, from handing in to the register, connections of every sort
+and in any number, how it is called, bad requests.
 
 Needs the library's archive (rt staticlib host). The last line is 'N passed, M failed'.
 """
@@ -10,8 +10,10 @@ import tempfile
 
 from outside.hall.connections import connected
 from outside.hall.crowds import crowd, rush
+from outside.hall.encrypted import over_ipv6, wrong
 from outside.hall.opened import Candidate, Hall
 from outside.hall.refusing import raw, request, status, unmoved
+from outside.hall.shares import shares
 from outside.trying import DESK, EXAMPLES, Tally, run
 
 
@@ -19,13 +21,14 @@ def to_the_register(tally: Tally, folder: pathlib.Path) -> None:
     """Three sittings, handed in and marked."""
     hall = Hall(folder / 'day', EXAMPLES['p'], ['anna', 'bert', 'carl'], 'a$b<.hex').start()
     page = raw(hall.port, request(hall, 'GET', '/'))
-    tally.check('a strange name', status(page) == 200 and b'<h1>a$b&lt;, anna</h1>' in page, page)
+    head = b'<h1>a$b&lt;, <bdi id="candidate">anna</bdi></h1>'
+    tally.check('a strange name', status(page) == 200 and head in page, page)
     for name, gaps in (('anna', [5, 11]), ('bert', [3, 9]), ('carl', [3, 9, 13])):
         candidate = Candidate(hall, name)
         for gap in gaps:
             candidate.move(f'put {gap}')
-        tally.check(f'{name} hands in', candidate.ask('/hand-in', f'hand in {len(gaps)}')[1]['handed_in'])
-        tally.check(f'{name} is done', candidate.move('put 1')[0] == 409 == candidate.ask('/hand-in', 'hand in 2')[0])
+        tally.check(f'{name} hands in', candidate.hand_in()[1]['handed_in'])
+        tally.check(f'{name} is done', candidate.move('put 1')[0] == 409 == candidate.hand_in()[0])
     hall.end(signal.SIGINT)
     run(DESK, 'mark', hall.folder / hall.file, *sorted(hall.answers.glob('*.hex')), '--register', folder / 'r.csv')
     with open(folder / 'r.csv', newline='') as opened:
@@ -42,6 +45,9 @@ def main() -> None:
         rush(tally, folder)
         to_the_register(tally, folder)
         connected(tally, folder)
+        shares(tally, folder)
+        over_ipv6(tally, folder)
+        wrong(tally, folder)
         unmoved(tally, folder)
     tally.close()
 

@@ -15,15 +15,18 @@ import tempfile
 import urllib.request
 
 from office.paper import placed
-from office.words import RULES
 from outside.hall import browser
 from outside.hall.browser import DOWN, END, ENTER, ESCAPE, HOME, SHIFT, TAB, UP, Browser, Driver, until
-from outside.hall.opened import Candidate, Hall
-from outside.hall.pages import GAP, SHOWN, Page
+from outside.hall.encrypted import by_itself, in_front
+from outside.hall.entering import entering
+from outside.hall.opened import Candidate, Hall, until_there
+from outside.hall.pages import GAP, SHOWN, Page, complaints
+from outside.hall.windows import windows
 from outside.measure import papers
 from outside.trying import DESK, EXAMPLES, ROOT, Tally, run
 
 MANY = 66
+BEHIND = 'Not done: the sitting was changed in another window, or by a click that came late. Look at it as it is now.'
 
 
 def entered(tally: Tally, page: Page) -> None:
@@ -56,7 +59,13 @@ def day(tally: Tally, page: Page) -> None:
     tally.check('put in another window', status == 200)
     page.browser.click(GAP(3))
     page.desk.put(3)
-    page.shows('there already', f'Refused, number 12: {RULES[12]}.')
+    page.shows('a page that is behind', BEHIND)
+    elsewhere.move('put 2')
+    page.browser.click('#back')
+    page.desk.put(2)
+    page.shows('take back in a page that is behind', BEHIND)
+    page.take_back()
+    elsewhere.ask('/sitting')
     page.browser.click('#hand')
     elsewhere.move('put 4')
     page.desk.put(4)
@@ -108,8 +117,11 @@ def keyboard(tally: Tally, page: Page) -> None:
     seen.press(TAB, ENTER)
     page.handed_in = 'Handed in. '
     page.shows('handed in', 'Handed in: barriers in gaps 5, 11.')
+    tally.check('the keyboard is where it is told', until(lambda: seen.at('#state'), True))
+    disabled = seen.script('return document.querySelectorAll("button[data-gap]:not([aria-disabled=true])").length')
+    tally.check('no gap can be used', disabled == 0, disabled)
     file = page.hall.answers / f'{page.name}.hex'
-    tally.check('the file', until(file.exists, True) and file.read_bytes() == page.desk.sitting())
+    tally.check('the file', until_there(file.exists) and file.read_bytes() == page.desk.sitting())
 
 
 def register(tally: Tally, hall: Hall, name: str) -> None:
@@ -125,8 +137,7 @@ def over(page: Page) -> None:
     """After the end nothing changes, and another candidate may sit down."""
     page.browser.click(GAP(2))
     page.shows('handed in before', 'You have handed in. Nothing can be changed any more.')
-    page.browser.click('header form button')
-    until(lambda: page.browser.script('return document.title'), 'Ticket')
+    page.leave('Leave this desk? Your ticket opens the sitting again.')
     page.enter()
     page.shows('looked at again')
 
@@ -138,7 +149,7 @@ def away(tally: Tally, page: Page) -> None:
     told = until(lambda: page.browser.script(SHOWN)['said'][:25], 'The desk does not answer.')
     tally.check('the desk is away', told == 'The desk does not answer.', told)
     page.hall.start()
-    page.shows('the desk is back')
+    page.shows('the desk is back', 'Your click on gap 2 did not arrive. Click again.')
     for gap in (2, 2, 3):
         page.turn(gap)
 
@@ -185,20 +196,21 @@ def barred(tally: Tally, seen: Browser, folder: pathlib.Path) -> None:
 
 def nothing_inline(tally: Tally, page: Page) -> None:
     """Neither script nor style stands in the page, and the browser did not complain."""
-    asked = urllib.request.Request(page.hall.address, headers={'Cookie': f'ticket={page.hall.tickets[page.name]}'})
+    asked = urllib.request.Request(page.hall.address, headers=page.hall.whose(page.name))
     with urllib.request.urlopen(asked) as reply:
         text = reply.read().decode()
     found = re.findall(r'<script(?! src="/sitting\.js")|<style|\sstyle=|\son\w+=|javascript:|https?://', text)
     tally.check('nothing inline, nothing from elsewhere', found == [], found)
-    told = [line for line in page.browser.complaints() if 'status of 403' not in line and 'status of 409' not in line
-            and 'ERR_CONNECTION' not in line]
+    told = complaints(page.browser)
     tally.check('no complaint of the browser', told == [], told)
 
 
 def two(tally: Tally, seen: list[Browser], folder: pathlib.Path) -> None:
     """A sitting of two candidates, each in a browser."""
-    hall = Hall(folder / 'hall', EXAMPLES['p'], ['anna', 'oezge'], listed='id,name\nanna,\noezge,Özge K.\n').start()
-    anna, other = (Page(tally, browser, hall, name) for browser, name in zip(seen, hall.names))
+    hall = Hall(folder / 'hall', EXAMPLES['p'], ['anna', 'oezge'], listed='id,name\nanna,anna\noezge,Özge K.\n',
+                more=['--practice']).start()
+    anna, other = (Page(tally, browser, hall, *names) for browser, names in zip(seen, (
+        ['anna'], ['oezge', 'Özge K.'])))
     entered(tally, anna)
     day(tally, anna)
     ring(anna)
@@ -250,6 +262,10 @@ def main() -> None:
         two(tally, seen, folder)
         barred(tally, seen[0], folder)
         large(tally, seen[0], folder)
+        for part in (windows, entering):
+            part(tally, Browser(driver), folder)
+        by_itself(tally, driver, folder)
+        in_front(tally, driver, folder)
         driver.close()
     tally.close()
 

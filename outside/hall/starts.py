@@ -104,7 +104,7 @@ def other_lists(tally: Tally, folder: pathlib.Path) -> None:
     text = (hall.answers / 'tickets.csv').read_text().replace(first['anna'], '').replace(',', ';').replace('\n', '\r\n')
     stolen, bert = Candidate(hall, 'bert'), first['bert']
     (hall.answers / 'tickets.csv').write_text(f'\ufeff{text}')
-    stolen.headers = {'Cookie': f'ticket={first["anna"]}'}
+    stolen.headers = hall.with_ticket(first['anna'])
     hall.more = []
     hall.start()
     tally.check('a new ticket', hall.tickets['anna'] != first['anna'] and hall.tickets['bert'] == bert, hall.tickets)
@@ -113,7 +113,7 @@ def other_lists(tally: Tally, folder: pathlib.Path) -> None:
     hall.end()
     stolen.leave()
     (hall.answers / 'tickets.csv').unlink()
-    stolen.headers = {'Cookie': f'ticket={bert}'}
+    stolen.headers = hall.with_ticket(bert)
     hall.start()
     tally.check('without the file all tickets stay good', stolen.ask('/sitting')[0] == 200)
     tally.check('no ticket in the log', bert.encode() not in hall.log.read_bytes())

@@ -1,0 +1,70 @@
+"""The pages of a hall, made from the pieces in office/served: the ticket's, a candidate's, and a few words with a way
+back for what is refused."""
+import html
+import string
+from http import HTTPStatus
+
+from office.board import Board
+from office.called import Called
+from office.command import ROOT
+from office.messages import Reply
+from office.paper import Paper
+from office.show import listing_of
+
+SERVED = ROOT / 'office' / 'served'
+HTML, CSS, SCRIPT = 'text/html; charset=utf-8', 'text/css; charset=utf-8', 'text/javascript; charset=utf-8'
+BACK, UNREAD = 'To the sitting', 'The desk could not make sense of what the browser sent. Nothing was changed.'
+REFUSED = {
+    HTTPStatus.NOT_FOUND: 'There is no such page in this hall.',
+    HTTPStatus.METHOD_NOT_ALLOWED: 'That cannot be done with this page.',
+    HTTPStatus.REQUEST_ENTITY_TOO_LARGE: 'That is longer than anything the hall takes. Nothing was changed.',
+    HTTPStatus.REQUEST_URI_TOO_LONG: 'There is no such page in this hall.',
+    HTTPStatus.MISDIRECTED_REQUEST: 'The hall is not called by this address. Use the address that was handed out.',
+}
+PRACTICE = ', practice'
+ANOTHER = 'This window was of another candidate. In this browser now sits: '
+NOBODY = 'This window was of a candidate who has left this desk in another window.'
+SINCE = ' What was asked for here since then was not done.'
+
+
+def template(name: str) -> string.Template:
+    return string.Template((SERVED / name).read_text())
+
+
+class Pages:
+    """The pages of a paper, and how candidates call the hall."""
+
+    def __init__(self, board: Board, paper: Paper, name: str, called: Called):
+        self.called = called
+        self.ticket, self.words = template('ticket.html'), template('words.html')
+        self.sitting = string.Template(template('sitting.html').safe_substitute(
+            paper=html.escape(name + PRACTICE * board.practice).replace('$', '$$'), board=board.svg(),
+            dependences=board.told(), signs=html.escape(' '.join(board.signs())),
+            listing=html.escape(listing_of(paper))))
+        self.css = (board.style() + (SERVED / 'hall.css').read_text()).encode()
+        self.script = (SERVED / 'sitting.js').read_bytes()
+
+    def of_sitting(self, candidate: str, token: str) -> Reply:
+        """The page of a candidate; the token says in each request that it comes from there."""
+        page = self.sitting.substitute(candidate=html.escape(candidate), token=token)
+        return Reply(HTTPStatus.OK, HTML, page.encode())
+
+    def asks_ticket(self, said: str = '') -> Reply:
+        page = self.ticket.substitute(said=html.escape(said))
+        return Reply(HTTPStatus.FORBIDDEN, HTML, page.encode())
+
+    def another(self, candidate: str | None) -> Reply:
+        """Says who sits in this browser now, to a window that was of somebody else."""
+        if candidate is None:
+            return self.asks_ticket(NOBODY + SINCE)
+        return self.says(HTTPStatus.OK, f'{html.escape(ANOTHER)}<bdi>{html.escape(candidate)}</bdi>.'
+                         f'{html.escape(SINCE)}', '/')
+
+    def refusal(self, status: HTTPStatus, more: str = '') -> Reply:
+        """A refusal in words. It says nothing of what was asked, and leads back."""
+        to = self.called.address if status == HTTPStatus.MISDIRECTED_REQUEST else '/'
+        return self.says(status, html.escape(REFUSED.get(status, UNREAD)), to, more)
+
+    def says(self, status: HTTPStatus, words: str, to: str, more: str = '') -> Reply:
+        page = self.words.substitute(words=words, to=html.escape(to), back=BACK)
+        return Reply(status, HTML, page.encode(), more)
