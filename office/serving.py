@@ -23,8 +23,8 @@ from office.command import mention
 from office.connection import Connection, Connections
 from office.door import Door
 from office.hall import Declined, Hall, Kept
+from office.markup import CSS, SCRIPT, Pages
 from office.messages import Reply, Request, Unfit
-from office.pages import CSS, SCRIPT, Pages
 from office.room import most_connections
 from office.sittings import HAND_IN, MOVE, Sitting
 from office.told import sitting_told

@@ -58,7 +58,7 @@ def called(asked: argparse.Namespace, port: int) -> Called:
     """How candidates call the hall that listens at a port."""
     if asked.address is not None:
         return called_by(asked.address)
-    names = [*asked.name, asked.bind, *['localhost'] * is_here(asked.bind)]
+    names = [*asked.name, *[asked.bind] * (not is_everywhere(asked.bind)), *['localhost'] * is_here(asked.bind)]
     return Called('https' if asked.certificate else 'http', tuple(map(name_of, names)), port)
 
 
@@ -76,7 +76,7 @@ def look_at(asked: argparse.Namespace) -> None:
 
 def main(asked: argparse.Namespace) -> None:
     from office.door import listening_at, tls_with  # these take long to load, and no other command needs them
-    from office.pages import Pages
+    from office.markup import Pages
     from office.serving import Server
     hold_standard_files()
     look_at(asked)
