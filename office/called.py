@@ -1,5 +1,6 @@
 """How candidates call a hall: plain or encrypted, by which names, at which port; what follows from it for requests and
 for the cookie; and from which machine a request comes."""
+import functools
 import ipaddress
 import re
 from dataclasses import dataclass
@@ -43,6 +44,7 @@ def is_here(given: str) -> bool:
         return False
 
 
+@functools.lru_cache(1 << 12)
 def machine_at(address: str) -> str:
     """A machine by its address; those of one network of IPv6 count as one."""
     at = ipaddress.ip_address(address.partition('%')[0])

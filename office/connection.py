@@ -19,8 +19,9 @@ from office.messages import HEAD, LONGEST, Reply, Request, Unfit, request_in
 from office.room import Room
 from office.turns import Turns
 
-# How much is read of what is not asked yet.
-ROOM = HEAD + LONGEST
+# How much is read of what is not asked yet; how many pieces of work of one machine may wait before it gets no more
+# connections.
+ROOM, QUEUE = HEAD + LONGEST, 1000
 
 
 class Answering(Protocol):
@@ -41,7 +42,11 @@ class Connections:
         self.turns, self.room = Turns(loop), Room[Connection](loop, most)
 
     def take(self, made: socket.socket, address: str) -> None:
-        """Takes a connection that was accepted. It begins when its machine has its turn."""
+        """Takes a connection that was accepted. It begins when its machine has its turn; where too many of that machine
+        wait for that, it ends at once."""
+        if self.turns.many(machine_at(address)) > QUEUE:
+            made.close()
+            return
         connection = Connection(self, made, address)
         self.room.enter(connection)
         self.turns.add(connection.machine, connection.begin)
@@ -67,12 +72,14 @@ class Connection(asyncio.Protocol):
 
     # ---- How it begins and ends
 
-    def begin(self) -> None:
-        """Begins to talk, by way of a handshake where it is encrypted."""
-        if not self.over:
-            making = self.others.loop.connect_accepted_socket(lambda: self, self.made, ssl=self.others.tls)
-            self.beginning = self.others.loop.create_task(making)
-            self.beginning.add_done_callback(self.begun)
+    def begin(self) -> bool:
+        """Begins to talk, by way of a handshake where it is encrypted; that follows in the loop."""
+        if self.over:
+            return False
+        making = self.others.loop.connect_accepted_socket(lambda: self, self.made, ssl=self.others.tls)
+        self.beginning = self.others.loop.create_task(making)
+        self.beginning.add_done_callback(self.begun)
+        return True
 
     def begun(self, beginning: asyncio.Task[object]) -> None:
         if beginning.cancelled() or beginning.exception():
@@ -135,16 +142,16 @@ class Connection(asyncio.Protocol):
             self.due = True
             self.others.turns.add(self.machine, self.look)
 
-    def look(self) -> None:
+    def look(self) -> bool:
         """Takes the next request, if it is there and its turn has come."""
         self.due = False
         if self.under_way or self.over or self.full or self.others.closed or self.transport is None:
-            return
+            return False
         try:
             found = request_in(self.unread, self.ended) if self.unread else None
         except Unfit as unfit:
             self.refuse(unfit)
-            return
+            return False
         if found:
             self.under_way, length = found
             self.unread = self.unread[length:]
@@ -155,11 +162,13 @@ class Connection(asyncio.Protocol):
             self.others.turns.add(('candidate', candidate) if candidate else self.machine, self.answer)
         elif self.ended:
             self.end()
+        return False
 
     # ---- What goes out
 
-    def answer(self) -> None:
+    def answer(self) -> bool:
         self.tell(lambda: self.others.desk.answer(self))
+        return False
 
     def tell(self, reply: Callable[[], Reply | None]) -> None:
         """Sends a reply to the request under way, unless there is none yet. A fault of ours ends this connection."""

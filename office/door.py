@@ -7,9 +7,9 @@ from office.called import PORTS
 from office.command import Fault, mention, printable
 from office.connection import Connections
 
-# Connections that may wait outside; the most that are let in at one time; seconds until the next try after a fault of
-# the system; seconds without one before it is told again.
-WAITING, AT_ONCE, REST, QUIET = 512, 64, 0.2, 60
+# Connections that may wait outside; seconds of letting in before the loop looks what else has come; seconds until the
+# next try after a fault of the system; seconds without one before it is told again.
+WAITING, SPELL, REST, QUIET = 4096, 0.005, 0.2, 60
 
 
 def listening_at(address: str, port: int) -> socket.socket:
@@ -53,9 +53,9 @@ class Door:
             self.loop.add_reader(self.listening, self.let_in)
 
     def let_in(self) -> None:
-        for _ in range(AT_ONCE):
-            if not self.within.room.may_enter:
-                return
+        """Lets in who waits outside, for a spell: they must not wait so long that the system turns others away."""
+        end = self.loop.time() + SPELL
+        while self.within.room.may_enter and self.loop.time() < end:
             try:
                 made, address = self.listening.accept()
             except BlockingIOError:

@@ -173,13 +173,17 @@ class Hall:
             for file in self.stale:
                 take_away(file)
         except (OSError, Fault) as fault:
-            self.tickets.give_up()
-            self.log.give_up()
+            self.give_up()
             raise self.log.unable(fault) if isinstance(fault, OSError) else fault
         if self.log.old:
             mention(f'{printable(self.log.file)} was of an older form: it is taken down anew, and the old one kept as '
                     f'{printable(self.log.old)}')
         self.write_files()
+
+    def give_up(self) -> None:
+        """Takes away what a start has made, which has failed."""
+        self.tickets.give_up()
+        self.log.give_up()
 
     def close(self) -> None:
         """Ends, with the log in its place and the files of answers written."""

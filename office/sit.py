@@ -74,6 +74,17 @@ def look_at(asked: argparse.Namespace) -> None:
         raise Fault('with --certificate the hall is called by https, and --address says http')
 
 
+def say_so(hall: Hall, address: str) -> None:
+    """Says that the hall is open. If nobody can be told, it is not."""
+    try:
+        write_out(f'{address} is open for {counted(len(hall.sittings), "candidate")}, '
+                  f'{counted(hall.handed_in, "answer")} handed in\n'
+                  f'tickets: {printable(os.path.join(hall.answers, TICKETS))}; Ctrl-C ends the sitting\n'.encode())
+    except Fault:
+        hall.give_up()
+        raise
+
+
 def main(asked: argparse.Namespace) -> None:
     from office.door import listening_at, tls_with  # these take long to load, and no other command needs them
     from office.markup import Pages
@@ -90,8 +101,6 @@ def main(asked: argparse.Namespace) -> None:
         pages = Pages(Board(paper, placed(desk, b''), name, asked.practice), paper, name, here)
         server = Server(listening, tls, here, hall, pages, asked.practice)
         hall.open()
-        write_out(f'{here.address} is open for {counted(len(hall.sittings), "candidate")}, '
-                  f'{counted(hall.handed_in, "answer")} handed in\n'
-                  f'tickets: {printable(os.path.join(asked.answers, TICKETS))}; Ctrl-C ends the sitting\n'.encode())
+        say_so(hall, here.address)
         signal.signal(signal.SIGPIPE, signal.SIG_IGN)  # a candidate who goes away must not end the hall
         server.serve()

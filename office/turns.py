@@ -13,11 +13,16 @@ class Turns:
 
     def __init__(self, loop: asyncio.AbstractEventLoop):
         self.loop, self.called = loop, False
-        self.waiting: dict[Hashable, deque[Callable[[], None]]] = {}
+        self.waiting: dict[Hashable, deque[Callable[[], bool]]] = {}
 
-    def add(self, whose: Hashable, piece: Callable[[], None]) -> None:
+    def add(self, whose: Hashable, piece: Callable[[], bool]) -> None:
+        """Has a piece of work wait, which says whether more of it will follow in the loop."""
         self.waiting.setdefault(whose, deque()).append(piece)
         self.soon()
+
+    def many(self, whose: Hashable) -> int:
+        """How many pieces of somebody wait."""
+        return len(self.waiting.get(whose, ()))
 
     def soon(self) -> None:
         if self.waiting and not self.called:
@@ -25,23 +30,23 @@ class Turns:
             self.loop.call_soon(self.work)
 
     def work(self) -> None:
-        """Works for a spell, and goes on soon, also after a fault."""
-        end = self.loop.time() + SPELL
+        """Works for a spell, or until more follows of a piece, and goes on soon, also after a fault."""
+        end, more = self.loop.time() + SPELL, False
         try:
-            while self.waiting and self.loop.time() < end:
-                self.one()
+            while self.waiting and self.loop.time() < end and not more:
+                more = self.one()
         finally:
             self.called = False
             self.soon()
 
-    def one(self) -> None:
+    def one(self) -> bool:
         """Does one piece; whose it was comes last from now on."""
         whose = next(iter(self.waiting))
         pieces = self.waiting.pop(whose)
         piece = pieces.popleft()
         if pieces:
             self.waiting[whose] = pieces
-        piece()
+        return piece()
 
     def finish(self) -> None:
         """Does all that waits."""

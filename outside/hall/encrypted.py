@@ -194,3 +194,5 @@ def wrong(tally: Tally, folder: pathlib.Path) -> None:
     with socket.create_server(('127.0.0.1', 0)) as taken:
         seen = run(*hall.command, '--port', str(taken.getsockname()[1]))
     tally.check('a port in use', seen.failed('cannot listen') and not hall.answers.exists(), seen)
+    seen = run(*hall.command, shell='"$@" >/dev/full')
+    tally.check('nobody to tell', seen.failed('not written') and not hall.answers.exists(), seen)

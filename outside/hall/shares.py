@@ -48,16 +48,19 @@ def in_turn(tally: Tally, _: pathlib.Path) -> None:
     loop.set_exception_handler(lambda _, fault: done.append(repr(fault['exception'])))
     turns = Turns(loop)
 
-    def fails() -> None:
-        raise ZeroDivisionError
+    def piece(name: str) -> bool:
+        done.append(name)
+        if name == 'bert':
+            turns.add('cleo', lambda: piece('cleo'))
+        if name == 'dora':
+            raise ZeroDivisionError
+        return name == 'anna 1'
 
-    for number in range(4):
-        turns.add('anna', lambda number=number: done.append(f'anna {number}'))
-    turns.add('bert', lambda: (done.append('bert'), turns.add('cleo', lambda: done.append('cleo'))))
-    turns.add('dora', fails)
+    for name in ('anna 0', 'anna 1', 'anna 2', 'anna 3', 'bert', 'dora'):
+        turns.add(name[:4], lambda name=name: piece(name))
     loop.run_until_complete(asyncio.sleep(0.01))
-    tally.check('in turn', done[:2] == ['anna 0', 'bert'] and sorted(done[2:5]) == [
-        'ZeroDivisionError()', 'anna 1', 'cleo'] and done[5:] == ['anna 2', 'anna 3'], done)
+    tally.check('in turn', done == ['anna 0', 'bert', 'dora', 'ZeroDivisionError()', 'anna 1', 'cleo', 'anna 2',
+                                    'anna 3'], done)
     loop.close()
 
 
