@@ -61,12 +61,12 @@ class Server:
         self.made: list[Made] = []
         self.seen = 0
         self.waiting: dict[str, list[Connection]] = {}
-        self.loop = asyncio.new_event_loop()
-        self.loop.set_default_executor(concurrent.futures.ThreadPoolExecutor(1))
-        self.loop.set_exception_handler(lambda _, fault: mention(f'{fault.get("message")}: {fault.get("exception")!r}'))
 
     def serve(self) -> None:
         """Serves until Ctrl-C, or a signal that asks for the same. What was asked for before is still kept and told."""
+        self.loop = asyncio.new_event_loop()
+        self.loop.set_default_executor(concurrent.futures.ThreadPoolExecutor(1))
+        self.loop.set_exception_handler(lambda _, fault: mention(f'{fault.get("message")}: {fault.get("exception")!r}'))
         connections = Connections(self.loop, self, most_connections(), self.tls)
         door = Door(self.loop, self.listening, connections)
         ends = [number for number in ENDS if number == signal.SIGINT or signal.getsignal(number) != signal.SIG_IGN]
@@ -82,6 +82,7 @@ class Server:
         if self.made:
             self.settle()
         self.loop.run_until_complete(self.loop.shutdown_default_executor())
+        self.loop.close()
 
     def look(self) -> None:
         """Has the hall look after its log and its files, now and again and again."""
