@@ -67,11 +67,10 @@ class Clicker:
         return self.same(told)
 
 
-def late_save(hall: Hall, clickers: list[Clicker], turn: int) -> None:
+def late_save(hall: Hall, turn: int) -> None:
     """An editor has read the log, moves were made, and now it saves. The hall has a second to notice."""
-    log, answered = hall.log.read_bytes(), [clicker.answered for clicker in clickers]
-    while any(clicker.answered == before for clicker, before in zip(clickers, answered)):
-        time.sleep(0.001)
+    log = hall.log.read_bytes()
+    until_there(lambda: hall.log.stat().st_size > len(log))
     told = hall.complaints().count('put back')
     (saved_over if turn % 2 else saved_into)(hall.log, log)
     until_there(lambda: hall.complaints().count('put back') > told)
@@ -89,7 +88,7 @@ def killed(tally: Tally, folder: pathlib.Path) -> None:
         while not all(clicker.answered for clicker in clickers):
             time.sleep(0.001)
         if turn % 5 == 4:
-            late_save(hall, clickers, turn)
+            late_save(hall, turn)
         time.sleep(rng.random() * 0.1)
         hall.end()
         for clicker in clickers:
