@@ -109,8 +109,8 @@ def listed(file: str) -> Iterator[tuple[int, dict[str, str]]]:
         yield number, dict(zip(columns, cells))
 
 
-def candidates_in(file: str, papers: Collection[str]) -> list[Candidate]:
-    """The candidates of a list, who sit over papers of these names."""
+def candidates_in(file: str, papers: Collection[str] | None = None) -> list[Candidate]:
+    """The candidates of a list, who sit over papers of these names, or of any."""
     found: dict[str, Candidate] = {}
     for number, cells in listed(file):
         identity, name, minutes, paper = (cells.get(column, '') for column in COLUMNS)
@@ -123,7 +123,7 @@ def candidates_in(file: str, papers: Collection[str]) -> list[Candidate]:
             raise Fault(f'{where} has no name: "{printable(name)}"; {NAME_FORM}')
         if minutes and not MINUTES.fullmatch(minutes):
             raise Fault(f'{where} has no number of minutes: "{printable(minutes)}"')
-        if paper and paper.removesuffix('.hex') not in papers:
+        if paper and papers is not None and paper.removesuffix('.hex') not in papers:
             raise Fault(f'{where} has a paper that is not served: "{printable(paper)}"')
         found[folded(identity)] = Candidate(identity, name, int(minutes) if minutes else None,
                                             paper.removesuffix('.hex'))

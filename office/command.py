@@ -3,8 +3,10 @@ import argparse
 import contextlib
 import os
 import pathlib
+import secrets
 import select
 import signal
+import stat
 import sys
 from collections.abc import Callable
 from typing import NoReturn
@@ -31,11 +33,6 @@ class Parser(argparse.ArgumentParser):
 
     def _print_message(self, message: str, file: object = None) -> None:
         write_out(message.encode())
-
-
-def version() -> int:
-    """The number of the last change request that has landed."""
-    return max(int(note.stem) for note in (ROOT / 'docs' / 'changes').glob('[0-9]*.md'))
 
 
 def printable(name: str) -> str:
@@ -69,9 +66,28 @@ def write_out(data: bytes) -> None:
 
 def read_in(file: str) -> bytes:
     """The bytes of a file, or of standard input for a dash."""
+    return read_from(0 if file == '-' else file, file)
+
+
+def read_plain(file: str) -> bytes:
+    """The bytes of a plain file. Nothing else is waited for."""
     try:
-        with open(0 if file == '-' else file, 'rb', closefd=file != '-') as opened:
-            data = opened.read(ENOUGH + 1)
+        opened = os.open(file, os.O_RDONLY | os.O_NONBLOCK | os.O_CLOEXEC)
+    except OSError as fault:
+        raise Fault(f'cannot read {printable(file)}: {fault.strerror}') from fault
+    try:
+        if not stat.S_ISREG(os.fstat(opened).st_mode):
+            raise Fault(f'cannot read {printable(file)}: it is no plain file')
+        return read_from(opened, file)
+    finally:
+        os.close(opened)
+
+
+def read_from(opened: int | str, file: str) -> bytes:
+    """The bytes of a file that is open, or that has a name."""
+    try:
+        with open(opened, 'rb', closefd=isinstance(opened, str)) as source:
+            data = source.read(ENOUGH + 1)
     except OSError as fault:
         raise Fault(f'cannot read {printable(file)}: {fault.strerror}') from fault
     if len(data) > ENOUGH:
@@ -87,17 +103,30 @@ def place_of(file: str) -> str:
     return place
 
 
-def write_over(file: str, data: bytes, lasting: bool = False) -> None:
-    """Writes a file beside and renames it over: at every moment the old one or the new one is there, whole. What is
-    lasting is on the disk before it takes the old one's place."""
-    target = place_of(file)
-    beside = f'{target}.new'
+def begins_with(file: str, begins: bytes) -> bool:
+    """Whether a file begins with these bytes, or is not there."""
     try:
-        with contextlib.suppress(FileNotFoundError):
-            os.unlink(beside)
-        with open(beside, 'xb') as opened:
+        with open(file, 'rb') as opened:
+            return opened.read(len(begins)) == begins
+    except FileNotFoundError:
+        return True
+    except OSError as fault:
+        raise Fault(f'cannot read {printable(file)}: {fault.strerror}') from fault
+
+
+def write_over(file: str, data: bytes, lasting: bool = False, begins: bytes = b'', mode: int = 0o666) -> None:
+    """Writes a file beside, under a name of its own, and renames it over: at every moment the old one or the new one is
+    there, whole. What is lasting is on the disk before it takes the old one's place. A file that does not begin as what
+    is written here is somebody else's, and is left alone."""
+    target = place_of(file)
+    if begins and not begins_with(target, begins):
+        raise Fault(f'{printable(file)} is there and is none of the desk\'s files, so it is left alone: '
+                    'give another name')
+    beside = os.path.join(os.path.dirname(target), f'.desk-{secrets.token_hex(8)}.new')
+    try:
+        with open(beside, 'xb', opener=lambda name, flags: os.open(name, flags, mode)) as opened:
             if os.path.exists(target):
-                os.fchmod(opened.fileno(), os.stat(target).st_mode & 0o777)
+                os.fchmod(opened.fileno(), os.stat(target).st_mode & mode)
             opened.write(data)
             opened.flush()
             if lasting:

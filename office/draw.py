@@ -3,10 +3,11 @@ import argparse
 import pathlib
 
 from office.asked import GAPS_HELP, PAPER_HELP, loaded, placement_asked, planned
-from office.command import Parser, printable, version, write_out
+from office.command import Parser, printable, write_out
 from office.library import Desk
 from office.paper import paper_on, placed
 from office.picture import Picture
+from office.version import Told
 
 HELP = 'draws a paper as SVG, with the barriers of its key or with those that are named'
 MORE = """  ./desk draw paper.hex > paper.svg               the barriers of the key
@@ -40,6 +41,6 @@ def alone(given: list[str]) -> None:
     """The command under its own name."""
     parser = Parser(prog='./draw', description=f'It {HELP}.\n\n{MORE.replace("./desk draw", "./draw")}',
                     formatter_class=argparse.RawDescriptionHelpFormatter)
-    parser.add_argument('--version', action='version', version=f'draw {version()}')
+    parser.add_argument('--version', action=Told, name='draw')
     arguments(parser)
     main(parser.parse_args(given))

@@ -1,76 +1,91 @@
-"""./desk mark: answers marked beside the key of a paper, with slips for two readers and a row each in the register."""
+"""./desk mark: answers marked beside the key of a paper, with slips for two readers and a mark each in the register."""
 import argparse
-import hashlib
+import contextlib
 import os
 import pathlib
 from collections import Counter
-from dataclasses import dataclass
+from dataclasses import dataclass, field
 
+from office import register as registers
 from office.asked import PAPER_HELP, planned
-from office.command import FAILED, REFUSED, Fault, printable, read_in, take_away, tell, write_out, write_over
-from office.library import BEST, Desk
+from office.candidates import IDENTITY_FORM, Candidate, candidates_in, identity_of
+from office.command import FAILED, INTERRUPTED, REFUSED, Fault, printable, read_plain, tell, write_out
+from office.library import Desk
+from office.keeping import Answer, Marker, PaperText, finding_of, keep, marker
+from office.marks import Finding, sha256_of
 from office.progress import Progress
-from office.refusal import Refused
-from office.register import NO, YES, Row, add, as_csv, rows_in
+from office.refusal import Refusal
+from office.register import Register
+from office.rows import FIRST, as_csv, first_cells
+from office.slip_files import Slips
+from office.words import ABSENT, UNREAD, VERDICTS, counted
 from office.words import REFUSED as REFUSED_WORD
-from office.words import UNREAD, VERDICTS, counted
 
-HELP = 'marks answers beside the key of a paper, a row of CSV for each'
-MORE = """A candidate is called as the file of the answer, without .hex. A file that is refused or cannot be read has a
-row too, a line on standard error says why, and the others are marked. The status is then 1, or 2 where one was not
-read or a slip not written.
+HELP = 'marks answers beside the key of a paper, a row of CSV for each, or a mark in the register'
+MORE = """A candidate is called as the file of the answer, without .hex. An answer that is refused has a mark too; a line on
+standard error says why, and the others are marked. A file that cannot be read is marked Not read, and takes no mark
+away that is there. The status is then 1, or 2 where something was not read, not kept or not written.
 
   ./desk mark paper.hex answers/*.hex
-  ./desk mark paper.hex answers/*.hex --slips slips --register register.csv
+  ./desk mark paper.hex answers/*.hex --register register.db --new
+  ./desk mark paper.hex answers/*.hex --register register.db --candidates names.csv --slips slips
+  ./desk mark paper.hex late/anna.hex --register register.db --replace "handed in again, with leave"
 """
-SLIPS = {'candidate': Desk.candidate_slip, 'examiner': Desk.examiner_slip}
+# How many answers are marked before their marks are kept.
+EVERY = 300
 
 
 @dataclass
 class Marking:
-    """A paper with its key on a desk, its name and its hash, where slips go, and what there is to say while marking."""
+    """A paper with its key on a desk, where its marks and slips go, and what there is to say while marking."""
     desk: Desk
-    name: str
-    paper: str
-    slips: str | None
+    paper: PaperText
+    register: Register | None
+    by: Marker | None
+    slips: Slips | None
     bar: Progress
+    done: list[Answer] = field(default_factory=list)
     status: int = 0
 
-    def row(self, candidate: str, file: str) -> Row:
-        """The row of an answer. Its slips are written, or taken away where it has no verdict."""
+    def answer(self, candidate: str, file: str | None) -> Answer:
+        """An answer and what became of it. Who has no file is absent."""
+        if file is None:
+            return Answer(candidate, None, Finding(ABSENT))
         try:
-            text = read_in(file)
+            text = read_plain(file)
         except Fault as fault:
             self.say(str(fault), FAILED)
-            self.hand_out(candidate, None)
-            return Row(candidate, UNREAD, paper_sha256=self.paper)
-        hashes = {'paper_sha256': self.paper, 'answer_sha256': hashlib.sha256(text).hexdigest()}
-        try:
-            mark = self.desk.mark(text)
-        except Refused as refused:
-            refusal = refused.refusal
-            where, *rules = refusal.words(text)
+            return Answer(candidate, None, Finding(UNREAD))
+        finding = finding_of(self.desk, text)
+        if finding.number is not None and finding.line is not None:
+            where, *rules = Refusal(finding.number, finding.line).words(text)
             self.say(f'{printable(file)}: {where}: {"; ".join(rules)}', REFUSED)
-            self.hand_out(candidate, None)
-            return Row(candidate, REFUSED_WORD, number=str(refusal.number), line=str(refusal.line), **hashes)
-        self.hand_out(candidate, text)
-        told = {name: '' if value is None else str(value) for name, value in vars(mark).items()}
-        certificate = YES if mark.verdict == BEST else NO
-        return Row(candidate, **told | {'verdict': VERDICTS[mark.verdict]}, certificate=certificate, **hashes)
+        return Answer(candidate, text, finding)
 
-    def hand_out(self, candidate: str, text: bytes | None) -> None:
-        """Writes both slips of an answer. One that has no verdict has none, and loses those of a time before."""
-        if self.slips is None:
-            return
-        for reader, slip in SLIPS.items():
-            file = os.path.join(self.slips, f'{candidate}.{self.name}.{reader}.hex')
-            try:
-                if text is None:
-                    take_away(file)
-                else:
-                    write_over(file, slip(self.desk, text))
-            except Fault as fault:
-                self.say(str(fault), FAILED)
+    def keep(self, answers: list[Answer]) -> None:
+        """Keeps the marks of answers, and then writes their slips."""
+        held = answers
+        if self.register is not None and self.by is not None:
+            outcomes = keep(self.register, self.paper, answers, self.by)
+            held = [outcome.answer for outcome in outcomes if not outcome.why]
+            for outcome in outcomes:
+                if outcome.why and outcome.answer.finding.verdict != ABSENT:
+                    self.say(f'{outcome.answer.candidate}: {outcome.why}', FAILED)
+        for answer in held if self.slips is not None else []:
+            self.hand_out(answer)
+        self.done += answers
+
+    def hand_out(self, answer: Answer) -> None:
+        """Writes both slips of an answer. One that was refused has none, and loses those of a time before; what was not
+        read takes none away."""
+        faults: list[str] = []
+        if self.slips is not None and answer.text is not None:
+            if answer.finding.verdict == REFUSED_WORD:
+                faults = self.slips.take_away(answer.candidate, self.paper)
+            else:
+                faults = self.slips.write(self.desk, answer.candidate, self.paper, answer.text)
+        for fault in faults:
+            self.say(fault, FAILED)
 
     def say(self, why: str, status: int) -> None:
         """Says why something was not done; the marking goes on."""
@@ -80,52 +95,122 @@ class Marking:
 
 
 def name_of(file: str) -> str:
-    """What a paper or a candidate is called."""
-    return pathlib.PurePath(file).name.removesuffix('.hex') or file
+    """What a file is called, without its ending."""
+    return pathlib.PurePath(file).name.removesuffix('.hex')
 
 
-def candidates(files: list[str]) -> dict[str, str]:
-    """The file of each candidate."""
+def paper_name(file: str) -> str:
+    """What a paper is called in the register and in the names of slips."""
+    return 'paper' if file == '-' else printable(name_of(file)) or 'paper'
+
+
+def why_nobody(file: str, listed: dict[str, Candidate] | None) -> str:
+    """Why a file is no candidate's answer; nothing where it is one."""
+    identity = identity_of(name_of(file))
+    if identity is None:
+        return f'no answer of a candidate, as {IDENTITY_FORM}'
+    if listed is None:
+        return '' if os.path.isfile(file) else 'it is no plain file'
+    return '' if identity in listed else f'{identity} is not on the list of candidates'
+
+
+def files_of(files: list[str], listed: dict[str, Candidate] | None) -> tuple[dict[str, str], list[str]]:
+    """The file of each candidate, and what is wrong with files that are nobody's. A file that is not there is a slip of
+    the hand where no list says who should have one."""
     named: dict[str, str] = {}
+    wrong: list[str] = []
     for file in files:
-        name = name_of(file)
+        if file == '-':
+            raise Fault('an answer is a file, as its candidate is called after it; - can be the paper alone')
+        if listed is None and not os.path.lexists(file):
+            raise Fault(f'there is no file {printable(file)}')
+        why = why_nobody(file, listed)
+        if why:
+            wrong.append(f'{printable(file)} is not marked: {why}')
+            continue
+        name = identity_of(name_of(file)) or ''
         if name in named:
-            raise Fault(f'two answers of candidate {printable(name)}: {printable(named[name])}, {printable(file)}')
+            raise Fault(f'two answers of candidate {name}: {printable(named[name])}, {printable(file)}')
         named[name] = file
-    return named
+    return named, wrong
 
 
-def summary(rows: list[Row]) -> str:
+def summary(answers: list[Answer]) -> str:
     """How many answers there are of each verdict."""
-    many = Counter(row.verdict for row in rows)
-    words = [*reversed(VERDICTS.values()), REFUSED_WORD, UNREAD]
-    return f'{counted(len(rows), "answer")}: ' + ', '.join(f'{many[word]:,} {word}' for word in words if many[word])
+    many = Counter(answer.finding.verdict for answer in answers)
+    words = [*reversed(VERDICTS.values()), REFUSED_WORD, UNREAD, ABSENT]
+    told = ', '.join(f'{many[word]:,} {word}' for word in words if many[word])
+    return f'{counted(len(answers), "answer")}: {told}' if answers else 'no answers'
+
+
+def register_asked(asked: argparse.Namespace) -> contextlib.AbstractContextManager[Register | None]:
+    """The register that is asked for, which is told from any other file before anything is marked."""
+    if asked.register is None:
+        if asked.new or asked.replace is not None:
+            raise Fault('--new and --replace are about a register: --register FILE names it')
+        return contextlib.nullcontext()
+    if asked.replace is not None and not asked.replace.strip():
+        raise Fault('--replace wants the reason')
+    return registers.made(asked.register) if asked.new else registers.opened(asked.register, writing=True)
 
 
 def arguments(parser: argparse.ArgumentParser) -> None:
     parser.add_argument('paper', metavar='PAPER', help=PAPER_HELP)
     parser.add_argument('answers', metavar='ANSWER', nargs='+', help='a file with a placement text')
-    parser.add_argument('--slips', metavar='DIR',
-                        help='writes both slips of each answer: NAME.PAPER.candidate.hex and NAME.PAPER.examiner.hex')
     parser.add_argument('--register', metavar='FILE',
-                        help='adds the rows to a register, and writes how many there are to standard output instead')
+                        help='keeps the marks in a register, and writes how many there are to standard output instead')
+    parser.add_argument('--new', action='store_true', help='makes the register, where no file is yet')
+    parser.add_argument('--replace', metavar='REASON', help='puts answers in the place of others that were marked')
+    parser.add_argument('--candidates', metavar='FILE',
+                        help='who should have an answer: a list, or CSV with id and name; the others are Absent')
+    parser.add_argument('--slips', metavar='DIR', help='writes both slips of each answer, each reader\'s in a folder')
 
 
 def main(asked: argparse.Namespace) -> None:
+    listed = None
+    if asked.candidates is not None:
+        listed = {one.identity.lower(): one for one in candidates_in(asked.candidates)}
+    files, wrong = files_of(asked.answers, listed)
     desk, text = planned(asked.paper)
-    files = candidates(asked.answers)
-    if asked.slips is not None:
-        try:
-            os.makedirs(asked.slips, exist_ok=True)
-        except OSError as fault:
-            raise Fault(f'cannot write in {printable(asked.slips)}: {fault.strerror}') from fault
-    if asked.register is not None:
-        rows_in(asked.register)  # what is no register is told before anything is marked
-    paper, bar = hashlib.sha256(text).hexdigest(), Progress('marking', len(files))
-    marking = Marking(desk, name_of(asked.paper), paper, asked.slips, bar)
-    rows = [marking.row(candidate, file) for candidate, file in bar.over([*files.items()])]
-    if asked.register is not None:
-        add(asked.register, rows)
-    write_out(as_csv(rows) if asked.register is None else f'{summary(rows)}\n'.encode())
+    paper = PaperText(sha256_of(text), paper_name(asked.paper), text)
+    slips = None if asked.slips is None else Slips(asked.slips)
+    if slips is not None:
+        slips.make()
+    with register_asked(asked) as register:
+        everyone: list[tuple[str, str | None]] = [*files.items(), *((name, None) for name in listed or {}
+                                                                    if name not in files)]
+        bar = Progress('marking', len(everyone))
+        by = None if register is None else marker(asked.replace and printable(asked.replace))
+        marking = Marking(desk, paper, register, by, slips, bar)
+        for why in wrong:
+            marking.say(why, FAILED)
+        mark_all(marking, everyone, listed)
+        if register is None:
+            rows = [first_cells(one.candidate, one.finding, paper.sha256, one.sha256) for one in marking.done]
+            write_out(as_csv(FIRST, sorted(rows, key=lambda row: str(row['candidate']))))
+        else:
+            added = f'{counted(register.kept, "mark")} added, head {register.head()}'
+            write_out(f'{summary(marking.done)}\n{printable(asked.register)}: {added}\n'.encode())
     if marking.status:
         raise Fault('', marking.status)
+
+
+def mark_all(marking: Marking, everyone: list[tuple[str, str | None]], listed: dict[str, Candidate] | None) -> None:
+    """Marks all, and keeps the marks as it goes. Whoever ends it learns what was kept."""
+    register = marking.register
+    try:
+        if register is not None and listed is not None:
+            with register.adding():
+                for one in listed.values():
+                    register.add_name(one.identity.lower(), one.name)
+        for first in range(0, len(everyone), EVERY):
+            some = marking.bar.over(everyone[first:first + EVERY])
+            marking.keep([marking.answer(*one) for one in some])
+    except (KeyboardInterrupt, Fault) as fault:
+        if register is None:
+            raise
+        marking.bar.hide()
+        kept = f'{counted(register.kept, "mark")} of {len(everyone):,} answers kept; the same command goes on'
+        if isinstance(fault, KeyboardInterrupt):
+            raise Fault(f'ended: {kept}', INTERRUPTED) from fault
+        raise Fault(f'{fault}\n{kept}', fault.status) from fault

@@ -9,6 +9,8 @@ from office.paper import Paper, Placed
 from office.picture import Picture
 
 NARROW = 700
+# By this a page is known as one.
+BEGINS = b'<!DOCTYPE html>'
 SIGN = ('Each loop stands under the one around it, by the point of its DO, with the count of its own barriers. A loop '
         'marked &lt; decides. Gaps, points and counts are decimal on this page, hexadecimal in texts.')
 STYLE = """
@@ -48,6 +50,6 @@ def page(file: str, paper: Paper, shown: list[Shown], told: list[str]) -> str:
     pictures = ''.join(figure(drawing, side.title) for drawing, side in zip(drawings, shown))
     trees = ''.join('<pre>{}</pre>\n'.format(html.escape('\n'.join([side.title, '', *side.tree]))) for side in shown)
     reasons = ''.join(f'<p>{html.escape(words)}</p>\n' for words in told)
-    return (f'<!DOCTYPE html>\n<html lang="en">\n<head>\n<meta charset="utf-8">\n<title>{title}</title>\n'
+    return (f'{BEGINS.decode()}\n<html lang="en">\n<head>\n<meta charset="utf-8">\n<title>{title}</title>\n'
             f'<style>{STYLE}</style>\n</head>\n<body>\n<h1>{title}</h1>\n{reasons}<div class="two">\n{trees}</div>\n'
             f'<p class="small">{SIGN}</p>\n<div class="{columns}">\n{pictures}</div>\n</body>\n</html>\n')

@@ -8,7 +8,7 @@ from office.asked import GAPS_HELP, PAPER_HELP, TURNS, TURNS_HELP, loaded, place
 from office.command import Fault, write_out, write_over
 from office.frames import DO
 from office.library import DEARER, UNCUT, Compared, Desk, Mark
-from office.page import Shown, page
+from office.page import BEGINS, Shown, page
 from office.paper import Paper, Placed, paper_on, placed
 from office.refusal import Refused
 from office.trees import beside, drawn
@@ -176,7 +176,7 @@ def main(asked: argparse.Namespace) -> None:
         told.append(calls_words(paper, held, turns, made, first, second))
     if asked.html is not None:
         shown = [Shown(side.title, side.placed, tree) for side, tree in zip((first, second), trees)]
-        write_over(asked.html, page(asked.paper, paper, shown, told).encode())
+        write_over(asked.html, page(asked.paper, paper, shown, told).encode(), begins=BEGINS)
         return
     left, right = ([side.title, '', *tree] for side, tree in zip((first, second), trees))
     paragraphs = ['\n'.join(beside(left, right)), *('\n'.join(textwrap.wrap(words, WIDE)) for words in told)]

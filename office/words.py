@@ -29,9 +29,11 @@ RULES = {
     20: 'a set of waits lacks its own processor, or names one that does not exist',
 }
 
-VERDICTS = {DECLARED.numbers[f'DESK_{word.upper()}']: word for word in ('Uncut', 'Dearer', 'Best')}
+UNCUT, DEARER, BEST = 'Uncut', 'Dearer', 'Best'
+VERDICTS = {DECLARED.numbers[f'DESK_{word.upper()}']: word for word in (UNCUT, DEARER, BEST)}
 ENDED = {0: 'a whole round', 1: 'the budget'}
-REFUSED, UNREAD = 'Refused', 'Not read'
+# What else may become of an answer.
+REFUSED, UNREAD, ABSENT = 'Refused', 'Not read', 'Absent'
 
 
 def counted(many: int, one: str, more: str = '') -> str:

@@ -8,7 +8,7 @@ from dataclasses import dataclass
 
 ROOT = pathlib.Path(__file__).resolve().parent.parent
 PROGRAM, KEY, DRAW, DESK = ROOT / 'target' / 'bin' / 'key', ROOT / 'key', ROOT / 'draw', ROOT / 'desk'
-VERSION = len(list((ROOT / 'docs' / 'changes').glob('[0-9]*.md')))
+VERSION = (ROOT / 'VERSION').read_text().strip()
 TIMEOUT, BASH = shutil.which('timeout'), shutil.which('bash')
 EXAMPLES = {name: (ROOT / 'examples' / f'{name}.hex').read_bytes() for name in 'pqr'}
 

@@ -54,7 +54,7 @@ def drawn(tally: Tally, folder: pathlib.Path) -> None:
         opened.write(EXAMPLES['q'])
     seen = run(DRAW, os.fsdecode(strange), '4')
     tally.check('a strange name', words_of(texts_of(seen), 'title') == ['?<&, barriers 4'] and seen.status == 0, seen)
-    for option, word in [('--help', b'usage: ./draw '), ('--version', b'draw %d\n' % VERSION)]:
+    for option, word in [('--help', b'usage: ./draw '), ('--version', f'draw {VERSION}, commit '.encode())]:
         seen = run(DRAW, option)
         tally.check(option, seen.status == 0 and word in seen.out, seen)
 

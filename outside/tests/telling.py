@@ -3,6 +3,7 @@
 Needs gcc, target/bin/key and the library's archive (rt staticlib host).
 """
 import ctypes
+import hashlib
 import math
 import pathlib
 import random
@@ -70,7 +71,9 @@ def told(seen: Seen, *words: str) -> bool:
 def usage(tally: Tally) -> None:
     """Help and version for all; what is asked wrongly gets one line that says what to do."""
     seen = run(DESK, '--version')
-    tally.check('--version', (seen.out, seen.err, seen.status) == (b'desk %d\n' % VERSION, '', 0), seen)
+    library = hashlib.sha256((ROOT / 'target' / 'libdesk.so').read_bytes()).hexdigest()
+    told_by = re.fullmatch(rf'desk {re.escape(VERSION)}, commit ([0-9a-f]{{12}}), library {library}\n', seen.out.decode())
+    tally.check('--version', told_by is not None and (seen.err, seen.status) == ('', 0), seen)
     seen = run(DESK, '--help')
     tally.check('--help', told(seen, *COMMANDS, 'Status: 0 done, 1 refused, 2'), seen)
     for name in COMMANDS:
@@ -277,6 +280,13 @@ def reasons(tally: Tally, folder: pathlib.Path) -> None:
         tally.check(f'the page has {word}', word in html, html[:300])
     seen = run(DESK, 'why', q, '4,7', '--html', folder)
     tally.check('no page', seen.failed('no plain file'), seen)
+    tally.check('a page over a page', run(DESK, 'why', q, '4,7', '--html', page).status == 0)
+    for other in (folder / 'key.hex', folder / 'empty.hex'):
+        other.touch()
+        kept = other.read_bytes()
+        seen = run(DESK, 'why', q, '4,7', '--html', other)
+        tally.check(f'no page over {other.name}', seen.failed('it is left alone') and other.read_bytes() == kept, seen)
+    tally.check('nothing beside the page', not [*folder.glob('.*')], [*folder.glob('.*')])
 
 
 def main() -> None:

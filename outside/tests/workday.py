@@ -1,8 +1,8 @@
 """A day in the office, from nothing to the register: what is typed, what is seen, and what is there afterwards.
 
 Three papers are set as listings, checked and planned; forty answers of every sort, and three that cannot be read, are
-marked as they come in; the same day in another order gives the same bytes; then ten thousand answers at once. Needs
-the library's archive (rt staticlib host). The last line is 'N passed, M failed'.
+marked as they come in, and who has none is absent; the same day in another order gives the same marks and slips; then
+ten thousand answers at once. Needs the library's archive (rt staticlib host). The last line is 'N passed, M failed'.
 """
 import csv
 import hashlib
@@ -72,10 +72,11 @@ def verdict(paper: bytes, gaps, key) -> list[str]:
 
 
 def rows_of(data: bytes) -> dict[tuple[str, str], list[str]]:
-    """The rows of a register by candidate and paper, if its first line is right and it is sorted."""
-    head, *rows = csv.reader(data.decode().splitlines())
+    """The rows of a table by candidate and paper, in its first columns, if these are right and it is sorted."""
+    wanted = COLUMNS.split(',')
+    head, *rows = [row[:len(wanted)] for row in csv.reader(data.decode().splitlines())]
     about = [(row[0], row[9]) for row in rows]
-    return dict(zip(about, rows)) if head == COLUMNS.split(',') and about == sorted(set(about)) else {}
+    return dict(zip(about, rows)) if head == wanted and about == sorted(set(about)) else {}
 
 
 def answers_in(folder: pathlib.Path) -> dict[str, dict[str, tuple[bytes | None, list[str]]]]:
@@ -91,16 +92,22 @@ def answers_in(folder: pathlib.Path) -> dict[str, dict[str, tuple[bytes | None, 
         (folder / paper).mkdir(parents=True)
         for name, (text, _) in answers.items():
             (folder / paper / f'{name}.hex').write_bytes(text)
-    unread = ['Not read', '', '', '', '', '', '', 'no']
+    nothing = [''] * 6
     (folder / 'q' / 'folder.hex').mkdir()
     (folder / 'q' / 'broken.hex').symlink_to('/proc/self/mem')
-    made['q'] |= {name: (None, unread) for name in ('folder', 'broken', 'missing')}
+    made['q'] |= {name: (None, ['Not read', *nothing, 'no']) for name in ('folder', 'broken', 'missing')}
+    made['r'] |= {'nobody': (None, ['Absent', *nothing, 'no'])}
     return made
 
 
+def slip_of(slips: pathlib.Path, candidate: str, paper: str, reader: str) -> pathlib.Path:
+    """The file of a slip."""
+    return slips / reader / f'{candidate}.{paper}-{hashlib.sha256(EXAMPLES[paper]).hexdigest()[:8]}.{reader}.hex'
+
+
 def a_day(tally: Tally, folder: pathlib.Path, backwards: bool) -> dict[str, bytes]:
-    """The day in a folder; gives the bytes of all files that it made."""
-    answers, register, slips = answers_in(folder / 'answers'), folder / 'register.csv', folder / 'slips'
+    """The day in a folder; gives the bytes of all files that it made, and the rows of the register."""
+    answers, register, slips = answers_in(folder / 'answers'), folder / 'register.db', folder / 'slips'
     for paper, listing in LISTINGS.items():
         typed, text = folder / f'{paper}.txt', folder / f'{paper}.hex'
         shown = run(DESK, 'show', ROOT / 'examples' / f'{paper}.hex').out
@@ -112,36 +119,43 @@ def a_day(tally: Tally, folder: pathlib.Path, backwards: bool) -> dict[str, byte
         tally.check(f'{paper} planned', run(DESK, 'key', text).out.startswith(text_of(KEYS[paper]) + b'22'))
     statuses = {'p': 1, 'q': 2, 'r': 0}
     for paper in sorted(LISTINGS, reverse=backwards):
-        files = [folder / 'answers' / paper / f'{name}.hex' for name in sorted(answers[paper], reverse=backwards)]
-        half = len(files) // 2
-        for some in (files[:half], files[half:]):
-            seen = run(DESK, 'mark', folder / f'{paper}.hex', *some, '--slips', slips, '--register', register)
+        names, listed = sorted(answers[paper], reverse=backwards), folder / 'names.txt'
+        files = [folder / 'answers' / paper / f'{name}.hex' for name in names if name != 'nobody']
+        half = len(names) // 2
+        for some in (names[:half], names[half:]):
+            listed.write_text('\n'.join(some))
+            new = [] if register.exists() else ['--new']
+            seen = run(DESK, 'mark', folder / f'{paper}.hex', *(file for file in files if file.stem in some),
+                       '--slips', slips, '--register', register, *new, '--candidates', listed)
             tally.check(f'{paper} marked', seen.out.startswith(b'%d answers: ' % len(some)), seen)
-        seen = run(DESK, 'mark', folder / f'{paper}.hex', *files)
+        listed.write_text('\n'.join(names))
+        seen = run(DESK, 'mark', folder / f'{paper}.hex', *files, '--candidates', listed)
         tally.check(f'{paper}: status', seen.status == statuses[paper] and seen.err.count('\n') == sum(
             cells[0] in ('Refused', 'Not read') for _, cells in answers[paper].values()), seen)
-        tally.check(f'{paper}: rows to standard output', len(rows_of(seen.out)) == len(files), seen)
-    rows = rows_of(register.read_bytes())
-    tally.check('forty rows and three', len(rows) == 43, len(rows))
+        tally.check(f'{paper}: rows to standard output', len(rows_of(seen.out)) == len(answers[paper]), seen)
+    table = run(DESK, 'register', register, '--csv').out
+    rows = rows_of(table)
+    tally.check('forty rows, three and one', len(rows) == 44, len(rows))
+    tally.check('audited', run(DESK, 'audit', register).status == 0)
     for paper, some in answers.items():
         sha = hashlib.sha256(EXAMPLES[paper]).hexdigest()
         for name, (text, cells) in some.items():
             own = '' if text is None else hashlib.sha256(text).hexdigest()
             tally.check(f'the row of {name}', rows.get((name, sha)) == [name, *cells, sha, own], rows.get((name, sha)))
-            there = [(slips / f'{name}.{paper}.{reader}.hex').exists() for reader in ('candidate', 'examiner')]
+            there = [slip_of(slips, name, paper, reader).exists() for reader in ('candidate', 'examiner')]
             tally.check(f'the slips of {name}', there == [cells[0] in ('Uncut', 'Dearer', 'Best')] * 2, there)
     slip = b'230004\n220000\n220101\n220701\n'
     (folder / 'late.hex').write_bytes(text_of([3, 9]))
     run(DESK, 'mark', folder / 'p.hex', folder / 'late.hex', '--slips', slips)
-    tally.check("the candidate's slip", (slips / 'late.p.candidate.hex').read_bytes() == slip)
+    tally.check("the candidate's slip", slip_of(slips, 'late', 'p', 'candidate').read_bytes() == slip)
     examiner = slip + b'2400000000\n2503\n2503\n2509\n2509\n2500\n2509\n'
-    tally.check("the examiner's slip", (slips / 'late.p.examiner.hex').read_bytes() == examiner)
+    tally.check("the examiner's slip", slip_of(slips, 'late', 'p', 'examiner').read_bytes() == examiner)
     (folder / 'late.hex').write_bytes(b'21\n')
     run(DESK, 'mark', folder / 'p.hex', folder / 'late.hex', '--slips', slips)
-    tally.check('no slip of an answer that is refused now', not [*slips.glob('late.*')])
-    made = [*slips.iterdir(), register, *folder.glob('*.hex')]
+    tally.check('no slip of an answer that is refused now', not [*slips.glob('*/late.*')])
+    made = [*slips.glob('*/*'), *folder.glob('*.hex')]
     tally.check('nothing is left beside', not [*folder.glob('**/*.new')])
-    return {file.name: file.read_bytes() for file in made}
+    return {file.name: file.read_bytes() for file in made} | {'rows': repr(rows).encode()}
 
 
 def crowd_of_answers(folder: pathlib.Path) -> list[object]:
@@ -151,16 +165,16 @@ def crowd_of_answers(folder: pathlib.Path) -> list[object]:
     crowd.mkdir()
     for i in range(MANY):
         (crowd / f'{i:05}.hex').write_bytes(text_of(sorted(rng.sample(range(1, 256), rng.randrange(256)))))
-    return ['mark', paper, '--slips', folder / 'handed', '--register', folder / 'full.csv', *crowd.iterdir()]
+    return ['mark', paper, '--slips', folder / 'handed', '--register', folder / 'full.db', '--new', *crowd.iterdir()]
 
 
 def many(tally: Tally, folder: pathlib.Path) -> None:
     """A large paper and many answers: each has its row and both slips."""
     seen = run(DESK, *crowd_of_answers(folder))
     tally.check('ten thousand', seen.out.startswith(b'10,000 answers: ') and seen.status == 0, seen)
-    names = sorted(name for name, _ in rows_of((folder / 'full.csv').read_bytes()))
+    names = sorted(name for name, _ in rows_of(run(DESK, 'register', folder / 'full.db', '--csv').out))
     tally.check('a row each', names == [f'{i:05}' for i in range(MANY)], len(names))
-    tally.check('two slips each', len([*(folder / 'handed').iterdir()]) == 2 * MANY)
+    tally.check('two slips each', len([*(folder / 'handed').glob('*/*')]) == 2 * MANY)
 
 
 def main() -> None:
@@ -171,7 +185,7 @@ def main() -> None:
         (folder / 'second').mkdir()
         first = a_day(tally, folder / 'first', backwards=False)
         second = a_day(tally, folder / 'second', backwards=True)
-        tally.check('the same day gives the same bytes', first == second and len(first) > 60, len(first))
+        tally.check('the same day gives the same marks and slips', first == second and len(first) > 60, len(first))
         many(tally, folder)
     tally.close()
 

@@ -1,0 +1,174 @@
+"""./desk audit: whether a register is as it was made. Its file, its rules, its chain and every hash are looked at, and
+every mark is made again by the proved calls from the bytes that it has."""
+import argparse
+import contextlib
+import re
+import sqlite3
+from collections import Counter
+from dataclasses import dataclass, field
+
+from office.command import REFUSED, Fault, write_out
+from office.library import Desk
+from office.keeping import finding_of
+from office.marks import HEAD, NO_MARK, Finding, Mark, sha256_of
+from office.progress import Progress
+from office.refusal import Refused
+from office.register import Register, opened
+from office.schema import SCHEMA
+from office.view import verdict
+from office.words import ABSENT, UNREAD, counted
+
+HELP = 'looks at a register whether all is as it was made, and makes every mark again'
+MORE = """Each fault is told at its row, and the status is then 1. The chain of hashes shows an edit; that the end was cut off,
+or all written anew, only a head can show that was noted elsewhere. Every ./desk mark tells it.
+
+  ./desk audit register.db
+  ./desk audit register.db --head 7634cff2bb080a8f
+"""
+EVERY = 1000
+FORM = "SELECT type || ' ' || name, sql FROM sqlite_schema WHERE sql IS NOT NULL"
+
+
+@dataclass
+class Audit:
+    """A register that is looked at, with what was found so far."""
+    register: Register
+    faults: list[str] = field(default_factory=list)
+    papers: dict[str, tuple[str, Desk | None]] = field(default_factory=dict)
+    answers: dict[str, bytes] = field(default_factory=dict)
+    made_by: Counter[tuple[str, str]] = field(default_factory=Counter)
+    # The mark that holds for each candidate and paper, and which mark took the place of which.
+    current: dict[tuple[str, str], int] = field(default_factory=dict)
+    later: dict[int, Mark] = field(default_factory=dict)
+
+    def look(self, head: str | None) -> None:
+        """Looks at everything; what cannot be read is a fault like any other."""
+        for part in (self.file, self.form, self.texts, self.marks, self.certificates):
+            try:
+                part()
+            except Fault as fault:
+                self.faults.append(str(fault))
+        if head is not None and not self.register.asked('SELECT 1 FROM mark WHERE substr(own, 1, ?) = ?', len(head), head):
+            self.faults.append(f'no mark has the head {head}: marks were cut off, or written anew')
+
+    def file(self) -> None:
+        """The file by SQLite's own reading of it."""
+        for found, in self.register.asked('PRAGMA integrity_check'):
+            if found != 'ok':
+                self.faults.append(f'the file: {found}')
+        for table, row, parent, _ in self.register.asked('PRAGMA foreign_key_check'):
+            self.faults.append(f'{table} {row}: what it names in {parent} is not there')
+
+    def form(self) -> None:
+        """Tables and rules, beside those of a new register."""
+        with contextlib.closing(sqlite3.connect(':memory:')) as fresh:
+            fresh.executescript(SCHEMA)
+            wanted = dict(fresh.execute(FORM).fetchall())
+        there = dict(self.register.asked(FORM))
+        for name in sorted(wanted.keys() | there.keys()):
+            if wanted.get(name) != there.get(name):
+                self.faults.append(f'{name} is not as a register has it')
+
+    def texts(self) -> None:
+        """Papers and answers by their hashes; papers get their key."""
+        for sha256, name, text in self.register.asked('SELECT sha256, name, text FROM paper'):
+            if sha256_of(text) != sha256:
+                self.faults.append(f'paper {name}: its text has another hash than {sha256}')
+            self.papers[sha256] = name, planned(text)
+        for sha256, text in self.register.asked('SELECT sha256, text FROM answer'):
+            if sha256_of(text) != sha256:
+                self.faults.append(f'answer {sha256}: its text has another hash')
+            self.answers[sha256] = text
+
+    def marks(self) -> None:
+        """Every mark, in the order in which they were made."""
+        end, _ = self.register.end()
+        seq, before, bar = 1, NO_MARK, Progress('auditing', end)
+        for first in range(1, end + 1, EVERY):
+            some = self.register.marks('mark WHERE seq BETWEEN ? AND ? ORDER BY seq', first, min(first + EVERY - 1, end))
+            for mark in bar.over(some):
+                for fault in [*self.chain(mark, seq, before), *self.place(mark), *self.again(mark)]:
+                    name, _ = self.papers.get(mark.paper, (mark.paper[:HEAD], None))
+                    self.faults.append(f'mark {mark.seq}, {mark.candidate} on {name}: {fault}')
+                seq, before = mark.seq + 1, mark.own
+                self.made_by[mark.desk, mark.library] += 1
+
+    def chain(self, mark: Mark, seq: int, before: str) -> list[str]:
+        """A mark beside the one before it."""
+        faults = []
+        if mark.seq != seq:
+            faults.append(f'{counted(mark.seq - seq, "mark is", "marks are")} missing before it')
+        if mark.before != before:
+            faults.append('it does not hold the hash of the mark before it')
+        if mark.own != mark.hashed():
+            faults.append('its hash is not that of its fields: one was changed')
+        return faults
+
+    def place(self, mark: Mark) -> list[str]:
+        """A mark takes the place of the one that its candidate has on its paper."""
+        about, there = (mark.candidate, mark.paper), self.current.get((mark.candidate, mark.paper))
+        self.current[about] = mark.seq
+        if mark.replaces is not None:
+            self.later[mark.replaces] = mark
+        if mark.replaces == there:
+            return []
+        return [f'it takes the place of mark {mark.replaces or "none"}, and not of {there or "none"}']
+
+    def again(self, mark: Mark) -> list[str]:
+        """A mark beside what the calls say today."""
+        if mark.answer is None:
+            wanted = [Finding(UNREAD), Finding(ABSENT)]
+            return [] if mark.finding in wanted else [f'{verdict(mark)} without an answer']
+        _, desk = self.papers.get(mark.paper, ('', None))
+        text = self.answers.get(mark.answer)
+        if desk is None or text is None:
+            return ['it cannot be made again, as its paper or its answer is not there, or has no key']
+        found = finding_of(desk, text)
+        return [] if found == mark.finding else [f'{verdict(mark.finding)} is kept, and {verdict(found)} comes out']
+
+    def certificates(self) -> None:
+        """Every certificate beside its mark."""
+        for number, seq, at in self.register.asked('SELECT number, mark, at FROM certificate ORDER BY mark'):
+            mark, later = next(iter(self.register.marks('mark WHERE seq = ?', seq)), None), self.later.get(seq)
+            if mark is None or not mark.certified or mark.certificate() != number:
+                self.faults.append(f'certificate {number}: mark {seq} has no such certificate')
+            elif at < mark.at or later is not None and at > later.at:
+                self.faults.append(f'certificate {number}: it was not made while mark {seq} held')
+
+    def report(self, head: str | None) -> list[str]:
+        """What was found, a line each."""
+        end, _ = self.register.end()
+        many = [counted(end, 'mark'), counted(len(self.papers), 'paper'), counted(len(self.answers), 'answer')]
+        by = [f'{counted(some, "mark")} by desk {desk}, library {library[:HEAD]}'
+              for (desk, library), some in self.made_by.items()]
+        well = counted(len(self.faults), 'fault') if self.faults else 'all as it was made'
+        known = f'; the head {head} is among them' if head is not None and not self.faults else ''
+        return [*self.faults, *by, f'{", ".join(many)}: {well}{known}; head {self.register.head()}']
+
+
+def planned(text: bytes) -> Desk | None:
+    """A desk with a paper and its key; None for a paper that has none."""
+    desk = Desk()
+    try:
+        desk.load(text)
+        desk.plan()
+    except Refused:
+        return None
+    return desk
+
+
+def arguments(parser: argparse.ArgumentParser) -> None:
+    parser.add_argument('register', metavar='REGISTER', help='the file of the register')
+    parser.add_argument('--head', metavar='HEAD', help='a head that was noted before: it must be that of a mark')
+
+
+def main(asked: argparse.Namespace) -> None:
+    head = None if asked.head is None else asked.head.lower()
+    if head is not None and not re.fullmatch(f'[0-9a-f]{{{HEAD},64}}', head):
+        raise Fault(f'a head has {HEAD} digits 0-9 a-f: {asked.head}')
+    with opened(asked.register) as register:
+        audit = Audit(register)
+        audit.look(head)
+        write_out('\n'.join([*audit.report(head), '']).encode())
+    if audit.faults:
+        raise Fault('', REFUSED)

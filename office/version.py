@@ -1,0 +1,61 @@
+"""Which desk this is: the version, the commit that it was made from, and the hash of the proved library that it calls."""
+import argparse
+import functools
+import hashlib
+import shutil
+import subprocess
+import sys
+from collections.abc import Sequence
+from typing import Any
+
+from office.command import ROOT, Fault, write_out
+from office.library import SHARED
+
+VERSION, COMMIT = ROOT / 'VERSION', ROOT / 'COMMIT'
+UNKNOWN, SHORT = 'unknown', 12
+
+
+def version() -> str:
+    return VERSION.read_text().strip()
+
+
+@functools.cache
+def commit() -> str:
+    """The commit that the desk's files are from: as git tells it, or as the release has written it down."""
+    if (ROOT / '.git').exists() and shutil.which('git'):
+        asked = subprocess.run(['git', 'rev-parse', 'HEAD'], cwd=ROOT, capture_output=True, text=True, check=False)
+        return asked.stdout.strip()[:SHORT] or UNKNOWN
+    return COMMIT.read_text().strip()[:SHORT] if COMMIT.exists() else UNKNOWN
+
+
+@functools.cache
+def library_sha256() -> str:
+    """The hash of the library that calls go to."""
+    try:
+        return hashlib.sha256(SHARED.read_bytes()).hexdigest()
+    except OSError as fault:
+        raise Fault(f'cannot read {SHARED.name}: {fault.strerror}') from fault
+
+
+def desk_version() -> str:
+    """What stands in a mark: version and commit."""
+    return f'{version()}+{commit()}'
+
+
+def told() -> str:
+    """What --version says. The library is not built for it."""
+    built = f'library {library_sha256()}' if SHARED.exists() else 'its library is not built yet'
+    return f'{version()}, commit {commit()}, {built}'
+
+
+class Told(argparse.Action):
+    """The option that says it, and is asked for nothing before."""
+
+    def __init__(self, option_strings: Sequence[str], dest: str, name: str):
+        super().__init__(option_strings, dest, nargs=0, help='says which desk this is: version, commit and library')
+        self.name = name
+
+    def __call__(self, parser: argparse.ArgumentParser, namespace: argparse.Namespace,
+                 values: str | Sequence[Any] | None, option_string: str | None = None) -> None:
+        write_out(f'{self.name} {told()}\n'.encode())
+        sys.exit(0)
