@@ -5,6 +5,7 @@ import contextlib
 import re
 import sqlite3
 from collections import Counter
+from collections.abc import Callable, Iterable
 from dataclasses import dataclass, field
 
 from office.command import REFUSED, Fault, write_out
@@ -19,8 +20,8 @@ from office.view import verdict
 from office.words import ABSENT, UNREAD, counted
 
 HELP = 'looks at a register whether all is as it was made, and makes every mark again'
-MORE = """Each fault is told at its row, and the status is then 1. The chain of hashes shows an edit; that the end was cut off,
-or all written anew, only a head can show that was noted elsewhere. Every ./desk mark tells it.
+MORE = """Each fault is told at its row, and the status is then 1. The chain of hashes shows an edit; that the end was
+cut off, or all written anew, only a head can show that was noted elsewhere. Every ./desk mark tells it.
 
   ./desk audit register.db
   ./desk audit register.db --head 7634cff2bb080a8f
@@ -42,56 +43,61 @@ class Audit:
     later: dict[int, Mark] = field(default_factory=dict)
 
     def look(self, head: str | None) -> None:
-        """Looks at everything; what cannot be read is a fault like any other."""
+        """Looks at everything."""
         for part in (self.file, self.form, self.texts, self.marks, self.certificates):
-            try:
-                part()
-            except Fault as fault:
-                self.faults.append(str(fault))
-        if head is not None and not self.register.asked('SELECT 1 FROM mark WHERE substr(own, 1, ?) = ?', len(head), head):
+            self.note('the file', part)
+        if head is not None and not self.register.asked('SELECT 1 FROM mark WHERE substr(own, 1, ?) = ?', len(head),
+                                                        head):
             self.faults.append(f'no mark has the head {head}: marks were cut off, or written anew')
 
-    def file(self) -> None:
-        """The file by SQLite's own reading of it."""
-        for found, in self.register.asked('PRAGMA integrity_check'):
-            if found != 'ok':
-                self.faults.append(f'the file: {found}')
-        for table, row, parent, _ in self.register.asked('PRAGMA foreign_key_check'):
-            self.faults.append(f'{table} {row}: what it names in {parent} is not there')
+    def note(self, where: str, look: Callable[[], Iterable[str]]) -> None:
+        """Notes the faults of a place. What cannot be read, or is of another kind than it should be, is one."""
+        try:
+            self.faults += [f'{where}: {fault}' for fault in look()]
+        except Fault as fault:
+            self.faults.append(f'{where}: {fault}')
+        except (TypeError, ValueError):
+            self.faults.append(f'{where}: what stands there cannot be read')
 
-    def form(self) -> None:
+    def file(self) -> list[str]:
+        """The file by SQLite's own reading of it."""
+        found = [told for told, in self.register.asked('PRAGMA integrity_check') if told != 'ok']
+        return found + [f'what {table} {row} names in {parent} is not there'
+                        for table, row, parent, _ in self.register.asked('PRAGMA foreign_key_check')]
+
+    def form(self) -> list[str]:
         """Tables and rules, beside those of a new register."""
         with contextlib.closing(sqlite3.connect(':memory:')) as fresh:
             fresh.executescript(SCHEMA)
             wanted = dict(fresh.execute(FORM).fetchall())
         there = dict(self.register.asked(FORM))
-        for name in sorted(wanted.keys() | there.keys()):
-            if wanted.get(name) != there.get(name):
-                self.faults.append(f'{name} is not as a register has it')
+        return [f'{name} is not as a register has it' for name in sorted(wanted.keys() | there.keys())
+                if wanted.get(name) != there.get(name)]
 
-    def texts(self) -> None:
+    def texts(self) -> list[str]:
         """Papers and answers by their hashes; papers get their key."""
         for sha256, name, text in self.register.asked('SELECT sha256, name, text FROM paper'):
-            if sha256_of(text) != sha256:
-                self.faults.append(f'paper {name}: its text has another hash than {sha256}')
-            self.papers[sha256] = name, planned(text)
+            self.note(f'paper {name}', lambda: hashed_otherwise(sha256, text))
+            self.papers[sha256] = name, planned(text) if isinstance(text, bytes) else None
         for sha256, text in self.register.asked('SELECT sha256, text FROM answer'):
-            if sha256_of(text) != sha256:
-                self.faults.append(f'answer {sha256}: its text has another hash')
+            self.note(f'answer {sha256}', lambda: hashed_otherwise(sha256, text))
             self.answers[sha256] = text
+        return []
 
-    def marks(self) -> None:
+    def marks(self) -> list[str]:
         """Every mark, in the order in which they were made."""
         end, _ = self.register.end()
         seq, before, bar = 1, NO_MARK, Progress('auditing', end)
         for first in range(1, end + 1, EVERY):
-            some = self.register.marks('mark WHERE seq BETWEEN ? AND ? ORDER BY seq', first, min(first + EVERY - 1, end))
+            last = min(first + EVERY - 1, end)
+            some = self.register.marks('mark WHERE seq BETWEEN ? AND ? ORDER BY seq', first, last)
             for mark in bar.over(some):
-                for fault in [*self.chain(mark, seq, before), *self.place(mark), *self.again(mark)]:
-                    name, _ = self.papers.get(mark.paper, (mark.paper[:HEAD], None))
-                    self.faults.append(f'mark {mark.seq}, {mark.candidate} on {name}: {fault}')
+                name, _ = self.papers.get(mark.paper, (mark.paper, None))
+                self.note(f'mark {mark.seq}, {mark.candidate} on {name}', lambda: [
+                    *self.chain(mark, seq, before), *self.place(mark), *self.again(mark)])
                 seq, before = mark.seq + 1, mark.own
                 self.made_by[mark.desk, mark.library] += 1
+        return []
 
     def chain(self, mark: Mark, seq: int, before: str) -> list[str]:
         """A mark beside the one before it."""
@@ -106,7 +112,8 @@ class Audit:
 
     def place(self, mark: Mark) -> list[str]:
         """A mark takes the place of the one that its candidate has on its paper."""
-        about, there = (mark.candidate, mark.paper), self.current.get((mark.candidate, mark.paper))
+        about = mark.candidate, mark.paper
+        there = self.current.get(about)
         self.current[about] = mark.seq
         if mark.replaces is not None:
             self.later[mark.replaces] = mark
@@ -126,24 +133,34 @@ class Audit:
         found = finding_of(desk, text)
         return [] if found == mark.finding else [f'{verdict(mark.finding)} is kept, and {verdict(found)} comes out']
 
-    def certificates(self) -> None:
+    def certificates(self) -> list[str]:
         """Every certificate beside its mark."""
-        for number, seq, at in self.register.asked('SELECT number, mark, at FROM certificate ORDER BY mark'):
-            mark, later = next(iter(self.register.marks('mark WHERE seq = ?', seq)), None), self.later.get(seq)
-            if mark is None or not mark.certified or mark.certificate() != number:
-                self.faults.append(f'certificate {number}: mark {seq} has no such certificate')
-            elif at < mark.at or later is not None and at > later.at:
-                self.faults.append(f'certificate {number}: it was not made while mark {seq} held')
+        given = self.register.asked('SELECT number, mark, at FROM certificate ORDER BY mark')
+        for number, seq, at in given:
+            self.note(f'certificate {number}', lambda: self.certificate(number, seq, at))
+        return []
+
+    def certificate(self, number: str, seq: int, at: str) -> list[str]:
+        mark, later = next(iter(self.register.marks('mark WHERE seq = ?', seq)), None), self.later.get(seq)
+        if mark is None or not mark.certified or mark.certificate() != number:
+            return [f'mark {seq} has no such certificate']
+        if at < mark.at or later is not None and at > later.at:
+            return [f'it was not made while mark {seq} held']
+        return []
 
     def report(self, head: str | None) -> list[str]:
         """What was found, a line each."""
         end, _ = self.register.end()
         many = [counted(end, 'mark'), counted(len(self.papers), 'paper'), counted(len(self.answers), 'answer')]
-        by = [f'{counted(some, "mark")} by desk {desk}, library {library[:HEAD]}'
+        by = [f'{counted(some, "mark")} by desk {desk}, library {str(library)[:HEAD]}'
               for (desk, library), some in self.made_by.items()]
         well = counted(len(self.faults), 'fault') if self.faults else 'all as it was made'
         known = f'; the head {head} is among them' if head is not None and not self.faults else ''
         return [*self.faults, *by, f'{", ".join(many)}: {well}{known}; head {self.register.head()}']
+
+
+def hashed_otherwise(sha256: str, text: bytes) -> list[str]:
+    return [] if sha256_of(text) == sha256 else [f'its text has another hash than {sha256}']
 
 
 def planned(text: bytes) -> Desk | None:

@@ -22,9 +22,9 @@ from office.words import ABSENT, UNREAD, VERDICTS, counted
 from office.words import REFUSED as REFUSED_WORD
 
 HELP = 'marks answers beside the key of a paper, a row of CSV for each, or a mark in the register'
-MORE = """A candidate is called as the file of the answer, without .hex. An answer that is refused has a mark too; a line on
-standard error says why, and the others are marked. A file that cannot be read is marked Not read, and takes no mark
-away that is there. The status is then 1, or 2 where something was not read, not kept or not written.
+MORE = """A candidate is called as the file of the answer, without .hex. An answer that is refused has a mark too; a
+line on standard error says why, and the others are marked. A file that cannot be read is marked Not read, and takes no
+mark away that is there. The status is then 1, or 2 where something was not read, not kept or not written.
 
   ./desk mark paper.hex answers/*.hex
   ./desk mark paper.hex answers/*.hex --register register.db --new
@@ -172,6 +172,8 @@ def main(asked: argparse.Namespace) -> None:
         listed = {one.identity.lower(): one for one in candidates_in(asked.candidates)}
     files, wrong = files_of(asked.answers, listed)
     desk, text = planned(asked.paper)
+    if not text:
+        tell('desk', f'{printable(asked.paper)} is empty: it is taken as the blank paper')
     paper = PaperText(sha256_of(text), paper_name(asked.paper), text)
     slips = None if asked.slips is None else Slips(asked.slips)
     if slips is not None:

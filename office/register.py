@@ -1,7 +1,7 @@
 """The register: the file that keeps marks, with the bytes of papers and answers, in SQLite.
 
-What is added is kept whole or not at all, and is on the disk when the call returns. A file is told from any other before
-anything is written; a new one is made beside and linked to its name when it is whole.
+What is added is kept whole or not at all, and is on the disk when the call returns. A register is told from any other
+file before anything is written; a new one is made beside and linked to its name when it is whole.
 """
 import contextlib
 import os
@@ -13,13 +13,15 @@ import stat
 from collections.abc import Iterator
 from typing import Any
 
-from office.command import Fault, printable, tell
+from office.command import Fault, begins_with, printable, tell
 from office.marks import COLUMNS, HEAD, NO_MARK, Mark
 from office.schema import APPLICATION, FORM, SCHEMA
 
 # Seconds to wait for another desk: without a word, and then in all.
 QUIET, PATIENCE = 2, 60
 OLDEST = (3, 39)
+# How a register of CSV began.
+OLD = b'candidate,verdict,'
 LASTING = ['journal_mode=DELETE', 'synchronous=EXTRA', 'locking_mode=NORMAL', 'foreign_keys=ON']
 Query = tuple[str, tuple[object, ...]]
 
@@ -36,10 +38,12 @@ class Register:
         self.under_way = self.kept = 0
 
     def connected(self) -> sqlite3.Connection:
-        """A connection to the file, if it is a register of this form."""
-        mode = 'rw' if self.writing else 'ro'
+        """A connection to the file, if it is a register of this form. Who reads may have to mend first what a desk left
+        that was killed, so the file is opened for writing where it may be."""
         place = pathlib.Path(os.path.abspath(self.file)).as_uri()
-        made = sqlite3.connect(f'{place}?mode={mode}', uri=True, isolation_level=None, timeout=QUIET)
+        patience = QUIET if self.writing else PATIENCE
+        made = sqlite3.connect(f'{place}?mode=rw', uri=True, isolation_level=None, timeout=patience)
+        made.text_factory = lambda text: text.decode('utf-8', 'replace')
         try:
             application, form = (made.execute(f'PRAGMA {name}').fetchone()[0]
                                  for name in ('application_id', 'user_version'))
@@ -47,7 +51,7 @@ class Register:
                 raise sqlite3.DatabaseError('it is a database of another program')
             if form != FORM:
                 raise sqlite3.DatabaseError(f'it is a register of form {form}, and this desk has form {FORM}')
-            for rule in LASTING if self.writing else []:
+            for rule in LASTING if self.writing else ['query_only=ON']:
                 made.execute(f'PRAGMA {rule}')
         except BaseException:
             made.close()
@@ -66,7 +70,7 @@ class Register:
         """The rows that a query gives."""
         try:
             return self.connection.execute(query, told).fetchall()
-        except sqlite3.Error as fault:
+        except (sqlite3.Error, UnicodeError) as fault:
             raise unread(self.file, fault) from fault
 
     def marks(self, query: str, *told: object) -> list[Mark]:
@@ -203,8 +207,8 @@ def is_busy(fault: sqlite3.Error) -> bool:
     return 'locked' in str(fault)
 
 
-def unread(file: str, fault: sqlite3.Error) -> Fault:
-    return Fault(f'cannot read {printable(file)}: {fault}')
+def unread(file: str, fault: Exception) -> Fault:
+    return Fault(f'cannot read {printable(file)}: {printable(str(fault))}')
 
 
 def opened(file: str, writing: bool = False) -> Register:
@@ -226,6 +230,8 @@ def opened(file: str, writing: bool = False) -> Register:
     except sqlite3.OperationalError as fault:
         raise unread(file, fault) from fault
     except sqlite3.DatabaseError as fault:
+        if begins_with(file, OLD):
+            raise Fault(f'{printable(file)} is an old register: ./desk take-in takes it into a new one') from fault
         raise Fault(f'{printable(file)} is there and no register, so it is left alone: {fault}') from fault
 
 

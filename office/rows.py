@@ -31,8 +31,8 @@ def cells_of(register: Register, mark: Mark) -> dict[str, Cell]:
     """All columns of a mark in the register."""
     paper = register.paper(mark.paper)
     told = first_cells(mark.candidate, mark.finding, mark.paper, mark.answer)
-    told |= {'name': register.name(mark.candidate), 'paper': paper[0] if paper else None, 'words': words(register, mark)}
-    return told | {name: getattr(mark, name) for name in MORE[3:]}
+    named = {'name': register.name(mark.candidate), 'paper': paper[0] if paper else None}
+    return told | named | {'words': words(register, mark)} | {name: getattr(mark, name) for name in MORE[3:]}
 
 
 def words(register: Register, mark: Mark) -> str | None:

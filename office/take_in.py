@@ -3,6 +3,7 @@ import argparse
 import csv
 import os
 import pathlib
+import re
 from collections import defaultdict
 from collections.abc import Iterator
 from dataclasses import dataclass
@@ -20,9 +21,9 @@ from office.rows import FIRST, first_cells
 from office.words import UNREAD, counted
 
 HELP = 'marks the rows of an old register, a file of CSV, again and takes them into a register'
-MORE = """Papers and answers are found by their hashes, whatever their files are called; a folder stands for the files in it. A
-row that does not come out as it says, or whose paper or answer is not there, is told and not taken in; the status is
-then 1.
+MORE = """Papers and answers are found by their hashes, whatever their files are called; a folder stands for the files
+in it. A row that does not come out as it says, or whose paper or answer is not there, is told and not taken in; the
+status is then 1.
 
   ./desk take-in register.db old.csv papers answers --new
 """
@@ -45,7 +46,7 @@ def rows_in(file: str) -> list[dict[str, str]]:
     except csv.Error as fault:
         raise Fault(f'{printable(file)} is no register of CSV: {fault}') from fault
     if columns != FIRST or any(len(row) != len(FIRST) for row in rows):
-        saved = 'was it saved by a spreadsheet? ' if columns and (columns[0][:1] == '\ufeff' or ';' in columns[0]) else ''
+        saved = 'was it saved by a spreadsheet? ' if re.search('[\ufeff;]', ''.join(columns)) else ''
         raise Fault(f'{printable(file)} is no register of CSV: {saved}its columns should be {", ".join(FIRST)}')
     return [dict(zip(FIRST, row)) for row in rows]
 

@@ -1,4 +1,4 @@
-"""Which desk this is: the version, the commit that it was made from, and the hash of the proved library that it calls."""
+"""Which desk this is: the version, the commit that it was made from, and the hash of the proved library."""
 import argparse
 import functools
 import hashlib

@@ -1,7 +1,7 @@
 """./desk register: what the register says, at the screen, as CSV or as JSON."""
 import argparse
 
-from office.command import write_out
+from office.command import Fault, printable, write_out
 from office.marks import Finding, Mark
 from office.register import Register, opened
 from office.rows import FIRST, MORE as BESIDES
@@ -50,7 +50,8 @@ def line_of(register: Register, mark: Mark) -> list[str]:
     """What the screen shows of a mark."""
     paper = register.paper(mark.paper)
     of = '' if mark.replaces is None else f'in place of mark {mark.replaces}: {mark.reason}'
-    return [str(mark.seq), mark.at[:16].replace('T', ' '), mark.candidate, paper[0] if paper else '?', verdict(mark), of]
+    at, name = mark.at[:16].replace('T', ' '), paper[0] if paper else '?'
+    return [str(mark.seq), at, mark.candidate, name, verdict(mark), of]
 
 
 def table_of(lines: list[list[str]]) -> list[str]:
@@ -59,15 +60,23 @@ def table_of(lines: list[list[str]]) -> list[str]:
     return ['  '.join(f'{cell:{width}}' for cell, width in zip(line, widths)).rstrip() for line in lines]
 
 
+def told(register: Register, asked: argparse.Namespace) -> bytes:
+    """What is asked for."""
+    marks = chosen(register, asked)
+    if asked.csv or asked.excel:
+        return as_csv(FIRST + BESIDES, (cells_of(register, mark) for mark in marks), asked.excel)
+    if asked.json:
+        return as_json(cells_of(register, mark) for mark in marks)
+    end, _ = register.end()
+    lines = table_of([line_of(register, mark) for mark in marks])
+    many = f'{counted(len(marks), "mark")} of {end:,}' if len(marks) < end else counted(end, 'mark')
+    return '\n'.join([*lines, f'{many}, head {register.head()}', '']).encode()
+
+
 def main(asked: argparse.Namespace) -> None:
     with opened(asked.register) as register:
-        marks = chosen(register, asked)
-        if asked.csv or asked.excel:
-            write_out(as_csv(FIRST + BESIDES, (cells_of(register, mark) for mark in marks), asked.excel))
-        elif asked.json:
-            write_out(as_json(cells_of(register, mark) for mark in marks))
-        else:
-            end, _ = register.end()
-            lines = table_of([line_of(register, mark) for mark in marks])
-            many = f'{counted(len(marks), "mark")} of {end:,}' if len(marks) < end else counted(end, 'mark')
-            write_out('\n'.join([*lines, f'{many}, head {register.head()}', '']).encode())
+        try:
+            out = told(register, asked)
+        except (TypeError, ValueError) as fault:
+            raise Fault(f'{printable(asked.register)} is damaged: ./desk audit tells where') from fault
+    write_out(out)

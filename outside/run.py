@@ -54,6 +54,7 @@ def parts(scripts: int = SCRIPTS, programs: int = PROGRAMS) -> dict[str, Part]:
         'calling': module('./desk: the calls of the change requests', 'tests.calling'),
         'workday': module('./desk: a day in the office', 'tests.workday'),
         'trouble': module('./desk: what can go wrong', 'tests.trouble'),
+        'book': module('./desk: the register', 'tests.book'),
         'log': module('the hall: its log, disks, kills and starts', 'hall.log'),
         'server': module('the hall: its server', 'hall.server'),
         'sitting': module('the hall: its page in a browser', 'hall.sitting'),

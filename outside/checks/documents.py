@@ -267,15 +267,16 @@ def timeless(printed: str) -> str:
 
 
 def examples(docs: Documents) -> Iterator[Check]:
-    """Commands behind '$ ' print what stands below them; a block with a file's name is that file's text. The register of
-    the examples is made anew."""
+    """Commands behind '$ ' print what stands below them; a block with a file's name is that file's text. The register
+    of the examples is made anew."""
     (ROOT / 'target' / 'register.db').unlink(missing_ok=True)
     for where, text in today(docs):
         for kind, block in blocks(text):
             if kind == 'console':
                 for command, shown in re.findall(r'^\$ (.*)\n((?:(?!\$ ).*\n)*)', block, re.M):
                     printed = run(['bash', '-c', command])
-                    yield Check(where, f'{command} prints {shown!r}, not {printed!r}', timeless(printed) == timeless(shown))
+                    held = timeless(printed) == timeless(shown)
+                    yield Check(where, f'{command} prints {shown!r}, not {printed!r}', held)
             elif ' ' in kind:
                 file = ROOT / kind.split()[1]
                 yield Check(where, f'{kind} is as shown', file.exists() and block in file.read_text())

@@ -72,8 +72,8 @@ def usage(tally: Tally) -> None:
     """Help and version for all; what is asked wrongly gets one line that says what to do."""
     seen = run(DESK, '--version')
     library = hashlib.sha256((ROOT / 'target' / 'libdesk.so').read_bytes()).hexdigest()
-    told_by = re.fullmatch(rf'desk {re.escape(VERSION)}, commit ([0-9a-f]{{12}}), library {library}\n', seen.out.decode())
-    tally.check('--version', told_by is not None and (seen.err, seen.status) == ('', 0), seen)
+    wanted = rf'desk {re.escape(VERSION)}, commit [0-9a-f]{{12}}, library {library}\n'
+    tally.check('--version', bool(re.fullmatch(wanted, seen.out.decode())) and (seen.err, seen.status) == ('', 0), seen)
     seen = run(DESK, '--help')
     tally.check('--help', told(seen, *COMMANDS, 'Status: 0 done, 1 refused, 2'), seen)
     for name in COMMANDS:

@@ -1,6 +1,5 @@
-"""./desk in trouble: faults of input, output and disk, files that are no answers, at a terminal and on a machine that lacks
-tools. Needs the library's archive (rt staticlib host). The last
-line is 'N passed, M failed'.
+"""./desk in trouble: faults of input, output and disk, files that are no answers, at a terminal and on a machine that
+lacks tools. Needs the library's archive (rt staticlib host). The last line is 'N passed, M failed'.
 """
 import hashlib
 import os
@@ -49,7 +48,8 @@ def faults(tally: Tally, folder: pathlib.Path) -> None:
     slip = wide / 'examiner' / f'anna.p-{hashlib.sha256(EXAMPLES["p"]).hexdigest()[:8]}.examiner.hex'
     slip.write_bytes(text_of([5, 11]))
     seen = run(*mark, '--slips', wide)
-    tally.check("not over another's file", 'it is left alone' in seen.err and slip.read_bytes() == text_of([5, 11]), seen)
+    left = slip.read_bytes() == text_of([5, 11])
+    tally.check("not over another's file", 'it is left alone' in seen.err and left, seen)
     slip.unlink()
     slip.mkdir()
     answer.write_bytes(b'21\n')
@@ -60,6 +60,8 @@ def faults(tally: Tally, folder: pathlib.Path) -> None:
     tally.check('input closed', seen.failed('cannot read -: Bad file descriptor'), seen)
     seen = run(DESK, 'mark', bad, answer, '--register', register)
     tally.check('a refused paper', 'number 4' in seen.err and (seen.out, seen.status) == (b'', 1), seen)
+    seen = run(DESK, 'mark', '/dev/null', answer)
+    tally.check('an empty paper', 'is taken as the blank paper' in seen.err, seen)
     tally.check('nothing changed', register.read_bytes() == old)
     tally.check('nothing is left', not [*folder.glob('**/*.new')], [*folder.glob('**/*.new')])
 
@@ -68,14 +70,14 @@ def nobody(tally: Tally, folder: pathlib.Path) -> None:
     """Files that are no candidate's answer are told and have no row; the others are marked."""
     paper, answer, away = folder / 'p.hex', folder / 'anna.hex', folder / 'away'
     away.mkdir()
-    strange = [os.fsencode(folder) + b'/\xff"a,\n.hex', os.fsencode(away) + b'/.hex', os.fsencode(folder) + b'/=1+1.hex',
-               os.fsencode(folder) + b'/' + b'n' * 65 + b'.hex']
+    names = [b'\xff"a,\n.hex', b'away/.hex', b'=1+1.hex', b'n' * 65 + b'.hex']
+    strange = [os.path.join(os.fsencode(folder), name) for name in names]
     for file in strange:
         shutil.copy(answer, file)
-    names = [*map(os.fsdecode, strange), folder / 'pipe.hex', folder / 'wide', '/dev/zero']
-    seen = run(DESK, 'mark', folder / 'p.hex', *names, answer, '--slips', folder / 'slips')
+    others = [*map(os.fsdecode, strange), folder / 'pipe.hex', folder / 'wide', '/dev/zero']
+    seen = run(DESK, 'mark', folder / 'p.hex', *others, answer, '--slips', folder / 'slips')
     tally.check('one row', [name for name, _ in rows_of(seen.out)] == ['anna'] and seen.status == 2, seen)
-    tally.check('each is told', seen.err.count(' is not marked: ') == seen.err.count('\n') == len(names), seen)
+    tally.check('each is told', seen.err.count(' is not marked: ') == seen.err.count('\n') == len(others), seen)
     tally.check('nothing beside the answers', [*os.listdir(away)] == ['.hex'], os.listdir(away))
     tally.check('nobody else has slips', len([*(folder / 'slips').glob('*/*')]) == 2)
     run(DESK, 'mark', ROOT / 'examples' / 'q.hex', answer, '--slips', folder / 'slips')
@@ -88,7 +90,8 @@ def nobody(tally: Tally, folder: pathlib.Path) -> None:
     listed.write_text('Anna\nbert\n')
     seen = run(DESK, 'mark', paper, answer, folder / 'bad.hex', '--candidates', listed)
     tally.check('not on the list', 'bad is not on the list' in seen.err and seen.status == 2, seen)
-    tally.check('absent', [row[:2] for row in rows_of(seen.out).values()] == [['anna', 'Best'], ['bert', 'Absent']], seen)
+    marks = [row[:2] for row in rows_of(seen.out).values()]
+    tally.check('absent', marks == [['anna', 'Best'], ['bert', 'Absent']], seen)
 
 
 def terminal(tally: Tally, folder: pathlib.Path) -> None:
