@@ -46,9 +46,13 @@ class Audit:
         """Looks at everything."""
         for part in (self.file, self.form, self.texts, self.marks, self.certificates):
             self.note('the file', part)
-        if head is not None and not self.register.asked('SELECT 1 FROM mark WHERE substr(own, 1, ?) = ?', len(head),
-                                                        head):
+        if head is not None and not self.has(head):
             self.faults.append(f'no mark has the head {head}: marks were cut off, or written anew')
+
+    def has(self, head: str) -> bool:
+        """Whether a head is that of a mark, or of the register when it had none."""
+        found = self.register.asked('SELECT 1 FROM mark WHERE substr(own, 1, ?) = ?', len(head), head)
+        return bool(found) or NO_MARK.startswith(head)
 
     def note(self, where: str, look: Callable[[], Iterable[str]]) -> None:
         """Notes the faults of a place. What cannot be read, or is of another kind than it should be, is one."""

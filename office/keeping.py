@@ -82,8 +82,9 @@ def keep(register: Register, paper: PaperText, answers: list[Answer], by: Marker
         register.add_paper(paper.sha256, paper.name, paper.text)
         for answer in answers:
             there = register.current(answer.candidate, paper.sha256)
-            if there is not None and (same(answer, there) or (why := kept_from(answer, there, by.reason))):
-                outcomes.append(Outcome(answer, there, '' if same(answer, there) else why))
+            why = '' if there is None else kept_from(answer, there, by.reason)
+            if there is not None and (why or same(answer, there)):
+                outcomes.append(Outcome(answer, there, why))
                 continue
             if answer.text is not None:
                 register.add_answer(sha256_of(answer.text), answer.text)
@@ -101,7 +102,9 @@ def same(answer: Answer, there: Mark) -> bool:
 
 
 def kept_from(answer: Answer, there: Mark, reason: str | None) -> str:
-    """Why an answer may not take the place of a mark; nothing where it may."""
+    """Why an answer may not take the place of a mark; nothing where it may, or is the same."""
+    if same(answer, there):
+        return ''
     if answer.text is None:
         return f'{answer.finding.verdict}, so the mark stays that is there: {there.verdict}'
     if there.answer is None or reason is not None:

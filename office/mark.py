@@ -64,26 +64,27 @@ class Marking:
 
     def keep(self, answers: list[Answer]) -> None:
         """Keeps the marks of answers, and then writes their slips."""
-        held = answers
-        if self.register is not None and self.by is not None:
-            outcomes = keep(self.register, self.paper, answers, self.by)
-            held = [outcome.answer for outcome in outcomes if not outcome.why]
-            for outcome in outcomes:
-                if outcome.why and outcome.answer.finding.verdict != ABSENT:
-                    self.say(f'{outcome.answer.candidate}: {outcome.why}', FAILED)
-        for answer in held if self.slips is not None else []:
-            self.hand_out(answer)
-        self.done += answers
+        for answer, why in self.kept(answers):
+            if why and answer.finding.verdict == ABSENT:
+                continue  # there is an answer from before
+            if why:
+                self.say(f'{answer.candidate}: {why}', FAILED)
+            elif self.slips is not None and answer.text is not None:
+                self.hand_out(self.slips, answer, answer.text)
+            self.done.append(answer)
 
-    def hand_out(self, answer: Answer) -> None:
-        """Writes both slips of an answer. One that was refused has none, and loses those of a time before; what was not
-        read takes none away."""
-        faults: list[str] = []
-        if self.slips is not None and answer.text is not None:
-            if answer.finding.verdict == REFUSED_WORD:
-                faults = self.slips.take_away(answer.candidate, self.paper)
-            else:
-                faults = self.slips.write(self.desk, answer.candidate, self.paper, answer.text)
+    def kept(self, answers: list[Answer]) -> list[tuple[Answer, str]]:
+        """Answers, each with why the register did not take it, or nothing."""
+        if self.register is None or self.by is None:
+            return [(answer, '') for answer in answers]
+        return [(outcome.answer, outcome.why) for outcome in keep(self.register, self.paper, answers, self.by)]
+
+    def hand_out(self, slips: Slips, answer: Answer, text: bytes) -> None:
+        """Writes both slips of an answer. One that was refused has none, and loses those of a time before."""
+        if answer.finding.verdict == REFUSED_WORD:
+            faults = slips.take_away(answer.candidate, self.paper)
+        else:
+            faults = slips.write(self.desk, answer.candidate, self.paper, text)
         for fault in faults:
             self.say(fault, FAILED)
 
@@ -138,9 +139,9 @@ def files_of(files: list[str], listed: dict[str, Candidate] | None) -> tuple[dic
 def summary(answers: list[Answer]) -> str:
     """How many answers there are of each verdict."""
     many = Counter(answer.finding.verdict for answer in answers)
-    words = [*reversed(VERDICTS.values()), REFUSED_WORD, UNREAD, ABSENT]
-    told = ', '.join(f'{many[word]:,} {word}' for word in words if many[word])
-    return f'{counted(len(answers), "answer")}: {told}' if answers else 'no answers'
+    told = [f'{many[word]:,} {word}' for word in [*reversed(VERDICTS.values()), REFUSED_WORD, UNREAD] if many[word]]
+    absent = f'; {many[ABSENT]:,} Absent' if many[ABSENT] else ''
+    return ': '.join([counted(len(answers) - many[ABSENT], 'answer'), *filter(None, [', '.join(told)])]) + absent
 
 
 def register_asked(asked: argparse.Namespace) -> contextlib.AbstractContextManager[Register | None]:

@@ -11,14 +11,17 @@ from office.keeping import PaperText
 
 @dataclass(frozen=True)
 class Reader:
-    """Who reads a slip: the call that writes it, and who may read its folder and its files."""
+    """Who reads a slip: the call that writes it, and whether nobody but its owner may read it."""
     slip: Callable[[Desk, bytes], bytes]
-    folder: int
-    file: int
+    alone: bool
+
+    @property
+    def mode(self) -> int:
+        """Who may read and write the files."""
+        return 0o600 if self.alone else 0o666
 
 
-READERS = {'candidate': Reader(Desk.candidate_slip, 0o777, 0o666),
-           'examiner': Reader(Desk.examiner_slip, 0o700, 0o600)}
+READERS = {'candidate': Reader(Desk.candidate_slip, False), 'examiner': Reader(Desk.examiner_slip, True)}
 # Every slip begins with the line that tells the first uncut dependence.
 BEGINS = b'23'
 
@@ -40,15 +43,15 @@ class Slips:
             for name, reader in READERS.items():
                 place = os.path.join(self.folder, name)
                 os.makedirs(place, exist_ok=True)
-                if reader.folder == 0o700:
-                    os.chmod(place, reader.folder)
+                if reader.alone:
+                    os.chmod(place, 0o700)
         except OSError as fault:
             raise Fault(f'cannot write in {printable(self.folder)}: {fault.strerror}') from fault
 
     def write(self, desk: Desk, candidate: str, paper: PaperText, text: bytes) -> list[str]:
         """Writes both slips of an answer; gives why one was not written."""
         return self.each(candidate, paper, lambda file, reader: write_over(
-            file, reader.slip(desk, text), begins=BEGINS, mode=reader.file))
+            file, reader.slip(desk, text), begins=BEGINS, mode=reader.mode))
 
     def take_away(self, candidate: str, paper: PaperText) -> list[str]:
         """Takes away the slips that a candidate had on this paper; gives why one was not."""

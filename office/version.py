@@ -2,6 +2,7 @@
 import argparse
 import functools
 import hashlib
+import pathlib
 import shutil
 import subprocess
 import sys
@@ -16,7 +17,7 @@ UNKNOWN, SHORT = 'unknown', 12
 
 
 def version() -> str:
-    return VERSION.read_text().strip()
+    return written_in(VERSION)
 
 
 @functools.cache
@@ -25,7 +26,15 @@ def commit() -> str:
     if (ROOT / '.git').exists() and shutil.which('git'):
         asked = subprocess.run(['git', 'rev-parse', 'HEAD'], cwd=ROOT, capture_output=True, text=True, check=False)
         return asked.stdout.strip()[:SHORT] or UNKNOWN
-    return COMMIT.read_text().strip()[:SHORT] if COMMIT.exists() else UNKNOWN
+    return written_in(COMMIT)[:SHORT]
+
+
+def written_in(file: pathlib.Path) -> str:
+    """The one line of a file of the release."""
+    try:
+        return file.read_text().strip() or UNKNOWN
+    except OSError:
+        return UNKNOWN
 
 
 @functools.cache

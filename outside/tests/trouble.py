@@ -11,7 +11,7 @@ import sys
 import tempfile
 
 from outside.tests.workday import rows_of, text_of
-from outside.trying import DESK, EXAMPLES, ROOT, Seen, Tally, run
+from outside.trying import DESK, EXAMPLES, ROOT, VERSION, Seen, Tally, run
 
 
 def faults(tally: Tally, folder: pathlib.Path) -> None:
@@ -119,11 +119,11 @@ def terminal(tally: Tally, folder: pathlib.Path) -> None:
 def elsewhere(tally: Tally, folder: pathlib.Path) -> None:
     """A machine that lacks rt or gcc, and a library that is missing or stale."""
     root, tools = folder / 'copy', folder / 'tools'
-    for part in ['office', 'docs/changes', 'crates/host']:
+    for part in ['office', 'crates/host']:
         shutil.copytree(ROOT / part, root / part)
     tools.mkdir()
     (tools / 'python3').symlink_to(sys.executable)
-    for file in ['desk', 'crates.txt']:
+    for file in ['desk', 'crates.txt', 'VERSION']:
         shutil.copy(ROOT / file, root / file)
     archive = root / 'target' / 'staticlib' / 'libhost.a'
     archive.parent.mkdir(parents=True)
@@ -137,6 +137,9 @@ def elsewhere(tally: Tally, folder: pathlib.Path) -> None:
     for tool in ['gcc', 'ld', 'as']:
         (tools / tool).symlink_to(shutil.which(tool))
     tally.check('linked', asked() == Seen(b'2101\n2104\n220002\n', '', 0), asked())
+    (root / 'COMMIT').write_text('0123456789abcdef0123\n')
+    seen = run(root / 'desk', '--version', PATH=str(tools), shell='python3 "$@"')
+    tally.check('a release knows its commit', f'desk {VERSION}, commit 0123456789ab, library ' in seen.out.decode(), seen)
     (tools / 'gcc').unlink()
     tally.check('linked once', asked() == Seen(b'2101\n2104\n220002\n', '', 0), asked())
     os.utime(archive, (1, 1))

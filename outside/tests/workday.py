@@ -127,7 +127,8 @@ def a_day(tally: Tally, folder: pathlib.Path, backwards: bool) -> dict[str, byte
             new = [] if register.exists() else ['--new']
             seen = run(DESK, 'mark', folder / f'{paper}.hex', *(file for file in files if file.stem in some),
                        '--slips', slips, '--register', register, *new, '--candidates', listed)
-            tally.check(f'{paper} marked', seen.out.startswith(b'%d answers: ' % len(some)), seen)
+            told = f'{len(some) - ("nobody" in some)} answers: '
+            tally.check(f'{paper} marked', seen.out.decode().startswith(told), seen)
         listed.write_text('\n'.join(names))
         seen = run(DESK, 'mark', folder / f'{paper}.hex', *files, '--candidates', listed)
         tally.check(f'{paper}: status', seen.status == statuses[paper] and seen.err.count('\n') == sum(
