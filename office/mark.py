@@ -8,7 +8,7 @@ from dataclasses import dataclass, field
 
 from office import register as registers
 from office.asked import PAPER_HELP, planned
-from office.candidates import IDENTITY_FORM, Candidate, candidates_in, identity_of
+from office.candidates import IDENTITY, IDENTITY_FORM, Candidate, candidates_in, folded
 from office.command import FAILED, INTERRUPTED, REFUSED, Fault, printable, read_plain, tell, write_out
 from office.library import Desk
 from office.keeping import Answer, Marker, PaperText, finding_of, keep, marker
@@ -100,6 +100,11 @@ def name_of(file: str) -> str:
     return pathlib.PurePath(file).name.removesuffix('.hex')
 
 
+def candidate_of(file: str) -> str | None:
+    """Whose answer a file is, by its name; None where that is no identity."""
+    return folded(name_of(file)) if IDENTITY.fullmatch(name_of(file)) else None
+
+
 def paper_name(file: str) -> str:
     """What a paper is called in the register and in the names of slips."""
     return 'paper' if file == '-' else printable(name_of(file)) or 'paper'
@@ -107,12 +112,17 @@ def paper_name(file: str) -> str:
 
 def why_nobody(file: str, listed: dict[str, Candidate] | None) -> str:
     """Why a file is no candidate's answer; nothing where it is one."""
-    identity = identity_of(name_of(file))
+    identity = candidate_of(file)
     if identity is None:
         return f'no answer of a candidate, as {IDENTITY_FORM}'
     if listed is None:
         return '' if os.path.isfile(file) else 'it is no plain file'
     return '' if identity in listed else f'{identity} is not on the list of candidates'
+
+
+def listed_in(file: str, paper: str) -> dict[str, Candidate]:
+    """Who should have an answer on a paper, by identity. A list may be of several papers."""
+    return {folded(one.identity): one for one in candidates_in(file) if one.paper in ('', paper)}
 
 
 def files_of(files: list[str], listed: dict[str, Candidate] | None) -> tuple[dict[str, str], list[str]]:
@@ -129,7 +139,7 @@ def files_of(files: list[str], listed: dict[str, Candidate] | None) -> tuple[dic
         if why:
             wrong.append(f'{printable(file)} is not marked: {why}')
             continue
-        name = identity_of(name_of(file)) or ''
+        name = candidate_of(file) or ''
         if name in named:
             raise Fault(f'two answers of candidate {name}: {printable(named[name])}, {printable(file)}')
         named[name] = file
@@ -168,9 +178,7 @@ def arguments(parser: argparse.ArgumentParser) -> None:
 
 
 def main(asked: argparse.Namespace) -> None:
-    listed = None
-    if asked.candidates is not None:
-        listed = {one.identity.lower(): one for one in candidates_in(asked.candidates)}
+    listed = None if asked.candidates is None else listed_in(asked.candidates, paper_name(asked.paper))
     files, wrong = files_of(asked.answers, listed)
     desk, text = planned(asked.paper)
     if not text:
@@ -205,7 +213,7 @@ def mark_all(marking: Marking, everyone: list[tuple[str, str | None]], listed: d
         if register is not None and listed is not None:
             with register.adding():
                 for one in listed.values():
-                    register.add_name(one.identity.lower(), one.name)
+                    register.add_name(folded(one.identity), one.name)
         for first in range(0, len(everyone), EVERY):
             some = marking.bar.over(everyone[first:first + EVERY])
             marking.keep([marking.answer(*one) for one in some])

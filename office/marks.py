@@ -2,10 +2,9 @@
 import dataclasses
 import hashlib
 import json
-import re
 from dataclasses import dataclass
 
-from office.candidates import GROUP, LETTERS
+from office.candidates import BETWEEN, LETTERS, spelled
 from office.words import BEST
 
 # What stands before the first mark; how many digits of the last hash are told as the head of a register.
@@ -75,20 +74,15 @@ class Mark:
         bits = int(self.own, 16) >> 4 * len(self.own) - NUMBER_BITS
         places = range(NUMBER_BITS - LETTER_BITS, -1, -LETTER_BITS)
         letters = ''.join(SPELLING[bits >> place & (1 << LETTER_BITS) - 1] for place in places)
-        return grouped(letters)
+        return spelled(letters)
 
 
 def certificate_in(typed: str) -> str | None:
     """The number of a certificate as it was typed, in any case, with or without dashes; None if it can be none."""
-    letters = re.sub(r'[\s‐-―-]', '', typed).lower().replace('0', 'o')
+    letters = BETWEEN.sub('', typed).lower().replace('0', 'o')
     if len(letters) != NUMBER_BITS // LETTER_BITS or set(letters) - set(SPELLING):
         return None
-    return grouped(letters)
-
-
-def grouped(letters: str) -> str:
-    """Letters as on a ticket, with dashes between."""
-    return '-'.join(letters[i:i + GROUP] for i in range(0, len(letters), GROUP))
+    return spelled(letters)
 
 
 COLUMNS = [field.name for field in dataclasses.fields(Mark)]

@@ -10,7 +10,7 @@ from dataclasses import dataclass
 
 from office import register as registers
 from office.audit import planned
-from office.candidates import IDENTITY_FORM, candidates_in, identity_of
+from office.candidates import IDENTITY, IDENTITY_FORM, candidates_in, folded
 from office.command import REFUSED, Fault, printable, read_plain, tell, write_out
 from office.library import Desk
 from office.mark import EVERY, paper_name
@@ -108,19 +108,19 @@ class Taking:
 
     def answer(self, desk: Desk, row: dict[str, str]) -> Answer | None:
         """The answer of a row, if all comes out as it says."""
-        candidate = self.identities.get(row['candidate']) or identity_of(row['candidate'])
+        candidate = self.identities.get(row['candidate'], row['candidate'])
         text = self.texts.get(row['answer_sha256'])
         found = Finding(UNREAD) if text is None else finding_of(desk, text.text)
-        if candidate is None:
+        if not IDENTITY.fullmatch(candidate):
             why = f'{IDENTITY_FORM}; --candidates gives names an id'
         elif text is None and row['answer_sha256']:
             why = 'its answer is not among the files'
         else:
             why = difference(row, found)
-        if candidate is None or why:
+        if why:
             self.say(row, why)
             return None
-        return Answer(candidate, None if text is None else text.text, found)
+        return Answer(folded(candidate), None if text is None else text.text, found)
 
     def say(self, row: dict[str, str], why: str) -> None:
         """Says why a row is not taken in."""
@@ -139,7 +139,7 @@ def arguments(parser: argparse.ArgumentParser) -> None:
 def main(asked: argparse.Namespace) -> None:
     rows, texts = rows_in(asked.old), texts_in(asked.texts)
     listed = [] if asked.candidates is None else candidates_in(asked.candidates)
-    identities = {one.name: one.identity.lower() for one in listed}
+    identities = {one.name: one.identity for one in listed}
     papers: dict[str, list[dict[str, str]]] = defaultdict(list)
     for row in rows:
         papers[row['paper_sha256']].append(row)

@@ -104,7 +104,7 @@ def again(tally: Tally, folder: pathlib.Path) -> None:
     word = 'anna: another answer is in the register, Best; --replace "reason" puts this one in its place'
     tally.check('another answer', word in seen.err and seen.status == 2 and added(seen) == 0, seen)
     listed = folder / 'again.csv'
-    listed.write_text('id,name\nanna,"=HYPERLINK(1)"\nbert,Bért\ncarl,+49\ndora,-x\neva,@e\n')
+    listed.write_text('id,name,paper\nanna,Anna,p\nbert,Bért,\ncarl,Carl,p.hex\ndora,Dora,\neva,Eva,\nfay,Fay,q\n')
     (answers / 'anna.hex').unlink()
     seen = run(DESK, 'mark', P, *some, '--register', register, '--candidates', listed)
     tally.check('not read', 'anna: Not read, so the mark stays that is there: Best' in seen.err, seen)
@@ -121,9 +121,15 @@ def again(tally: Tally, folder: pathlib.Path) -> None:
     tally.check('her story', story == [('Best', '', ''), ('Dearer', '1', "'@ with leave")], story)
     tally.check('on another paper', added(run(DESK, 'mark', Q, answers / 'anna.hex', '--register', register)) == 1)
     tally.check('audited', run(DESK, 'audit', register).status == 0)
-    names = {row['candidate']: row['name'] for row in table(register)}
-    tally.check('formulas are guarded', names == {'anna': "'=HYPERLINK(1)", 'bert': 'Bért', 'carl': "'+49", 'dora': "'-x",
-                                                  'eva': "'@e"}, names)
+    names = {'anna': '=HYPERLINK(1)', 'bert': 'Bért', 'carl': '+49', 'dora': '-x', 'eva': '\te'}
+    told = {row['candidate']: row['name'] for row in table(register)}
+    tally.check('names of the list', told['bert'] == 'Bért' and told.keys() == names.keys(), told)
+    with registers.opened(str(register), writing=True) as opened, opened.adding():
+        for name, called in names.items():
+            opened.add_name(name, called)
+    told = {row['candidate']: row['name'] for row in table(register)}
+    guarded = {name: called if called == 'Bért' else f"'{called}" for name, called in names.items()}
+    tally.check('formulas are guarded', told == guarded, told)
 
 
 def exports(tally: Tally, folder: pathlib.Path) -> None:
@@ -373,7 +379,7 @@ def taken_in(tally: Tally, folder: pathlib.Path) -> None:
     unread.write_text('\n'.join([*rows, shown[1]]).replace('Dearer,,0,1', 'Dearer,,0,2', 1) + '\n')
     seen = run(DESK, 'take-in', folder / 'some.db', unread, P, *ANSWERS, '--new')
     words = ['carl, paper 3eb019b6: theirs is 2, and 1 comes out', 'anna, paper', 'its paper is not among the files',
-             'Anna B., paper 3eb019b6: an identity has']
+             'Anna B., paper 3eb019b6: an id has']
     tally.check('what is told', all(word in seen.err for word in words) and added(seen) == 3 and seen.status == 1, seen)
     old.write_bytes('\ufeff'.encode() + old.read_bytes())
     tally.check('from a spreadsheet', run(*command).failed('was it saved by a spreadsheet?'))
