@@ -2,7 +2,8 @@
 
   python3 -m outside.measure.whole_day [CANDIDATES]    the seconds it takes, and the size of the register
 
-Every mark is held against an own reading of the rules (outside/tests/workday.py). The last line is 'N passed, M failed'.
+Every mark is held against an own reading of the rules, that of outside/tests/workday.py. The last line is 'N passed,
+M failed'.
 """
 import contextlib
 import hashlib
@@ -83,8 +84,9 @@ def day(tally: Tally, folder: pathlib.Path, many: int) -> None:
     wrong = [row for about, row in wanted.items() if rows.get(about) != row]
     tally.check('every mark by the rules', rows == wanted, wrong[:2])
     tally.check('nothing is lost between', kept == sorted(kept) and kept[-1] == 6 * many, kept)
-    print(f'{6 * many:,} marks of six desks at a time, after rounds {kept}: {time.monotonic() - begun:.1f} s with audits; '
-          f'the last audit {told:.1f} s; {register.stat().st_size:,} bytes')
+    all_in_all, size = time.monotonic() - begun, register.stat().st_size
+    print(f'{6 * many:,} marks of six desks at a time, after rounds {kept}: {all_in_all:.1f} s with audits; the last '
+          f'audit {told:.1f} s; {size:,} bytes')
 
 
 def main(many: int) -> None:

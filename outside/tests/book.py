@@ -1,5 +1,5 @@
-"""The register: what it takes and refuses, who may replace what, several desks at a time, faults of the disk, kills, and a
-register that somebody changed by hand. Needs gcc and the library's archive (rt staticlib host). The last line is
+"""The register: what it takes and refuses, who may replace what, several desks at a time, faults of the disk, kills, and
+a register that somebody changed by hand. Needs gcc and the library's archive (rt staticlib host). The last line is
 'N passed, M failed'.
 """
 import contextlib
@@ -55,7 +55,7 @@ def files(tally: Tally, folder: pathlib.Path) -> None:
         (folder / name).write_bytes(data)
     for name, application, form in [('other', 7, 1), ('plain', 0, 0), ('later', APPLICATION, 2)]:
         with contextlib.closing(sqlite3.connect(folder / name)) as made:
-            made.executescript(f'PRAGMA application_id={application}; PRAGMA user_version={form}; CREATE TABLE mark (a);')
+            made.executescript(f'PRAGMA application_id={application}; PRAGMA user_version={form}; CREATE TABLE a (b);')
         others[name] = (folder / name).read_bytes()
     for name, data in others.items():
         for more in ([], ['--new']):
@@ -79,7 +79,8 @@ def files(tally: Tally, folder: pathlib.Path) -> None:
     seen = run(*mark, register, '--new')
     tally.check('a new one', added(seen) == 3 and register.stat().st_mode & 0o777 == 0o600, seen)
     (folder / 'link.db').symlink_to(register.name)
-    tally.check('by a link', added(run(*mark[:2], P, *ANSWERS, '--register', folder / 'link.db')) == 1 and len(table(register)) == 4)
+    seen = run(DESK, 'mark', P, *ANSWERS, '--register', folder / 'link.db')
+    tally.check('by a link', added(seen) == 1 and len(table(register)) == 4, seen)
     with contextlib.closing(sqlite3.connect(register)) as opened:
         rules = [opened.execute(f'PRAGMA {rule}').fetchone()[0] for rule in ('journal_mode', 'application_id')]
     tally.check('its journal is deleted', rules == ['delete', APPLICATION], rules)
@@ -117,7 +118,8 @@ def again(tally: Tally, folder: pathlib.Path) -> None:
     tally.check('absent before', added(seen) == 1 and verdicts(register)['eva'] == 'Best', seen)
     seen = run(DESK, 'mark', P, answers / 'anna.hex', '--register', register, '--replace', '@ with leave')
     tally.check('replaced', added(seen) == 1 and verdicts(register)['anna'] == 'Dearer', seen)
-    story = [(row['verdict'], row['replaces'], row['reason']) for row in table(register, '--history', '--candidate', 'ANNA')]
+    rows = table(register, '--history', '--candidate', 'ANNA')
+    story = [(row['verdict'], row['replaces'], row['reason']) for row in rows]
     tally.check('her story', story == [('Best', '', ''), ('Dearer', '1', "'@ with leave")], story)
     tally.check('on another paper', added(run(DESK, 'mark', Q, answers / 'anna.hex', '--register', register)) == 1)
     tally.check('audited', run(DESK, 'audit', register).status == 0)
@@ -198,7 +200,8 @@ def ended(tally: Tally, folder: pathlib.Path) -> None:
         desk.send_signal(sign)
         _, err = desk.communicate()
         many = marks_in(register)
-        tally.check(f'turn {turn}: ended', desk.returncode in (0, -9, 130) and (many % 300 == 0 or many in (1, 2000)), many)
+        whole = many % 300 == 0 or many in (1, 2000)
+        tally.check(f'turn {turn}: ended', desk.returncode in (0, -9, 130) and whole, many)
         if desk.returncode == 130:
             tally.check(f'turn {turn}: what was kept', f'ended: {many - 1:,} marks of 2,000 answers kept' in err, err)
         tally.check(f'turn {turn}: audited', run(DESK, 'audit', register).status == 0)
@@ -239,9 +242,10 @@ CHANGES = [
     ('another time', "UPDATE mark SET at = '2020' WHERE seq = 2", False, ['mark 2, bert on p: its hash']),
     ('a dropped mark', 'DELETE FROM mark WHERE seq = 2', False, ['mark 3, carl on p: 1 mark is missing before it',
                                                                  'mark 3, carl on p: it does not hold the hash']),
-    ('swapped answers', SWAP, True, ['mark 1, anna on p: Best is kept, and Dearer', 'mark 3, carl on p: Dearer, loop 0']),
+    ('swapped answers', SWAP, True, ['mark 1, anna on p: Best is kept, and Dearer', 'mark 3, carl on p: Dearer']),
     ('a changed answer', TEXT, False, ['its text has another hash', 'mark 1, anna on p: Best is kept, and Uncut']),
-    ('a paper', "UPDATE paper SET text = x'30310a30320a'", False, ['paper p: its text has another hash', 'mark 1, anna on p: Best is kept, and Refused']),
+    ('a paper', "UPDATE paper SET text = x'30310a30320a'", False, [
+        'paper p: its text has another hash', 'mark 1, anna on p: Best is kept, and Refused']),
     ('no answer', 'PRAGMA foreign_keys=OFF; DELETE FROM answer', False, ['what mark 1 names in answer is not there']),
     ('no rule', 'DROP TRIGGER mark_in_turn', False, ['trigger mark_in_turn is not as a register has it']),
     ('another rule', 'CREATE TRIGGER more AFTER INSERT ON mark BEGIN SELECT 1; END', False, ['trigger more is not']),
@@ -338,7 +342,8 @@ def certificates(tally: Tally, folder: pathlib.Path) -> None:
         anna, bert, *_ = register.marks('mark ORDER BY seq')
         number = anna.certificate()
         tally.check('its number', re.fullmatch('[a-z2-9]{4}(-[a-z2-9]{4}){3}', number) is not None, number)
-        tally.check('as it is typed', certificate_in(f' {number.upper().replace("O", "0").replace("-", " ")}') == number)
+        typed = number.upper().replace('O', '0').replace('-', ' ')
+        tally.check('as it is typed', certificate_in(f' {typed}') == number, typed)
         tally.check('no number', certificate_in('abcd') is None and certificate_in('1' * 16) is None)
         for name, mark, given in [('Best', anna, True), ('Uncut', bert, False)]:
             try:

@@ -78,7 +78,8 @@ def failing(tally: Tally, folder: pathlib.Path, base: pathlib.Path, how: str) ->
         if NOT_KNOWN in told or told == 'killed':
             wanted |= {len(FIRST)}
         tally.check(f'{name}: what is said is true', many in wanted, (told, many))
-        tally.check(f'{name}: it goes on', add(file, MORE) == '' and many_in(tally, name, file) == len(FIRST) + len(MORE))
+        goes_on = add(file, MORE) == '' and many_in(tally, name, file) == len(FIRST) + len(MORE)
+        tally.check(f'{name}: it goes on', goes_on)
         said.append(told)
         shutil.rmtree(place)
         if ended:
