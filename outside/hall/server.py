@@ -30,9 +30,10 @@ def to_the_register(tally: Tally, folder: pathlib.Path) -> None:
         tally.check(f'{name} hands in', candidate.hand_in()[1]['handed_in'])
         tally.check(f'{name} is done', candidate.move('put 1')[0] == 409 == candidate.hand_in()[0])
     hall.end(signal.SIGINT)
-    run(DESK, 'mark', hall.folder / hall.file, *sorted(hall.answers.glob('*.hex')), '--register', folder / 'r.csv')
-    with open(folder / 'r.csv', newline='') as opened:
-        rows = [row[:6] for row in csv.reader(opened)][1:]
+    files, register = sorted(hall.answers.glob('*.hex')), folder / 'r.db'
+    run(DESK, 'mark', hall.folder / hall.file, *files, '--register', register, '--new')
+    table = run(DESK, 'register', register, '--csv').out.decode().splitlines()
+    rows = [row[:6] for row in csv.reader(table)][1:]
     tally.check('the register', rows == [['anna', 'Best', '', '', '', ''], ['bert', 'Uncut', '4', '', '', ''],
                                          ['carl', 'Dearer', '', '0', '1', '0']], rows)
 

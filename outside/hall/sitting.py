@@ -10,6 +10,7 @@ import csv
 import os
 import pathlib
 import re
+import shutil
 import sys
 import tempfile
 import urllib.request
@@ -126,11 +127,11 @@ def keyboard(tally: Tally, page: Page) -> None:
 
 def register(tally: Tally, hall: Hall, name: str) -> None:
     """From the click to the register."""
-    rows = hall.folder / 'register.csv'
-    seen = run(DESK, 'mark', hall.folder / 'paper.hex', hall.answers / f'{name}.hex', '--register', rows)
-    with open(rows, newline='') as opened:
-        _, row = csv.reader(opened)
-    tally.check('the register', seen.status == 0 and row[:2] == [name, 'Best'] and row[8] == 'yes', row)
+    file, answer = hall.folder / 'register.db', hall.folder / 'oezge.hex'
+    shutil.copy(hall.answers / f'{name}.hex', answer)
+    seen = run(DESK, 'mark', hall.folder / 'paper.hex', answer, '--register', file, '--new')
+    _, row = csv.reader(run(DESK, 'register', file, '--csv').out.decode().splitlines())
+    tally.check('the register', seen.status == 0 and row[:2] == ['oezge', 'Best'] and row[8] == 'yes', row)
 
 
 def over(page: Page) -> None:
