@@ -9,8 +9,8 @@ from collections.abc import Callable, Iterable
 from dataclasses import dataclass, field
 
 from office.command import REFUSED, Fault, write_out
-from office.library import Desk
 from office.keeping import finding_of
+from office.library import Desk
 from office.marks import HEAD, NO_MARK, Finding, Mark, sha256_of
 from office.progress import Progress
 from office.refusal import Refused
@@ -32,8 +32,9 @@ FORM = "SELECT type || ' ' || name, sql FROM sqlite_schema WHERE sql IS NOT NULL
 
 @dataclass
 class Audit:
-    """A register that is looked at, with what was found so far."""
+    """A register that is looked at, with what was found so far. Desks may add to it meanwhile, so the end is fixed."""
     register: Register
+    end: tuple[int, str]
     faults: list[str] = field(default_factory=list)
     papers: dict[str, tuple[str, Desk | None]] = field(default_factory=dict)
     answers: dict[str, bytes] = field(default_factory=dict)
@@ -90,7 +91,7 @@ class Audit:
 
     def marks(self) -> list[str]:
         """Every mark, in the order in which they were made."""
-        end, _ = self.register.end()
+        end, _ = self.end
         seq, before, bar = 1, NO_MARK, Progress('auditing', end)
         for first in range(1, end + 1, EVERY):
             last = min(first + EVERY - 1, end)
@@ -154,13 +155,13 @@ class Audit:
 
     def report(self, head: str | None) -> list[str]:
         """What was found, a line each."""
-        end, _ = self.register.end()
+        end, own = self.end
         many = [counted(end, 'mark'), counted(len(self.papers), 'paper'), counted(len(self.answers), 'answer')]
         by = [f'{counted(some, "mark")} by desk {desk}, library {str(library)[:HEAD]}'
               for (desk, library), some in self.made_by.items()]
         well = counted(len(self.faults), 'fault') if self.faults else 'all as it was made'
         known = f'; the head {head} is among them' if head is not None and not self.faults else ''
-        return [*self.faults, *by, f'{", ".join(many)}: {well}{known}; head {self.register.head()}']
+        return [*self.faults, *by, f'{", ".join(many)}: {well}{known}; head {own[:HEAD]}']
 
 
 def hashed_otherwise(sha256: str, text: bytes) -> list[str]:
@@ -188,7 +189,7 @@ def main(asked: argparse.Namespace) -> None:
     if head is not None and not re.fullmatch(f'[0-9a-f]{{{HEAD},64}}', head):
         raise Fault(f'a head has {HEAD} digits 0-9 a-f: {asked.head}')
     with opened(asked.register) as register:
-        audit = Audit(register)
+        audit = Audit(register, register.end())
         audit.look(head)
         write_out('\n'.join([*audit.report(head), '']).encode())
     if audit.faults:

@@ -1,15 +1,21 @@
 """Answers marked by the proved calls, and which of their marks the register takes."""
+import contextlib
 import datetime
 import os
 import pwd
+from collections.abc import Iterator
 from dataclasses import dataclass
 
+from office.command import INTERRUPTED, Fault
 from office.library import Desk
 from office.marks import NO_MARK, Finding, Mark, sha256_of
 from office.refusal import Refused
 from office.register import Register
 from office.version import desk_version, library_sha256
-from office.words import REFUSED, VERDICTS
+from office.words import REFUSED, VERDICTS, counted
+
+# How many answers are marked before their marks are kept.
+EVERY = 300
 
 
 @dataclass(frozen=True)
@@ -92,6 +98,20 @@ def keep(register: Register, paper: PaperText, answers: list[Answer], by: Marker
             register.add_mark(mark)
             outcomes.append(Outcome(answer, mark))
     return outcomes
+
+
+@contextlib.contextmanager
+def telling(register: Register | None, many: int) -> Iterator[None]:
+    """Whoever ends a marking into a register, or whatever does, the marks that were kept are told."""
+    try:
+        yield
+    except (KeyboardInterrupt, Fault) as fault:
+        if register is None:
+            raise
+        kept = f'{counted(register.kept, "mark")} of {many:,} answers kept; the same command goes on'
+        if isinstance(fault, KeyboardInterrupt):
+            raise Fault(f'ended: {kept}', INTERRUPTED) from fault
+        raise Fault(f'{fault}\n{kept}', fault.status) from fault
 
 
 def same(answer: Answer, there: Mark) -> bool:

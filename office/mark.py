@@ -6,16 +6,15 @@ import pathlib
 from collections import Counter
 from dataclasses import dataclass, field
 
-from office import register as registers
 from office.asked import PAPER_HELP, planned
 from office.candidates import IDENTITY, IDENTITY_FORM, Candidate, candidates_in, folded
-from office.command import FAILED, INTERRUPTED, REFUSED, Fault, printable, read_plain, tell, write_out
+from office.command import FAILED, REFUSED, Fault, printable, read_plain, tell, write_out
+from office.keeping import EVERY, Answer, Marker, PaperText, finding_of, keep, marker, telling
 from office.library import Desk
-from office.keeping import Answer, Marker, PaperText, finding_of, keep, marker
 from office.marks import Finding, sha256_of
 from office.progress import Progress
 from office.refusal import Refusal
-from office.register import Register
+from office.register import Register, to_write
 from office.rows import FIRST, as_csv, first_cells
 from office.slip_files import Slips
 from office.words import ABSENT, UNREAD, VERDICTS, counted
@@ -31,8 +30,6 @@ mark away that is there. The status is then 1, or 2 where something was not read
   ./desk mark paper.hex answers/*.hex --register register.db --candidates names.csv --slips slips
   ./desk mark paper.hex late/anna.hex --register register.db --replace "handed in again, with leave"
 """
-# How many answers are marked before their marks are kept.
-EVERY = 300
 
 
 @dataclass
@@ -162,7 +159,7 @@ def register_asked(asked: argparse.Namespace) -> contextlib.AbstractContextManag
         return contextlib.nullcontext()
     if asked.replace is not None and not asked.replace.strip():
         raise Fault('--replace wants the reason')
-    return registers.made(asked.register) if asked.new else registers.opened(asked.register, writing=True)
+    return to_write(asked.register, asked.new)
 
 
 def arguments(parser: argparse.ArgumentParser) -> None:
@@ -195,7 +192,8 @@ def main(asked: argparse.Namespace) -> None:
         marking = Marking(desk, paper, register, by, slips, bar)
         for why in wrong:
             marking.say(why, FAILED)
-        mark_all(marking, everyone, listed)
+        with telling(register, len(everyone)):
+            mark_all(marking, everyone, listed)
         if register is None:
             rows = [first_cells(one.candidate, one.finding, paper.sha256, one.sha256) for one in marking.done]
             write_out(as_csv(FIRST, sorted(rows, key=lambda row: str(row['candidate']))))
@@ -207,21 +205,11 @@ def main(asked: argparse.Namespace) -> None:
 
 
 def mark_all(marking: Marking, everyone: list[tuple[str, str | None]], listed: dict[str, Candidate] | None) -> None:
-    """Marks all, and keeps the marks as it goes. Whoever ends it learns what was kept."""
-    register = marking.register
-    try:
-        if register is not None and listed is not None:
-            with register.adding():
-                for one in listed.values():
-                    register.add_name(folded(one.identity), one.name)
-        for first in range(0, len(everyone), EVERY):
-            some = marking.bar.over(everyone[first:first + EVERY])
-            marking.keep([marking.answer(*one) for one in some])
-    except (KeyboardInterrupt, Fault) as fault:
-        if register is None:
-            raise
-        marking.bar.hide()
-        kept = f'{counted(register.kept, "mark")} of {len(everyone):,} answers kept; the same command goes on'
-        if isinstance(fault, KeyboardInterrupt):
-            raise Fault(f'ended: {kept}', INTERRUPTED) from fault
-        raise Fault(f'{fault}\n{kept}', fault.status) from fault
+    """Marks all, and keeps the marks as it goes."""
+    if marking.register is not None and listed is not None:
+        with marking.register.adding():
+            for one in listed.values():
+                marking.register.add_name(folded(one.identity), one.name)
+    for first in range(0, len(everyone), EVERY):
+        some = marking.bar.over(everyone[first:first + EVERY])
+        marking.keep([marking.answer(*one) for one in some])

@@ -53,6 +53,8 @@ class Register:
                 raise sqlite3.DatabaseError(f'it is a register of form {form}, and this desk has form {FORM}')
             for rule in LASTING if self.writing else ['query_only=ON']:
                 made.execute(f'PRAGMA {rule}')
+            if self.writing and made.execute('PRAGMA journal_mode').fetchone()[0] != 'delete':
+                raise sqlite3.OperationalError('another program has it open in a mode of its own')
         except BaseException:
             made.close()
             raise
@@ -132,10 +134,11 @@ class Register:
 
     def patiently(self, statement: str) -> None:
         """Does something for which others may have to end first; says so where it takes long."""
+        self.connection.execute(f'PRAGMA busy_timeout={1000 * QUIET}')
         try:
             self.connection.execute(statement)
         except sqlite3.OperationalError as fault:
-            if not is_busy(fault):
+            if 'locked' not in str(fault):
                 raise
             tell('desk', f'{printable(self.file)} is in use by another desk: waiting up to {PATIENCE} seconds')
             self.connection.execute(f'PRAGMA busy_timeout={1000 * (PATIENCE - QUIET)}')
@@ -203,10 +206,6 @@ class Register:
             return None
 
 
-def is_busy(fault: sqlite3.Error) -> bool:
-    return 'locked' in str(fault)
-
-
 def unread(file: str, fault: Exception) -> Fault:
     return Fault(f'cannot read {printable(file)}: {printable(str(fault))}')
 
@@ -233,6 +232,11 @@ def opened(file: str, writing: bool = False) -> Register:
         if begins_with(file, OLD):
             raise Fault(f'{printable(file)} is an old register: ./desk take-in takes it into a new one') from fault
         raise Fault(f'{printable(file)} is there and no register, so it is left alone: {fault}') from fault
+
+
+def to_write(file: str, new: bool) -> Register:
+    """The register of a file to add to, a new one if that is asked for."""
+    return made(file) if new else opened(file, writing=True)
 
 
 def made(file: str) -> Register:

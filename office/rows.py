@@ -13,10 +13,11 @@ YES, NO = 'yes', 'no'
 FIRST = ['candidate', 'verdict', 'uncut', 'loop', 'theirs', 'ours', 'number', 'line', 'certificate', 'paper_sha256',
          'answer_sha256']
 # What the register knows besides.
-MORE = ['name', 'paper', 'words', 'seq', 'at', 'who', 'desk', 'library', 'replaces', 'reason', 'sitting', 'own']
+OF_MARK = ['seq', 'at', 'who', 'desk', 'library', 'replaces', 'reason', 'sitting', 'own']
+ALL = [*FIRST, 'name', 'paper', 'words', *OF_MARK]
 # A spreadsheet takes what begins so for a formula.
 FORMULA = ('=', '+', '-', '@', '\t', '\r', '\n')
-MARK = '\ufeff'
+BYTE_ORDER = '\ufeff'
 Cell = str | int | None
 
 
@@ -32,7 +33,7 @@ def cells_of(register: Register, mark: Mark) -> dict[str, Cell]:
     paper = register.paper(mark.paper)
     told = first_cells(mark.candidate, mark.finding, mark.paper, mark.answer)
     named = {'name': register.name(mark.candidate), 'paper': paper[0] if paper else None}
-    return told | named | {'words': words(register, mark)} | {name: getattr(mark, name) for name in MORE[3:]}
+    return told | named | {'words': words(register, mark)} | {name: getattr(mark, name) for name in OF_MARK}
 
 
 def words(register: Register, mark: Mark) -> str | None:
@@ -52,7 +53,7 @@ def guarded(cell: Cell) -> Cell:
 def as_csv(columns: list[str], rows: Iterable[dict[str, Cell]], excel: bool = False) -> bytes:
     """The rows under the names of their columns; what does not apply is empty."""
     out = io.StringIO(newline='')
-    out.write(MARK if excel else '')
+    out.write(BYTE_ORDER if excel else '')
     writer = csv.writer(out, lineterminator='\n')
     writer.writerow(columns)
     writer.writerows([guarded(row[name]) for name in columns] for row in rows)

@@ -5,8 +5,8 @@ from collections.abc import Callable
 from dataclasses import dataclass
 
 from office.command import Fault, printable, take_away, write_over
-from office.library import Desk
 from office.keeping import PaperText
+from office.library import Desk
 
 
 @dataclass(frozen=True)

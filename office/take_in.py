@@ -8,15 +8,14 @@ from collections import defaultdict
 from collections.abc import Iterator
 from dataclasses import dataclass
 
-from office import register as registers
 from office.audit import planned
 from office.candidates import IDENTITY, IDENTITY_FORM, candidates_in, folded
 from office.command import REFUSED, Fault, printable, read_plain, tell, write_out
+from office.keeping import EVERY, Answer, Marker, PaperText, finding_of, keep, marker, telling
 from office.library import Desk
-from office.mark import EVERY, paper_name
-from office.keeping import Answer, Marker, PaperText, finding_of, keep, marker
+from office.mark import paper_name
 from office.marks import Finding, sha256_of
-from office.register import Register
+from office.register import Register, to_write
 from office.rows import FIRST, first_cells
 from office.words import UNREAD, counted
 
@@ -143,10 +142,11 @@ def main(asked: argparse.Namespace) -> None:
     papers: dict[str, list[dict[str, str]]] = defaultdict(list)
     for row in rows:
         papers[row['paper_sha256']].append(row)
-    with registers.made(asked.register) if asked.new else registers.opened(asked.register, writing=True) as register:
+    with to_write(asked.register, asked.new) as register:
         taking = Taking(register, texts, identities, marker())
-        for sha256, some in papers.items():
-            taking.paper(sha256, some)
+        with telling(register, len(rows)):
+            for sha256, some in papers.items():
+                taking.paper(sha256, some)
         taken = f'{counted(register.kept, "mark")} added, head {register.head()}'
         write_out(f'{counted(len(rows), "row")}, {taking.listed:,} not taken in: {taken}\n'.encode())
     if taking.listed:

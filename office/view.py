@@ -4,8 +4,7 @@ import argparse
 from office.command import Fault, printable, write_out
 from office.marks import Finding, Mark
 from office.register import Register, opened
-from office.rows import FIRST, MORE as BESIDES
-from office.rows import as_csv, as_json, cells_of
+from office.rows import ALL, as_csv, as_json, cells_of
 from office.words import counted
 
 HELP = 'shows the marks of a register, or writes them as CSV or JSON'
@@ -64,7 +63,7 @@ def told(register: Register, asked: argparse.Namespace) -> bytes:
     """What is asked for."""
     marks = chosen(register, asked)
     if asked.csv or asked.excel:
-        return as_csv(FIRST + BESIDES, (cells_of(register, mark) for mark in marks), asked.excel)
+        return as_csv(ALL, (cells_of(register, mark) for mark in marks), asked.excel)
     if asked.json:
         return as_json(cells_of(register, mark) for mark in marks)
     end, _ = register.end()

@@ -13,8 +13,7 @@ from collections.abc import Callable
 
 from office import register as registers
 from office.audit import planned
-from office.keeping import Answer, PaperText, finding_of, keep, marker
-from office.mark import EVERY
+from office.keeping import EVERY, Answer, PaperText, finding_of, keep, marker
 from office.marks import sha256_of
 from outside.measure import papers
 from outside.tests.workday import text_of

@@ -84,6 +84,13 @@ def files(tally: Tally, folder: pathlib.Path) -> None:
     with contextlib.closing(sqlite3.connect(register)) as opened:
         rules = [opened.execute(f'PRAGMA {rule}').fetchone()[0] for rule in ('journal_mode', 'application_id')]
     tally.check('its journal is deleted', rules == ['delete', APPLICATION], rules)
+    with contextlib.closing(sqlite3.connect(register, isolation_level=None)) as other:
+        for words in ('PRAGMA journal_mode=WAL', 'BEGIN', 'SELECT * FROM mark'):
+            other.execute(words).fetchone()
+        seen = run(DESK, 'mark', P, *ANSWERS, '--register', register)
+        tally.check('open in another mode', seen.status == 2 and 'cannot' in seen.err, seen)
+    tally.check('back again', added(run(DESK, 'mark', P, *ANSWERS, '--register', register)) == 0)
+    tally.check('without a log', run('head', '-c', '20', register).out[18:20] == b'\1\1')
     tally.check('nothing is left beside', not [*folder.glob('.desk-*')] and not [*folder.glob('*-journal')])
 
 
@@ -166,7 +173,9 @@ def writers(tally: Tally, folder: pathlib.Path) -> None:
     shares = [everyone[100 * i:100 * i + 200] for i in range(6)]
     desks = [subprocess.Popen([DESK, 'mark', P, *share, '--register', register], stdout=subprocess.DEVNULL)
              for share in shares]
+    audits = [run(DESK, 'audit', register).status for _ in range(3)]
     tally.check('six desks', not any(desk.wait() for desk in desks))
+    tally.check('audited meanwhile', audits == [0] * 3, audits)
     rows = table(register, '--history')
     tally.check('nothing is lost, and nothing there twice', sorted(row['candidate'] for row in rows) == [
         file.stem for file in everyone], len(rows))
@@ -315,7 +324,7 @@ def flipped(tally: Tally, whole: pathlib.Path, register: pathlib.Path) -> None:
         register.write_bytes(data[:place] + bytes([data[place] ^ 1 << rng.randrange(8)]) + data[place + 1:])
         try:
             with registers.opened(str(register)) as opened:
-                audit = Audit(opened)
+                audit = Audit(opened, opened.end())
                 audit.look(None)
                 faults = audit.faults
         except Fault as fault:

@@ -46,7 +46,7 @@ def add(file: pathlib.Path, answers: dict[str, list[int]]) -> str:
 def many_in(tally: Tally, name: str, file: pathlib.Path) -> int:
     """How many marks a register has, which must be as it was made."""
     with registers.opened(str(file)) as register:
-        audit = Audit(register)
+        audit = Audit(register, register.end())
         audit.look(None)
         tally.check(f'{name}: audited', audit.faults == [], audit.faults)
         return register.end()[0]
