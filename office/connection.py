@@ -52,6 +52,15 @@ class Connections:
         self.turns.add(connection.machine, connection.begin)
 
 
+    def end(self) -> None:
+        """Reads no more. What was asked for is still done; who has only just come is sent away."""
+        self.closed = True
+        self.turns.finish()
+        for connection in self.room.all():
+            if connection.transport is None:
+                connection.cut()
+
+
 class Connection(asyncio.Protocol):
     """A connection. The request under way is the one that is not answered yet."""
 
@@ -74,7 +83,7 @@ class Connection(asyncio.Protocol):
 
     def begin(self) -> bool:
         """Begins to talk, by way of a handshake where it is encrypted; that follows in the loop."""
-        if self.over:
+        if self.over or self.others.closed:
             return False
         making = self.others.loop.connect_accepted_socket(lambda: self, self.made, ssl=self.others.tls)
         self.beginning = self.others.loop.create_task(making)

@@ -73,6 +73,9 @@ class Room(Generic[Kind]):
                 del self.since[connection.machine]
             self.used_by(connection, None)
 
+    def all(self) -> list[Kind]:
+        return [connection for there in self.since.values() for connection in there]
+
     def heard_of(self, connection: Kind) -> None:
         there = self.since.get(connection.machine, {})
         if there.pop(connection, None) is not None:

@@ -77,8 +77,7 @@ class Server:
         for number in ends:
             self.loop.remove_signal_handler(number)
         door.close()
-        connections.turns.finish()
-        connections.closed = True
+        connections.end()
         if self.made:
             self.settle()
         self.loop.run_until_complete(self.loop.shutdown_default_executor())

@@ -132,6 +132,11 @@ class Browser:
     def picture(self) -> bytes:
         return base64.b64decode(self.driver.ask('GET', f'{self.path}/screenshot'))
 
+    def sheets(self) -> int:
+        """How many sheets the page takes when it is printed."""
+        printed = base64.b64decode(self.ask('/print', shrinkToFit=False))
+        return len(re.findall(rb'/Type /Page\b', printed))
+
     def complaints(self) -> list[str]:
         """What the browser's console has since it was last asked."""
         return [entry['message'] for entry in self.ask('/se/log', type='browser')]

@@ -10,6 +10,8 @@ import ssl
 import subprocess
 from collections.abc import Iterator
 
+from office.called import Called, called_by
+from office.messages import Request
 from office.serving import token_of
 from outside.hall.browser import Browser, Driver
 from outside.hall.opened import Hall, until_there
@@ -101,10 +103,10 @@ def by_itself(tally: Tally, driver: Driver, folder: pathlib.Path) -> None:
     page = asks.ask('GET', '/', **cookie)
     tally.check('a full-size page', page.status == 200 and page.read().endswith(b'</html>\n'))
     sat(tally, driver, hall, 'TLS', [128, 255])
-    for made in silent:
-        made.close()
     tally.check('Ctrl-C', hall.end(signal.SIGINT) == 0)
     tally.check('nothing to complain about', hall.complaints() == '', hall.complaints())
+    for made in silent:
+        made.close()
 
 
 @contextlib.contextmanager
@@ -164,6 +166,17 @@ def over_ipv6(tally: Tally, folder: pathlib.Path) -> None:
     reply = asked.getresponse()
     tally.check('answered over IPv6', reply.status == 200 and b'"gaps":[]' in reply.read())
     hall.end()
+
+
+def from_where(tally: Tally, _: pathlib.Path) -> None:
+    """The machine that something in front tells of counts only where there is such a thing, on this machine."""
+    here, front = Called('http', ('localhost',), 80), called_by(f'https://{NAME}')
+    for called, address, told, wanted in (
+            (here, '127.0.0.1', MACHINE, '127.0.0.1'), (front, '192.168.1.5', MACHINE, '192.168.1.5'),
+            (front, '127.0.0.1', f'192.168.1.5, {MACHINE}', MACHINE), (front, '::1', '2001:DB8::1', '2001:db8::1'),
+            (front, '127.0.0.1', 'desk', '127.0.0.1'), (front, '127.0.0.1', '', '127.0.0.1')):
+        found = called.machine(address, Request('GET', '', '/', {'x-forwarded-for': [told]}, '', False))
+        tally.check(f'{told} by {address}', found == wanted, found)
 
 
 def wrong(tally: Tally, folder: pathlib.Path) -> None:

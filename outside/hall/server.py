@@ -10,7 +10,7 @@ import tempfile
 
 from outside.hall.connections import connected
 from outside.hall.crowds import crowd, rush
-from outside.hall.encrypted import over_ipv6, wrong
+from outside.hall.encrypted import from_where, over_ipv6, wrong
 from outside.hall.opened import Candidate, Hall
 from outside.hall.refusing import raw, request, status, unmoved
 from outside.hall.shares import shares
@@ -48,6 +48,7 @@ def main() -> None:
         connected(tally, folder)
         shares(tally, folder)
         over_ipv6(tally, folder)
+        from_where(tally, folder)
         wrong(tally, folder)
         unmoved(tally, folder)
     tally.close()

@@ -138,6 +138,8 @@ def over(page: Page) -> None:
     """After the end nothing changes, and another candidate may sit down."""
     page.browser.click(GAP(2))
     page.shows('handed in before', 'You have handed in. Nothing can be changed any more.')
+    sheets = page.browser.sheets()
+    page.tally.check('printed on few sheets', 0 < sheets < 3, sheets)
     page.leave('Leave this desk? Your ticket opens the sitting again.')
     page.enter()
     page.shows('looked at again')
