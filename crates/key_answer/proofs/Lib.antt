@@ -2,4 +2,3 @@
 pub mod Lengths
 pub mod Both
 pub mod Answering
-pub mod Calls

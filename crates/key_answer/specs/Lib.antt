@@ -1,3 +1,2 @@
 -- What the program answers.
 pub mod Answers
-pub mod Calls

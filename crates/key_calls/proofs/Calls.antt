@@ -27,7 +27,7 @@ use Rattle.desk.specs.Desks.{Desk, loadedDesk, withKey, deskIn, planFault}
 use Rattle.desk.specs.Says.{countFault}
 use Rattle.desk.proofs.Made.{loaded-holds, plan-makes}
 use Rattle.desk.proofs.ReadAgain.{written-text}
-use Rattle.key_answer.specs.Calls.{countedFrom, Calls, plannedOf, answerOf, AnswersByCalls}
+use Rattle.key_calls.specs.Calls.{countedFrom, Calls, plannedOf, answerOf, AnswersByCalls}
 
 -- the counts' lines, from counts that are those of each DO
 counted-counts

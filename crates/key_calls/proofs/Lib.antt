@@ -1,0 +1,2 @@
+-- That the program answers what the desk's calls give.
+pub mod Calls

@@ -1,0 +1,2 @@
+-- What the desk's calls give for a text.
+pub mod Calls
