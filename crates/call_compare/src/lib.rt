@@ -13,8 +13,6 @@ use desk::Desk;
 use desk::key_fault;
 use paper_nests::Nest;
 use paper_placements::Placement;
-use paper_weigh::as_good;
-use paper_weigh::deciding;
 
 // The number of a refusal, the text at fault (1 or 2, or 0 for neither) with its line, zeros for none; whether the first
 // placement is as good or better than the second, and the second than the first; and the set of the loops that decide
@@ -61,13 +59,15 @@ fn weigh(nest: Nest, p: Placement, q: Placement) -> Compared
 {
     let count = nest.count;
     let points = nest.points;
+    let standing = paper_weigh::weigh(&points[..count], p, q);
+    let deciding = standing.deciding;
     Compared {
         number: 0,
         text: 0,
         line: 0,
-        first: as_good(&points[..count], p, q),
-        second: as_good(&points[..count], q, p),
-        deciding: deciding(&points[..count], p, q),
+        first: standing.first,
+        second: standing.second,
+        deciding: deciding,
     }
 }
 

@@ -1,5 +1,6 @@
 -- The order of placements, loop by loop: as good or better speaks of every loop, and both ways it is equal counts.
--- Main statements: `asGood-elim`, `asGood-intro`, `asGood-moved`, `asGood-refl`, `asGood-trans`, `asGood-both`.
+-- Main statements: `same-in-is`, `same-in-by`; `asGood-elim`, `asGood-intro`, `asGood-moved`, `asGood-refl`,
+-- `asGood-trans`, `asGood-both`.
 use mathlib.Core.Path.{_≡_, refl, sym, ap, _∙_}
 use mathlib.Core.Bool.{Bool, true, _&&_, _||_, not}
 use mathlib.Core.List.{List, [], _∷_}
@@ -47,14 +48,15 @@ module _ (n : Nest) (a b : List ℕ) where
   better-every (d ∷ ds) = ap (λ (t : Bool). (not (same-in d) || least-at d) && t) (better-every ds)
 
 module _ (n : Nest) (shape : isShape (n .points) ≡ true) (a b : List ℕ) (d : ℕ) where
-  same-in-is : same-in n a b d ≡ true → SameInside n a b d
+  -- the test of a loop says it of every loop inside
+  pub same-in-is : insideSame n a b d (loopsOf n) ≡ true → SameInside n a b d
   same-in-is e x h i =
       let test-of : ℕ → Bool = λ y. not (inLoop (n .points) d y) || same-at n a b y in
       let z : test-of x ≡ true =
       each-of test-of (loopsOf n) (rw (inside-every n a b d (loopsOf n)) at e) x (loop-listed n shape x h) in
       eqb-true (loopCount n a x) (loopCount n b x) (implied (inLoop (n .points) d x) (same-at n a b x) z i)
 
-  same-in-by : SameInside n a b d → same-in n a b d ≡ true
+  pub same-in-by : SameInside n a b d → insideSame n a b d (loopsOf n) ≡ true
   same-in-by s =
       rw (inside-every n a b d (loopsOf n))
       (every-by (λ (y : ℕ). not (inLoop (n .points) d y) || same-at n a b y) (loopsOf n)

@@ -1,4 +1,3 @@
--- Laws of the tests at one loop, and of the passes over all loops of a nest.
-pub mod AtLoops
-pub mod Passing
-pub mod Decided
+-- Laws of the pass over the loops of a nest.
+pub mod Weighing
+pub mod ByTables

@@ -1,128 +1,63 @@
 // Which of two placements is better, loop by loop.
 ghost use mathlib.Core.Path.{_≡_};
 ghost use mathlib.Core.Bool.{true};
-ghost use Prim.Native.Nat.{_≤_, _<_};
+ghost use Prim.Native.Nat.{_≤_};
 ghost use lib.ListN.{length};
-ghost use Rattle.paper_nests.specs.Loops.{isDo};
+ghost use Rattle.paper_nests.specs.Kinds.{POINTS};
 ghost use Rattle.paper_nests.specs.Valid.{isShape};
 ghost use Rattle.paper_placements.specs.Placements.{areGapsFrom};
-ghost use Rattle.paper_placements.specs.Words.{GAPS, gapsIn};
-ghost use Rattle.paper_weigh.specs.Weighed.{AgreesSays, SameInsideSays, NoMoreSays, AsGoodSays};
-ghost use Rattle.paper_weigh.specs.Weighed.{DecidesSays, DecidingSays};
+ghost use Rattle.paper_placements.specs.Words.{gapsIn};
+ghost use Rattle.paper_weigh.specs.Weighed.{WeighedSays};
+use paper_counts::counts_of;
+use paper_counts::owners_of;
 use paper_placements::Placement;
-use paper_placements::count_of;
 
-// The first is as good or better than the second: at each loop where both have the same counts in all the loops inside
-// it, the first's count is at most the second's.
-pub fn as_good(points: &[u8], a: Placement, b: Placement) -> bool
-    requires { ⌜ (isShape (now points) ≡ true) × (length (now points) ≤ GAPS) ⌝ }
+// How two placements stand to each other: whether the first is as good or better than the second, whether the second is
+// as good or better than the first, and the loops that decide between them, by their DOs.
+pub struct Standing {
+    pub first: bool,
+    pub second: bool,
+    pub deciding: Placement,
+}
+
+// Holds two placements beside each other, in one pass over the loops by their ENDDOs. The loops inside one are those that
+// ended before it and begin behind its DO: `latest` is the last DO of a loop that ended with different counts, so a loop
+// has the same counts in all the loops inside it if its DO is not before that. Where then its own differ, it decides.
+pub fn weigh(points: &[u8], a: Placement, b: Placement) -> Standing
+    requires { ⌜ (isShape (now points) ≡ true) × (length (now points) ≤ POINTS) ⌝ }
     requires { ⌜ areGapsFrom 0 (length (now points)) (gapsIn (a .words)) ≡ true ⌝ }
     requires { ⌜ areGapsFrom 0 (length (now points)) (gapsIn (b .words)) ≡ true ⌝ }
-    ensures { λ r. ⌜ AsGoodSays (now (points .entry)) (a .words) (b .words) r ⌝ }
+    ensures { λ r. ⌜ WeighedSays (now (points .entry)) (a .words) (b .words) r ⌝ }
 {
+    let owners = owners_of(points);
+    let of_a = counts_of(points, a);
+    let of_b = counts_of(points, b);
+    let mut first = true;
+    let mut second = true;
+    let mut deciding = Placement::empty();
+    let mut latest = 0;
     let mut e = 0;
     while e < points.len() {
-        if points[e] == paper_nests::ENDDO {
-            let d = paper_nests::loop_of(points, e);
-            let holds = no_more(points, a, b, d);
-            if holds {
-                e += 1;
-            } else {
-                return false;
+        let here = e;
+        e += 1;
+        if points[here] == paper_nests::ENDDO {
+            let d = owners[here];
+            if latest <= d {
+                if of_a[d] < of_b[d] {
+                    second = false;
+                    latest = d;
+                    deciding = deciding.put(d);
+                } else if of_b[d] < of_a[d] {
+                    first = false;
+                    latest = d;
+                    deciding = deciding.put(d);
+                }
             }
-        } else {
-            e += 1;
         }
     }
-    true
-}
-
-// The loops that decide between the two: their counts differ there and are the same in all the loops inside. Bit d is
-// the loop of DO d.
-pub fn deciding(points: &[u8], a: Placement, b: Placement) -> Placement
-    requires { ⌜ (isShape (now points) ≡ true) × (length (now points) ≤ GAPS) ⌝ }
-    requires { ⌜ areGapsFrom 0 (length (now points)) (gapsIn (a .words)) ≡ true ⌝ }
-    requires { ⌜ areGapsFrom 0 (length (now points)) (gapsIn (b .words)) ≡ true ⌝ }
-    ensures { λ r. ⌜ DecidingSays (now (points .entry)) (a .words) (b .words) (r .words) ⌝ }
-{
-    let mut loops = Placement::empty();
-    let mut d = 0;
-    while d < points.len() {
-        let here = d;
-        d += 1;
-        if decides(points, a, b, here) {
-            loops = loops.put(here);
-        }
+    Standing {
+        first: first,
+        second: second,
+        deciding: deciding,
     }
-    loops
-}
-
-// Point d is the DO of a loop that decides.
-fn decides(points: &[u8], a: Placement, b: Placement, d: usize) -> bool
-    requires { ⌜ (isShape (now points) ≡ true) × (length (now points) ≤ GAPS) ⌝ }
-    requires { ⌜ areGapsFrom 0 (length (now points)) (gapsIn (a .words)) ≡ true ⌝ }
-    requires { ⌜ areGapsFrom 0 (length (now points)) (gapsIn (b .words)) ≡ true ⌝ }
-    requires { ⌜ d < length (now points) ⌝ }
-    ensures { λ r. ⌜ DecidesSays (now (points .entry)) (a .words) (b .words) d r ⌝ }
-{
-    if points[d] != paper_nests::DO {
-        return false;
-    }
-    let same = same_inside(points, a, b, d);
-    if same {
-        return count_of(points, d, a) != count_of(points, d, b);
-    }
-    false
-}
-
-// Some loop inside d has different counts, or the first's count at d is at most the second's.
-fn no_more(points: &[u8], a: Placement, b: Placement, d: usize) -> bool
-    requires { ⌜ (isShape (now points) ≡ true) × (length (now points) ≤ GAPS) ⌝ }
-    requires { ⌜ areGapsFrom 0 (length (now points)) (gapsIn (a .words)) ≡ true ⌝ }
-    requires { ⌜ areGapsFrom 0 (length (now points)) (gapsIn (b .words)) ≡ true ⌝ }
-    requires { ⌜ isDo (now points) d ≡ true ⌝ }
-    ensures { λ r. ⌜ NoMoreSays (now (points .entry)) (a .words) (b .words) d r ⌝ }
-{
-    if same_inside(points, a, b, d) {
-        return count_of(points, d, a) <= count_of(points, d, b);
-    }
-    true
-}
-
-// The same counts in all the loops inside d.
-fn same_inside(points: &[u8], a: Placement, b: Placement, d: usize) -> bool
-    requires { ⌜ (isShape (now points) ≡ true) × (length (now points) ≤ GAPS) ⌝ }
-    requires { ⌜ areGapsFrom 0 (length (now points)) (gapsIn (a .words)) ≡ true ⌝ }
-    requires { ⌜ areGapsFrom 0 (length (now points)) (gapsIn (b .words)) ≡ true ⌝ }
-    ensures { λ r. ⌜ SameInsideSays (now (points .entry)) (a .words) (b .words) d r ⌝ }
-{
-    let mut e = 0;
-    while e < points.len() {
-        if points[e] == paper_nests::ENDDO {
-            let x = paper_nests::loop_of(points, e);
-            let holds = agrees(points, a, b, d, x);
-            if holds {
-                e += 1;
-            } else {
-                return false;
-            }
-        } else {
-            e += 1;
-        }
-    }
-    true
-}
-
-// Loop x is not inside d, or both have the same count there.
-fn agrees(points: &[u8], a: Placement, b: Placement, d: usize, x: usize) -> bool
-    requires { ⌜ (isShape (now points) ≡ true) × (length (now points) ≤ GAPS) ⌝ }
-    requires { ⌜ areGapsFrom 0 (length (now points)) (gapsIn (a .words)) ≡ true ⌝ }
-    requires { ⌜ areGapsFrom 0 (length (now points)) (gapsIn (b .words)) ≡ true ⌝ }
-    requires { ⌜ isDo (now points) x ≡ true ⌝ }
-    ensures { λ r. ⌜ AgreesSays (now (points .entry)) (a .words) (b .words) d x r ⌝ }
-{
-    if paper_nests::is_inside(d, paper_nests::end_of(points, d), x) {
-        return count_of(points, x, a) == count_of(points, x, b);
-    }
-    true
 }
