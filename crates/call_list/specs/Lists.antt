@@ -1,12 +1,15 @@
 -- The list of dependences that a host lends, judged record by record.
--- Main definitions: `allDeps`, `begun`, `stepOf`, `stepsFrom`.
+-- Main definitions: `allDeps`, `begun`, `stepOf`, `stepsFrom`; `EndsFit`.
+use mathlib.Core.Path.{_≡_}
 use mathlib.Core.Bool.{true}
 use mathlib.Core.List.{List, [], _∷_}
-use Prim.Native.Nat.{ℕ, suc, _+_}
+use Prim.Native.Nat.{ℕ, suc, _+_, _<_}
 use lib.Dec.{eqb}
 use Rattle.laws.specs.Choice.{pick}
 use Rattle.paper_nests.specs.declared.Dependence as DE
+use Rattle.paper_nests.specs.Kinds.{POINTS}
 use Rattle.paper_nests.specs.Nests.{Dep}
+use Rattle.paper_nests.specs.Loops.{isDo, endOf}
 use Rattle.paper_nests.specs.Stored.{depIn}
 use Rattle.paper_placements.specs.Placements.{cuts}
 use Rattle.desk.specs.declared.Answer as DA
@@ -44,3 +47,7 @@ stepOf x a e i =
 unfoldable pub stepsFrom : Desk → ℕ → DA.Answer → List Dep → DA.Answer
 stepsFrom x i a [] = a
 stepsFrom x i a (e ∷ es) = stepsFrom x (suc i) (stepOf x a e i) es
+
+-- the ENDDO of every DO is a byte
+abbrev pub EndsFit : List ℕ → Type 0
+EndsFit ps = (d : ℕ) → isDo ps d ≡ true → endOf ps d < POINTS

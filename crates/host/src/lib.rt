@@ -111,6 +111,7 @@ pub extern "C" fn desk_list(desk: Desk, list: &[u8]) -> Answer
     requires { ⌜ IsMade desk ⌝ }
     ensures { λ r. ⌜ ListSays desk (recordsOf (now (list .entry))) r ⌝ }
 {
+    let ends = call_list::ends_on(desk);
     let mut found = call_list::begin(desk);
     let mut i: usize = 0;
     let mut at: usize = 0;
@@ -121,7 +122,7 @@ pub extern "C" fn desk_list(desk: Desk, list: &[u8]) -> Answer
             s: list[at + 2],
             t: list[at + 3],
         };
-        found = call_list::step(desk, found, e, i);
+        found = call_list::step(desk, ends, found, e, i);
         i += 1;
         at += RECORD;
     }
@@ -132,7 +133,7 @@ pub extern "C" fn desk_list(desk: Desk, list: &[u8]) -> Answer
             s: 0,
             t: 0,
         };
-        return call_list::step(desk, found, none, i);
+        return call_list::step(desk, ends, found, none, i);
     }
     found
 }

@@ -1,6 +1,5 @@
 -- The cut test: the lowest gap of the placement among those of the dependence.
--- Main statements: `lowest-between`, `lowest-either`, `cuts-by`, `cut-lowest`, `cut-line`, `cut-back`,
--- `cut-before`.
+-- Main statements: `lowest-between`, `lowest-either`, `cuts-by`, `cut-lowest`, `cut-line`, `cut-back`.
 use mathlib.Core.Path.{_≡_, refl, sym, _∙_}
 use mathlib.Core.Bool.{Bool, true, false, _||_}
 use mathlib.Core.List.{List, [], _∷_}
@@ -259,39 +258,3 @@ module _ (ps : List ℕ) (e : Dep) where
       p
       q
       w))
-
-  -- a gap of the first interval that is at most s comes before the second
-  pub cut-before
-      : (ws : List ℕ) (r : ℕ)
-      → (e .kind ≡ INDEPENDENT → ⊥)
-      → LowestIn ws (λ (g : ℕ). between (e .d + 1) g (e .t)) r
-      → r ≤ e .s
-      → r < GAPS
-      → Told ws r
-  cut-before ws r k p h l =
-      cut-lowest
-      ws
-      r
-      (record {
-        fits = p .fits;
-        held = λ m. (at-first (p .held m .0), p .held m .1);
-        none = λ i a b c. p .none i a (only-first i c b) c;
-      })
-    where
-      kinds : eqb (e .kind) INDEPENDENT ≡ false
-      kinds = ne-eqb (e .kind) INDEPENDENT k
-
-      at-first : between (e .d + 1) r (e .t) ≡ true → hasGap ps e r ≡ true
-      at-first z =
-          let y : between (suc (e .d)) r (e .t) ≡ true = rw add-one at z in
-          rw kinds (or-left (between (suc (e .s)) r (endOf ps (e .d))) y)
-
-      only-first : (i : ℕ) → i < r → hasGap ps e i ≡ true → between (e .d + 1) i (e .t) ≡ true
-      only-first i c z =
-          rw
-          add-one
-          (⊎-elim
-          (λ (y : between (suc (e .d)) i (e .t) ≡ true). y)
-          (λ (y : between (suc (e .s)) i (endOf ps (e .d)) ≡ true).
-          absurd (omega (arith, in-between (suc (e .s)) i (endOf ps (e .d)) y .0)))
-          (or-true (between (suc (e .d)) i (e .t)) (between (suc (e .s)) i (endOf ps (e .d))) (rw kinds at z)))

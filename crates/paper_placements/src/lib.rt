@@ -10,10 +10,10 @@ ghost use Rattle.laws.specs.Bits.{bit, tally};
 ghost use Rattle.laws.specs.Choice.{between, isIn};
 ghost use Rattle.paper_nests.specs.Loops.{isDo, endOf};
 ghost use Rattle.paper_nests.specs.Valid.{isShape, isValid};
-ghost use Rattle.paper_nests.specs.Stored.{depIn, nestIn, IsCounted};
+ghost use Rattle.paper_nests.specs.Stored.{nestIn, IsCounted};
 ghost use Rattle.paper_placements.specs.Placements.{uncut, areGapsFrom};
 ghost use Rattle.paper_placements.specs.Words.{GAPS, holds, gapsIn, LowestFrom, LowestIn};
-ghost use Rattle.paper_placements.specs.Answers.{cutOf, isCut, CutSays, CutInSays, foundOf, IsMask};
+ghost use Rattle.paper_placements.specs.Answers.{cutOf, isCut, CutInSays, foundOf, IsMask};
 ghost use Rattle.paper_placements.specs.Answers.{LoopCountSays, CompareSays};
 
 // A set of gaps, or of loops by their DOs: gap g, or the loop of DO g, is bit g mod 64 of word g / 64.
@@ -146,25 +146,6 @@ pub fn cut_in(end: usize, p: Placement, e: Dependence) -> Cut
         return found(a);
     }
     found(b)
-}
-
-// The lowest gap of the placement that cuts the dependence. The ENDDO is looked for only where the first interval of a
-// carried dependence has no gap.
-pub fn cut_by(points: &[u8], p: Placement, e: Dependence) -> Cut
-    ensures { λ r. ⌜ CutSays (now (points .entry)) (depIn e) (gapsIn (p .words)) r ⌝ }
-{
-    if e.kind == paper_nests::INDEPENDENT {
-        return cut_in(0, p, e);
-    }
-    let d = e.d as usize;
-    let s = e.s as usize;
-    let t = e.t as usize;
-    let a = p.lowest_in(d + 1, t);
-    if a <= s {
-        return found(a);
-    }
-    let end = paper_nests::end_of(points, d);
-    cut_in(end, p, e)
 }
 
 // The number of the first dependence that the placement does not cut, plus 1; 0 for none.

@@ -11,47 +11,53 @@ use Rattle.host.proofs.desk_list.Statement.{statement}
 use Rattle.host.proofs.desk_list.Tie as tie
 
 abbrev Inv-loop : tie.InvT-loop
-Inv-loop desk list found₀ i₀ at₀ found i at = Taken (deskIn desk) list i at found
+Inv-loop desk list ends found₀ i₀ at₀ found i at = Taken (deskIn desk) list i at found
 
 abbrev μ-loop : tie.MeasureT-loop
-μ-loop desk list found₀ i₀ at₀ found i at = length list - at
+μ-loop desk list ends found₀ i₀ at₀ found i at = length list - at
+
+ends-on-requires : tie.Need-ends-on-requires Inv-loop μ-loop
+ends-on-requires c κs = c .before .pre
 
 begin-requires : tie.Need-begin-requires Inv-loop μ-loop
 begin-requires c κs = tt
 
 loop-holds : tie.Need-loop-holds Inv-loop μ-loop
 loop-holds c =
-    let a = c .before .before .args in
+    let a = c .before .before .before .args in
     taken-none (deskIn (a .desk)) (a .list .now) (c .begin .result) (c .begin .ensures)
 
 sub-loop : tie.Need-sub-loop Inv-loop μ-loop
 sub-loop c = c .loop .inv .in-bytes
 
-shared-slice-read-t12 : tie.Need-shared-slice-read-t12 Inv-loop μ-loop
-shared-slice-read-t12 c = search needs
-
-add-t8 : tie.Need-add-t8 Inv-loop μ-loop
-add-t8 c = search needs
-
-shared-slice-read-t14 : tie.Need-shared-slice-read-t14 Inv-loop μ-loop
-shared-slice-read-t14 c = search needs
+shared-slice-read-t13 : tie.Need-shared-slice-read-t13 Inv-loop μ-loop
+shared-slice-read-t13 c = search needs
 
 add-t9 : tie.Need-add-t9 Inv-loop μ-loop
 add-t9 c = search needs
 
-shared-slice-read-t16 : tie.Need-shared-slice-read-t16 Inv-loop μ-loop
-shared-slice-read-t16 c = search needs
+shared-slice-read-t15 : tie.Need-shared-slice-read-t15 Inv-loop μ-loop
+shared-slice-read-t15 c = search needs
 
-add-t17 : tie.Need-add-t17 Inv-loop μ-loop
-add-t17 c = search needs
+add-t10 : tie.Need-add-t10 Inv-loop μ-loop
+add-t10 c = search needs
 
-shared-slice-read-t19 : tie.Need-shared-slice-read-t19 Inv-loop μ-loop
-shared-slice-read-t19 c = search needs
+shared-slice-read-t17 : tie.Need-shared-slice-read-t17 Inv-loop μ-loop
+shared-slice-read-t17 c = search needs
+
+add-t18 : tie.Need-add-t18 Inv-loop μ-loop
+add-t18 c = search needs
+
+shared-slice-read-t20 : tie.Need-shared-slice-read-t20 Inv-loop μ-loop
+shared-slice-read-t20 c = search needs
 
 step-requires : tie.Need-step-requires Inv-loop μ-loop
 step-requires c κs =
     let t = c .before .before .before .before in
-    (t .before .before .before .before .pre .counted, omega (arith, t .before .loop .inv .fits, t .loop-test .taken))
+    let e = t .before .before .before in (
+      e .before .before .pre .counted,
+      (e .ends-on .ensures, omega (arith, t .before .loop .inv .fits, t .loop-test .taken)),
+    )
 
 add-i : tie.Need-add-i Inv-loop μ-loop
 add-i c = search needs
@@ -65,7 +71,7 @@ loop-less c = let t = c .before .before .before .before .before in omega (arith,
 loop-again : tie.Need-loop-again Inv-loop μ-loop
 loop-again c =
     let t = c .before .before .before .before .before in
-    let a = t .before .before .before .before .args in
+    let a = t .before .before .before .before .before .args in
     let l = t .before .loop in
     taken-one (deskIn (a .desk)) (a .list .now) (l .i) (l .at) (l .found) (l .inv) (c .step .result)
     (omega (arith, t .loop-test .taken))
@@ -74,12 +80,15 @@ loop-again c =
 step-requires-2 : tie.Need-step-requires-2 Inv-loop μ-loop
 step-requires-2 c κs =
     let t = c .before in
-    (t .before .before .before .before .pre .counted, omega (arith, t .before .loop .inv .fits, c .if1 .taken))
+    let e = t .before .before .before in (
+      e .before .before .pre .counted,
+      (e .ends-on .ensures, omega (arith, t .before .loop .inv .fits, c .if1 .taken)),
+    )
 
 returns : tie.Need-returns Inv-loop μ-loop
 returns c =
     let t = c .before .before in
-    let a = t .before .before .before .before .args in
+    let a = t .before .before .before .before .before .args in
     let l = t .before .loop in
     steps-say (a .desk) (recordsOf (a .list .now)) (c .step2 .result)
     (taken-left (deskIn (a .desk)) (a .list .now) (l .i) (l .at) (l .found) (l .inv) (c .step2 .result)
@@ -90,7 +99,7 @@ returns c =
 returns-2 : tie.Need-returns-2 Inv-loop μ-loop
 returns-2 c =
     let t = c .before in
-    let a = t .before .before .before .before .args in
+    let a = t .before .before .before .before .before .args in
     let l = t .before .loop in
     steps-say (a .desk) (recordsOf (a .list .now)) (l .found)
     (taken-all (deskIn (a .desk)) (a .list .now) (l .i) (l .at) (l .found) (l .inv) (omega (arith, c .if1 .left)))
@@ -101,16 +110,17 @@ desk-list-spec =
     (tie.spec
     Inv-loop
     μ-loop
+    ends-on-requires
     begin-requires
     loop-holds
     sub-loop
-    shared-slice-read-t12
-    add-t8
-    shared-slice-read-t14
+    shared-slice-read-t13
     add-t9
-    shared-slice-read-t16
-    add-t17
-    shared-slice-read-t19
+    shared-slice-read-t15
+    add-t10
+    shared-slice-read-t17
+    add-t18
+    shared-slice-read-t20
     step-requires
     add-i
     add-at
