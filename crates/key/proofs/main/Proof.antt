@@ -1,11 +1,10 @@
--- `main` is safe and ends: the bytes that were read lie in the buffer (`IsWithin`), and the answer lies within its own
+-- `main` is safe and ends: the bytes that were read lie in the buffer (`read-within`), and the answer lies within its own
 -- (`answer-within`).
-use mathlib.Core.Path.{sym, subst}
+use mathlib.Core.Path.{sym}
 use lib.Seq.{length-take-le}
 use borrow.Author.Needs.{needs}
 use Rattle.key_answer.proofs.Answering.{answer-within}
-use Rattle.key.specs.declared.Input.{Input}
-use Rattle.key.specs.Inputs.{IsWithin}
+use Rattle.key.proofs.Reading.{read-within}
 use Rattle.key.proofs.main.Statement.{statement}
 use Rattle.key.proofs.main.Tie as tie
 
@@ -33,7 +32,7 @@ buffer-requires c κs = search needs
 array-share-prefix-input : tie.Need-array-share-prefix-input
 array-share-prefix-input c =
     let r = c .before .before .before .before .before .read-input in
-    subst (λ (i : Input). IsWithin i (r .last .0)) (c .before .before .read .given .1) (r .ensures)
+    read-within _ (r .result) (r .last .0) _ (c .before .before .read .given .1) (r .ensures)
 
 slice-aggregate-answer : tie.Need-slice-aggregate-answer
 slice-aggregate-answer c =

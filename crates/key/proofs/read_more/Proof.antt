@@ -47,7 +47,7 @@ end
     : (c : tie.Then1)
     → let s = c .before .before .before .before .before .before .args in
     let moved = natAbs (toZ w64 (ofZ w64 (c .before .before .before .read .result))) in
-    (s .at < s .at + moved) × (s .at + moved ≤ length (s .input .now))
+    (0 < moved) × (s .at + moved ≤ length (s .input .now))
 end c =
     let b3 = c .before .before .before in
     let b6 = b3 .before .before .before in
@@ -56,10 +56,7 @@ end c =
     let before : s .at ≤ length (s .input .now) = omega (arith, b6 .pre) in
     let some = moved-some _ (r .result) (record { sfits = r .ok }) (r .ensures) (c .if1 .taken) in
     let fits = moved-within _ (r .result) (record { sfits = r .ok }) (r .ensures) (c .if1 .taken) in
-    (omega (arith, some), part-end (s .at) _ (s .input .now) before fits)
-
-add-t10 : tie.Need-add-t10
-add-t10 c = omega (arith, end c .1)
+    (some, part-end (s .at) _ (s .input .now) before fits)
 
 same-length : tie.Need-same-length
 same-length c = search needs
@@ -68,7 +65,7 @@ returns : tie.Need-returns
 returns c =
     let b3 = c .before .before .before in
     let b6 = b3 .before .before .before in
-    record { on = (end c .0, omega (arith, end c .1, same-length c)); kept = stay b6 (b3 .read .last .1 .0) }
+    record { on = (end c .0, omega (arith, end c .1, same-length c)); kept = stay b6 (b3 .read .last .1 .0); long = same-length c }
 
 same-length-2 : tie.Need-same-length-2
 same-length-2 c = search needs
@@ -76,7 +73,7 @@ same-length-2 c = search needs
 returns-2 : tie.Need-returns-2
 returns-2 c =
     let b4 = c .before .before .before .before in
-    record { on = tt; kept = stay (b4 .before .before .before) (b4 .read .last .1 .0) }
+    record { on = tt; kept = stay (b4 .before .before .before) (b4 .read .last .1 .0); long = same-length-2 c }
 
 errno-requires : tie.Need-errno-requires
 errno-requires c κs = search needs
@@ -87,7 +84,7 @@ same-length-3 c = search needs
 returns-3 : tie.Need-returns-3
 returns-3 c =
     let b6 = c .before .before .before .before .before .before in
-    record { on = tt; kept = stay (b6 .before .before .before) (b6 .read .last .1 .0) }
+    record { on = tt; kept = stay (b6 .before .before .before) (b6 .read .last .1 .0); long = same-length-3 c }
 
 same-length-4 : tie.Need-same-length-4
 same-length-4 c = search needs
@@ -95,7 +92,7 @@ same-length-4 c = search needs
 returns-4 : tie.Need-returns-4
 returns-4 c =
     let b6 = c .before .before .before .before .before .before in
-    record { on = tt; kept = stay (b6 .before .before .before) (b6 .read .last .1 .0) }
+    record { on = tt; kept = stay (b6 .before .before .before) (b6 .read .last .1 .0); long = same-length-4 c }
 
 pub read-more-spec : {M : Type 1} → statement M
 read-more-spec =
@@ -106,7 +103,6 @@ read-more-spec =
     part-read-end
     read-requires
     cast-t9
-    add-t10
     same-length
     returns
     same-length-2
