@@ -1,8 +1,8 @@
 /* The marking desk for barrier papers, for programs in C.
 
    A desk is a value: it goes into a call and comes back in the reply, and no call keeps anything. Begin with desk_new
-   and go on with the desk of each reply; a desk made in any other way is not one. Calls on different desks may run at
-   the same time.
+   and go on with the desk of each reply. No call checks a desk: on one that no call made it may answer anything, read or
+   write memory that is not its own, stop the program, or not end. Calls on different desks may run at the same time.
 
    `number` is 0, or the number of a refusal; `line` is the line of the text, from 1, or 0 where no text is at fault.
    A refused call leaves the desk as it was, every byte of a lent buffer too, and answers 0.
@@ -12,7 +12,8 @@
      3   a point after a dependence or a barred gap
      4   a point before any DO or after the outermost loop; a dependence, a barred gap, or the end, while a loop is open
      5   a 257th point, a loop 9 deep, a 513th dependence, a 256th barred gap
-     6   s, t or d names no point, or one of the wrong sort; Count of a point that is no DO
+     6   s, t or d names no point, or one of the wrong sort; Count of a point that is no DO; the gaps of a dependence
+         that is none
      7   an independent dependence with s at or after t; a carried one with a point not inside its loop
      8   a gap that is 0 or not below the number of points; in a text, one not above the gap before
      9   a buffer shorter than what would be written
@@ -29,8 +30,12 @@
     19   a number of processors or phases out of range, or a slice that is not as long as they say
     20   a set of waits without its own processor, or with one that the sheet does not have
 
-   A text or a buffer is lent as a pointer and a length in bytes. A thread with a stack of 160 KiB has room for every
-   call. The library is for x86-64, and links against memcpy and memset alone:
+   A text or a buffer is lent as a pointer and a length in bytes; what a timing sheet lends has its length in numbers.
+   Where the length is 0 the pointer is not read, and may be NULL. A buffer does not overlap a text that it is written
+   from; two texts may overlap.
+
+   A thread with a stack of 160 KiB has room for every call. The library is for x86-64, and links against memcpy and
+   memset alone:
 
      gcc -I crates/host host.c target/staticlib/libhost.a  */
 #ifndef DESK_H
@@ -151,12 +156,34 @@ typedef struct DeskMoved {
     Desk desk;
 } DeskMoved;
 
-/* A set of gaps by the textbook method, of loops by their DOs for the missing runs; empty where the call is refused. */
+/* A set of gaps by the textbook method or of a dependence, of loops by their DOs for the missing runs; empty where the
+   call is refused. */
 typedef struct DeskChosen {
     uint8_t number;
     size_t line;
     DeskPlacement set;
 } DeskChosen;
+
+/* The shape of the nest: by each gap the DO of its loop, by each DO its ENDDO, by each point how many loops it is
+   strictly inside; a DO and an ENDDO are not inside their own. Every other place has 0. */
+typedef struct DeskShape {
+    uint8_t number;
+    size_t line;
+    uint8_t owners[DESK_POINTS];
+    uint8_t ends[DESK_POINTS];
+    uint8_t depths[DESK_POINTS];
+} DeskShape;
+
+/* The candidate's barriers; by each DO how many of them stand at its loop's own gaps; by each dependence how many of
+   them cut it; and how many dependences none cuts. Every other place has 0. */
+typedef struct DeskStanding {
+    uint8_t number;
+    size_t line;
+    DeskPlacement placement;
+    uint8_t counts[DESK_POINTS];
+    uint8_t cuts[DESK_DEPENDENCES];
+    size_t uncut;
+} DeskStanding;
 
 typedef struct DeskCalls {
     uint8_t number;
@@ -183,7 +210,8 @@ typedef struct DeskRunEnds {
     uint32_t barriers;
 } DeskRunEnds;
 
-/* `text` is 1 or 2, the text at fault, or 0 for neither; `value` is the length of the joint text. */
+/* `text` is 1 or 2, the text at fault, or 0 for neither; `value` is the length of the joint text. A paper with barred
+   gaps is 14 with its text named and line 0: none of its lines is at fault. */
 typedef struct DeskJoined {
     uint8_t number;
     uint8_t text;
@@ -246,6 +274,15 @@ DeskMoved desk_take_back(Desk desk);
 /* Writes the candidate's barriers as a placement text, as desk_write writes the key. Numbers 10, 9. */
 DeskAnswer desk_sitting(Desk desk, uint8_t *out, size_t length);
 
+/* How the sitting stands, all that a page shows of it after a move. Number 10. */
+DeskStanding desk_standing(Desk desk);
+
+/* The shape of the nest. Number 10. */
+DeskShape desk_shape(Desk desk);
+
+/* All gaps that cut a dependence, which is named by its number, from 0; barred ones too. Numbers 10, 6. */
+DeskChosen desk_gaps(Desk desk, size_t dependence);
+
 /* The placement of the textbook method for a nest of one loop: each gap is tried as a first barrier, the line behind it
    is cut greedily, and the smallest result is kept. It has as many barriers as the key. Numbers 10, 14, 15. */
 DeskChosen desk_textbook(Desk desk);
@@ -269,7 +306,8 @@ DeskCalls desk_count_calls(Desk desk, const uint8_t *turns, size_t length);
 DeskCalls desk_placement_calls(Desk desk, const uint8_t *text, size_t length, const uint8_t *turns, size_t loops);
 
 /* Joins two nest texts and writes a third, as desk_write writes the key: a new outermost loop, in it the first nest and
-   then the second. Numbers 1 to 8 and 14 of the first text, then of the second, with their line; then 14, 18, 9. */
+   then the second. Numbers 1 to 8 and 14 of the first text, then of the second, with their line; then 14, with line 0
+   and the first paper with barred gaps as its text; then 18, 9, with line 0 and text 0. */
 DeskJoined desk_join(const uint8_t *a, size_t first, const uint8_t *b, size_t second, uint8_t *out, size_t room);
 
 /* Tries for fewer calls than the key's where loops run once: turns as for desk_count_calls, but from 1 for every loop,

@@ -19,7 +19,8 @@ use Rattle.paper_placements.proofs.Cuts.{CutBy, cut-has-gap, gap-cuts, AllCut, 
 use Rattle.paper_placements.proofs.Rising.{rising-in}
 use Rattle.paper_placements.proofs.Words.{gapsOf-in}
 use Rattle.run_barriers.specs.Calls.{timesAt, callsIn, callsOf}
-use Rattle.call_improve.specs.Floor.{gapsHad, cheapest, floorFrom, floorOf}
+use Rattle.call_gaps.specs.Says.{gapsHad}
+use Rattle.call_improve.specs.Floor.{cheapest, floorFrom, floorOf}
 
 -- in either of two lists
 pub in-append : (i : ℕ) (xs ys : List ℕ) → isIn i (xs ++ ys) ≡ (isIn i xs || isIn i ys)

@@ -4,7 +4,7 @@
 use mathlib.Core.Path.{_≡_, sym, _∙_}
 use mathlib.Core.Bool.{Bool, true, false, not}
 use mathlib.Core.List.{List, [], _++_}
-use mathlib.Core.Logic.{inl, inr, ⊎-elim}
+use mathlib.Core.Logic.{⊎-elim}
 use Prim.Native.Nat.{ℕ, suc, _+_, _-_, _*_, _^_, _≤_, _<_}
 use native.Mathlib.Omega.{arith}
 use lib.ListN.{length, getD, drop, drop-of-length-le}
@@ -13,12 +13,9 @@ use Rattle.laws.proofs.Tests.{le-or, bool-by, false-by, never-both}
 use Rattle.paper_nests.specs.declared.Nest as DN
 use Rattle.paper_nests.specs.Kinds.{DEPTH}
 use Rattle.paper_nests.specs.Nests.{Dep, Nest}
-use Rattle.paper_nests.specs.Loops.{endOf}
 use Rattle.paper_nests.specs.Gaps.{hasGap}
-use Rattle.paper_nests.specs.Valid.{isShape}
 use Rattle.paper_nests.specs.Stored.{depIn, nestIn}
-use Rattle.paper_nests.proofs.Deps.{Fits, line-gap, back-gap, valid-is}
-use Rattle.paper_nests.proofs.Loops.{end-there}
+use Rattle.paper_nests.proofs.Deps.{valid-is}
 use Rattle.paper_placements.specs.declared.Cut as DC
 use Rattle.paper_placements.specs.Placements.{cuts}
 use Rattle.paper_placements.specs.Answers.{isCut, CutInSays}
@@ -27,31 +24,16 @@ use Rattle.paper_placements.proofs.Cuts.{CutBy, cut-has-gap, gap-cuts}
 use Rattle.paper_placements.proofs.Words.{gapsOf-in, gapsOf-from, gapsOf-to, in-gaps}
 use Rattle.run_barriers.specs.Calls.{TURNS}
 use Rattle.run_count.specs.Times.{HasTimes}
-use Rattle.call_improve.specs.Floor.{gapsHad, cheapest, floorFrom, floorOf}
-use Rattle.call_improve.specs.Tops.{WithEnds}
-use Rattle.call_improve.specs.Cheapest.{CheapestIn, CheapestSays, GapsPut}
+use Rattle.call_gaps.specs.Lies.{WithEnds, GapsPut}
+use Rattle.call_gaps.specs.Says.{gapsHad}
+use Rattle.call_gaps.proofs.Lies.{depAt, found-at, found-ends, found-fits}
+use Rattle.call_gaps.proofs.Answers.{gap-inside}
+use Rattle.call_improve.specs.Floor.{cheapest, floorFrom, floorOf}
+use Rattle.call_improve.specs.Cheapest.{CheapestIn, CheapestSays}
 use Rattle.call_improve.specs.Steps.{FewTimes, FloorSays}
-use Rattle.call_improve.proofs.Lies.{depAt, found-at, found-ends, found-fits}
 use Rattle.call_improve.proofs.FloorBelow.{in-append, cheapest-is}
 
 -- ---- the gaps of a dependence
-
--- they are gaps of the nest
-gap-inside
-    : (ps : List ℕ) (e : Dep) (g : ℕ)
-    → isShape ps ≡ true
-    → Fits ps e
-    → hasGap ps e g ≡ true
-    → (0 < g) × (g < length ps)
-gap-inside ps e g shape (inl l) h =
-    let q = line-gap ps e g (l .kind-is) h in
-    (omega (arith, q .0), omega (arith, q .1, l .target-there))
-gap-inside ps e g shape (inr b) h =
-    let end = end-there ps shape (e .d) (b .loop) in
-    ⊎-elim
-    (λ (z : (e .d < g) × (g ≤ e .t)). (omega (arith, z .0), omega (arith, z .1, b .target-before)))
-    (λ (z : (e .s < g) × (g ≤ endOf ps (e .d))). (omega (arith, z .0), omega (arith, z .1)))
-    (back-gap ps e g (b .kind-is) h)
 
 module _ (ps : List ℕ) (e : Dep) (inside : (g : ℕ) → hasGap ps e g ≡ true → (0 < g) × (g < length ps)) where
   -- the list has them all

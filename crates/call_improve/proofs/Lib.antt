@@ -1,6 +1,5 @@
 -- Fewer calls where loops run once: what a try leaves, what rounds of tries lead to, the floor, worked cases; a try by
 -- chains, the floor by words, the rounds as the code makes them; the call.
-pub mod Lies
 pub mod TopLaws
 pub mod Trimmed
 pub mod Budgets

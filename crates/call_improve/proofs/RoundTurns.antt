@@ -28,11 +28,12 @@ use Rattle.run_barriers.proofs.Turns.{fit-lower, turns-most}
 use Rattle.run_barriers.proofs.Sizes.{FewTurns, times-most, calls-within}
 use Rattle.run_count.specs.Times.{HasTimes, sumIn}
 use Rattle.run_count.proofs.Summing.{calls-told}
+use Rattle.call_gaps.specs.Lies.{WithEnds}
 use Rattle.call_improve.specs.declared.Improved as DI
 use Rattle.call_improve.specs.declared.Current as DU
 use Rattle.call_improve.specs.declared.Try as DT
 use Rattle.call_improve.specs.Places.{FreeFrom}
-use Rattle.call_improve.specs.Tops.{WithEnds, Chained}
+use Rattle.call_improve.specs.Tops.{Chained}
 use Rattle.call_improve.specs.Tries.{freeOf, tryAt}
 use Rattle.call_improve.specs.Rounds.{outcome, go, improvedOf}
 use Rattle.call_improve.specs.Says.{ROUND, BUDGET, replyIn, foundOf}

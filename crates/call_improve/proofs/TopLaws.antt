@@ -25,9 +25,10 @@ use Rattle.paper_placements.specs.Words.{GAPS, gapsIn}
 use Rattle.paper_placements.proofs.Cuts.{CutBy, cut-has-gap, gap-cuts}
 use Rattle.paper_placements.proofs.Rising.{Rises, rises, rising-in}
 use Rattle.paper_placements.proofs.Words.{in-gaps}
+use Rattle.call_gaps.specs.Lies.{LiesTo, EndsIn}
+use Rattle.call_gaps.proofs.Lies.{ring-gaps, of-ring}
 use Rattle.call_improve.specs.Places.{IsLatest, HasLatest}
-use Rattle.call_improve.specs.Tops.{topOf, topAt, LiesTo, EndsIn}
-use Rattle.call_improve.proofs.Lies.{ring-gaps, of-ring}
+use Rattle.call_improve.specs.Tops.{topOf, topAt}
 
 -- of the barriers x, h is the highest that cuts the dependence
 pub record Top (ps : List ℕ) (e : Dep) (x : List ℕ) (h : ℕ) : Type 0 where

@@ -23,12 +23,13 @@ use Rattle.paper_placements.proofs.Words.{in-gaps, gaps-none}
 use Rattle.desk_sitting.proofs.Words.{gaps-with}
 use Rattle.run_count.specs.Times.{sumIn}
 use Rattle.run_count.proofs.Summing.{calls-with}
+use Rattle.call_gaps.specs.Lies.{WithEnds}
+use Rattle.call_gaps.proofs.Lies.{depAt, found-at, found-ends}
 use Rattle.call_improve.specs.declared.Current as DU
 use Rattle.call_improve.specs.declared.Try as DT
 use Rattle.call_improve.specs.Tries.{tryAt}
-use Rattle.call_improve.specs.Tops.{topAt, WithEnds, NextOf}
+use Rattle.call_improve.specs.Tops.{topAt, NextOf}
 use Rattle.call_improve.specs.Steps.{TryAsks, TrySays}
-use Rattle.call_improve.proofs.Lies.{depAt, found-at, found-ends}
 use Rattle.call_improve.proofs.Trying.{Trying, trying-start, trying-cut, kept-new, kept-gaps, trying-kept}
 use Rattle.call_improve.proofs.Trying.{trying-next, trying-done}
 

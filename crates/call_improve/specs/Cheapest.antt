@@ -1,7 +1,7 @@
--- The cheapest gap of a dependence in a table of how often each gap is passed, and all its gaps put.
--- Main definitions: `LeastIn`, `CheapestIn`, `CheapestSays`, `GapsPut`.
+-- The cheapest gap of a dependence in a table of how often each gap is passed.
+-- Main definitions: `LeastIn`, `CheapestIn`, `CheapestSays`.
 use mathlib.Core.Path.{_≡_}
-use mathlib.Core.Bool.{true, _||_}
+use mathlib.Core.Bool.{true}
 use mathlib.Core.List.{List}
 use Prim.Native.Nat.{ℕ, _≤_}
 use lib.ListN.{getD}
@@ -9,8 +9,7 @@ use Rattle.paper_nests.specs.declared.Dependence as DE
 use Rattle.paper_nests.specs.Nests.{Dep}
 use Rattle.paper_nests.specs.Gaps.{hasGap}
 use Rattle.paper_nests.specs.Stored.{depIn}
-use Rattle.paper_placements.specs.Words.{holds}
-use Rattle.call_improve.specs.Tops.{EndsIn}
+use Rattle.call_gaps.specs.Lies.{EndsIn}
 
 -- r is the least entry of the table from lo to hi
 pub record LeastIn (table : List ℕ) (lo hi r : ℕ) : Type 0 where
@@ -30,11 +29,3 @@ pub record CheapestIn (ps : List ℕ) (e : Dep) (table : List ℕ) (r : ℕ) : T
 -- the same for any points in which `end` is the ENDDO of the loop that carries the dependence
 abbrev pub CheapestSays : List ℕ → ℕ → DE.Dependence → ℕ → Type 0
 CheapestSays table end e r = (ps : List ℕ) → EndsIn ps e end → CheapestIn ps (depIn e) table r
-
--- the words vs are ws with all gaps of the dependence as well
-abbrev pub GapsPut : ℕ → DE.Dependence → List ℕ → List ℕ → Type 0
-GapsPut end e ws vs =
-    (ps : List ℕ) →
-    EndsIn ps e end →
-    (g : ℕ) →
-    holds vs g ≡ (hasGap ps (depIn e) g || holds ws g)

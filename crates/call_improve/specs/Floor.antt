@@ -1,20 +1,14 @@
 -- A floor under the calls of every correct placement (job 13).
--- Main definitions: `gapsHad`, `cheapest`, `floorFrom`, `floorOf`.
+-- Main definitions: `cheapest`, `floorFrom`, `floorOf`.
 use mathlib.Core.List.{List, [], _∷_, _++_}
 use mathlib.Core.Bool.{not}
-use Prim.Native.Nat.{ℕ, _+_, _-_}
+use Prim.Native.Nat.{ℕ, _+_}
 use lib.Dec.{leb}
-use lib.ListN.{length}
 use Rattle.laws.specs.Choice.{pick, when}
 use Rattle.paper_nests.specs.Nests.{Dep, Nest}
-use Rattle.paper_nests.specs.Gaps.{hasGap}
 use Rattle.paper_placements.specs.Placements.{cuts}
-use Rattle.paper_placements.specs.Words.{gapsOf}
 use Rattle.run_barriers.specs.Calls.{timesAt}
-
--- the gaps of a dependence, rising
-abbrev pub gapsHad : List ℕ → Dep → List ℕ
-gapsHad ps e = gapsOf (hasGap ps e) (length ps - 1) 1
+use Rattle.call_gaps.specs.Says.{gapsHad}
 
 -- the calls of the cheapest gap of a list; 0 where it has none
 unfoldable pub cheapest : List ℕ → List ℕ → List ℕ → ℕ

@@ -1,5 +1,5 @@
 -- The highest barrier that cuts a dependence, and the dependences in chains by it.
--- Main definitions: `topOf`, `topAt`, `WithEnds`, `LiesTo`, `EndsIn`, `HighestSays`, `NextOf`, `Chained`.
+-- Main definitions: `topOf`, `topAt`, `HighestSays`, `NextOf`, `Chained`.
 use mathlib.Core.Path.{_≡_}
 use mathlib.Core.Bool.{true}
 use mathlib.Core.List.{List, [], _∷_}
@@ -7,15 +7,13 @@ use Prim.Native.Nat.{ℕ, zero, suc, _≤_, _<_}
 use lib.ListN.{length, getD}
 use Rattle.laws.specs.Choice.{pick, when}
 use Rattle.paper_nests.specs.declared.Dependence as DE
-use Rattle.paper_nests.specs.declared.Nest as DN
-use Rattle.paper_nests.specs.Kinds.{INDEPENDENT, POINTS}
+use Rattle.paper_nests.specs.Kinds.{POINTS}
 use Rattle.paper_nests.specs.Nests.{Dep, Nest}
-use Rattle.paper_nests.specs.Loops.{endOf, HasEnds}
 use Rattle.paper_nests.specs.Gaps.{hasGap}
-use Rattle.paper_nests.specs.Valid.{isValid}
-use Rattle.paper_nests.specs.Stored.{depIn, nestIn, IsCounted}
+use Rattle.paper_nests.specs.Stored.{depIn}
 use Rattle.paper_placements.specs.Placements.{cuts, areGapsFrom}
 use Rattle.paper_placements.specs.Words.{gapsIn}
+use Rattle.call_gaps.specs.Lies.{EndsIn}
 use Rattle.call_improve.specs.Places.{HasLatest}
 
 -- the highest gap of a rising list that cuts the dependence; 0 for none
@@ -28,24 +26,6 @@ abbrev pub topAt : List ℕ → List Dep → List ℕ → ℕ → ℕ
 topAt ps [] x i = 0
 topAt ps (e ∷ es) x zero = topOf ps e x
 topAt ps (e ∷ es) x (suc i) = topAt ps es x i
-
--- a nest within the limits, with the ENDDO of every loop
-pub record WithEnds (nest : DN.Nest) (ends : List ℕ) : Type 0 where
-  pub counted : IsCounted nest
-  pub valid : isValid (nestIn nest) ≡ true
-  pub ends-are : HasEnds (nestIn nest .points) ends
-
--- where the dependence lies, `end` being the ENDDO of the loop that carries it
-pub record LiesTo (e : DE.Dependence) (end : ℕ) : Type 0 where
-  pub forward : e .kind ≡ INDEPENDENT → e .s < e .t
-  pub target-after : (e .kind ≡ INDEPENDENT → ⊥) → e .d < e .t
-  pub target-before : (e .kind ≡ INDEPENDENT → ⊥) → e .t < end
-  pub source-before : (e .kind ≡ INDEPENDENT → ⊥) → e .s < end
-  pub inside : (e .kind ≡ INDEPENDENT → ⊥) → end < POINTS
-
--- `end` is the ENDDO of the loop that carries the dependence in a nest with these points
-abbrev pub EndsIn : List ℕ → DE.Dependence → ℕ → Type 0
-EndsIn ps e end = (e .kind ≡ INDEPENDENT → ⊥) → end ≡ endOf ps (e .d)
 
 -- r is the highest barrier that cuts the dependence, of any words that the table tells and that cut it
 abbrev pub HighestSays : List ℕ → ℕ → DE.Dependence → ℕ → Type 0

@@ -1,20 +1,21 @@
 // Fewer calls where loops run once: tries from the key within a budget, and a floor under the calls of every correct
 // placement.
 ghost use mathlib.Core.Path.{_≡_};
-ghost use mathlib.Core.Bool.{_||_, true};
-ghost use Prim.Native.Nat.{ℕ, _<_, _≤_};
-ghost use Rattle.laws.specs.Choice.{between};
+ghost use mathlib.Core.Bool.{true};
+ghost use Prim.Native.Nat.{_<_, _≤_};
 ghost use Rattle.paper_nests.specs.Kinds.{POINTS};
 ghost use Rattle.paper_nests.specs.Stored.{nestIn};
 ghost use Rattle.paper_placements.specs.Placements.{uncut, areGaps};
 ghost use Rattle.paper_placements.specs.Words.{GAPS, holds, gapsIn};
 ghost use Rattle.desk.specs.Desks.{IsMade};
+ghost use Rattle.call_gaps.specs.Lies.{WithEnds, LiesTo};
 ghost use Rattle.call_improve.specs.Places.{FreeFrom, HasLatest};
-ghost use Rattle.call_improve.specs.Tops.{WithEnds, LiesTo, HighestSays};
-ghost use Rattle.call_improve.specs.Cheapest.{LeastIn, CheapestSays, GapsPut};
+ghost use Rattle.call_improve.specs.Tops.{HighestSays};
+ghost use Rattle.call_improve.specs.Cheapest.{LeastIn, CheapestSays};
 ghost use Rattle.call_improve.specs.Steps.{FewTimes, reached, CurrentSays, TryAsks, TrySays, FloorSays};
 ghost use Rattle.call_improve.specs.Steps.{SearchAsks, SearchSays};
 ghost use Rattle.call_improve.specs.Says.{replyIn, refusal, ImproveSays};
+use call_gaps::with_gaps;
 use call_runs::can_count;
 use desk::Desk;
 use desk::key_fault;
@@ -336,33 +337,4 @@ fn least_in(times: &[u64; Nest::POINTS], lo: usize, hi: usize) -> u64
         }
     }
     least
-}
-
-// The placement with all gaps of the dependence as well.
-fn with_gaps(p: Placement, end: usize, e: Dependence) -> Placement
-    requires { ⌜ LiesTo e end ⌝ }
-    ensures { λ r. ⌜ GapsPut end e (p .words) (r .words) ⌝ }
-{
-    let s = e.s as usize;
-    let t = e.t as usize;
-    if e.kind == paper_nests::INDEPENDENT {
-        return with_range(p, s + 1, t);
-    }
-    let d = e.d as usize;
-    let q = with_range(p, d + 1, t);
-    with_range(q, s + 1, end)
-}
-
-// The placement with the gaps from lo to hi as well.
-fn with_range(p: Placement, lo: usize, hi: usize) -> Placement
-    requires { ⌜ (lo ≤ hi) × (hi < GAPS) ⌝ }
-    ensures { λ r. ⌜ ((g : ℕ) → holds (r .words) g ≡ (between lo g hi || holds (p .words) g)) ⌝ }
-{
-    let mut q = p;
-    let mut g = lo;
-    while g <= hi {
-        q = q.put(g);
-        g += 1;
-    }
-    q
 }

@@ -11,6 +11,9 @@ ghost use Rattle.call_moves.specs.Says.{PutSays, LiftSays, BackSays, SittingSay
 ghost use Rattle.call_sheet.specs.Says.{endsOf};
 ghost use Rattle.call_sheet.specs.Sheets.{sheet};
 ghost use Rattle.call_missing.specs.Says.{MissingSays};
+ghost use Rattle.call_shape.specs.Says.{ShapeSays};
+ghost use Rattle.call_gaps.specs.Says.{GapsSays};
+ghost use Rattle.call_standing.specs.Says.{StandingSays};
 ghost use Rattle.call_slips.specs.Says.{CandidateSays, ExaminerSays};
 ghost use Rattle.call_textbook.specs.Says.{TextbookSays};
 ghost use Rattle.host.specs.Says.{MarkSays};
@@ -22,7 +25,9 @@ use call_improve::Improved;
 use call_join::Joined;
 use call_moves::Moved;
 use call_runs::Calls;
+use call_shape::Shape;
 use call_sheet::RunEnds;
+use call_standing::Standing;
 use desk::Answer;
 use desk::Chosen;
 use desk::Desk;
@@ -167,6 +172,30 @@ pub extern "C" fn desk_sitting(desk: Desk, out: &mut [u8]) -> Answer
     ensures { λ r. ⌜ SittingSays desk (now (out .entry)) (now (out .exit)) r ⌝ }
 {
     call_moves::write_sitting(desk, out)
+}
+
+#[no_mangle]
+pub extern "C" fn desk_standing(desk: Desk) -> Standing
+    requires { ⌜ IsMade desk ⌝ }
+    ensures { λ r. ⌜ StandingSays desk r ⌝ }
+{
+    call_standing::sitting_stands(desk)
+}
+
+#[no_mangle]
+pub extern "C" fn desk_shape(desk: Desk) -> Shape
+    requires { ⌜ IsMade desk ⌝ }
+    ensures { λ r. ⌜ ShapeSays desk r ⌝ }
+{
+    call_shape::nest_shape(desk)
+}
+
+#[no_mangle]
+pub extern "C" fn desk_gaps(desk: Desk, dependence: usize) -> Chosen
+    requires { ⌜ IsMade desk ⌝ }
+    ensures { λ r. ⌜ GapsSays desk dependence r ⌝ }
+{
+    call_gaps::dependence_gaps(desk, dependence)
 }
 
 #[no_mangle]

@@ -2,9 +2,9 @@
 -- left.
 use Prim.Native.Nat.{_+_, _-_}
 use native.Mathlib.Omega.{arith}
-use Rattle.call_improve.proofs.GapRanges.{Ranged, range-start, range-on, range-done}
-use Rattle.call_improve.proofs.with_range.Statement.{statement}
-use Rattle.call_improve.proofs.with_range.Tie as tie
+use Rattle.call_gaps.proofs.Ranges.{Ranged, range-start, range-on, range-done}
+use Rattle.call_gaps.proofs.with_range.Statement.{statement}
+use Rattle.call_gaps.proofs.with_range.Tie as tie
 
 abbrev Inv-loop : tie.InvT-loop
 Inv-loop lo hi q₀ g₀ q g = Ranged (q₀ .words) lo hi g (q .words)

@@ -21,7 +21,7 @@ use Rattle.paper_nests.specs.Stored.{depIn, nestIn}
 use Rattle.paper_nests.proofs.Deps.{Back, Fits, deps-fit, is-line, is-back, valid-is}
 use Rattle.paper_nests.proofs.Loops.{end-there}
 use Rattle.paper_nests.proofs.Stored.{depsIn-at, counted-many}
-use Rattle.call_improve.specs.Tops.{WithEnds, LiesTo, EndsIn}
+use Rattle.call_gaps.specs.Lies.{WithEnds, LiesTo, EndsIn}
 
 -- the gaps of a carried dependence, before its target or behind its source
 module _ (ps : List ℕ) (e : DE.Dependence) (end : ℕ) (ends : EndsIn ps e end) (kind : e .kind ≡ INDEPENDENT → ⊥) where

@@ -1,0 +1,3 @@
+-- The shape of a nest, and what the call promises.
+pub mod Shapes
+pub mod Says
