@@ -51,6 +51,15 @@ def check_words(tally: Tally) -> None:
         tally.check(f'{name}: a desk of {words} words', form in (ROOT / 'examples' / name).read_text())
 
 
+def check_said(tally: Tally) -> None:
+    """What a host has to keep to, which no call can try, stands in the header."""
+    said = ' '.join(HEADER.read_text().split())
+    for rule in ('No call checks a desk: on one that no call made it may answer anything',
+                 'Where the length is 0 the pointer is not read, and may be NULL.',
+                 'A buffer does not overlap a text that it is written from'):
+        tally.check(f'the header says: {rule}', rule in said)
+
+
 def check_layout(tally: Tally, work: pathlib.Path) -> None:
     """Sizes and offsets of every struct, in C."""
     status, said = run(*C, 'outside/tests/layout.c', ARCHIVE, '-o', work / 'layout')
@@ -99,6 +108,7 @@ def main() -> None:
         with tempfile.TemporaryDirectory() as name:
             check_names(tally)
             check_words(tally)
+            check_said(tally)
             check_layout(tally, pathlib.Path(name))
             check_examples(tally, pathlib.Path(name))
             if (pathlib.Path(name) / 'desk_c').exists():

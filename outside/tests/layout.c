@@ -80,6 +80,20 @@ AT(DeskChosen, number, 0, 1);
 AT(DeskChosen, line, 8, 8);
 AT(DeskChosen, set, 16, 32);
 
+SIZE(DeskShape, 784);
+AT(DeskShape, number, 0, 1);
+AT(DeskShape, line, 8, 8);
+AT(DeskShape, owners, 16, 256);
+AT(DeskShape, ends, 272, 256);
+AT(DeskShape, depths, 528, 256);
+SIZE(DeskStanding, 824);
+AT(DeskStanding, number, 0, 1);
+AT(DeskStanding, line, 8, 8);
+AT(DeskStanding, placement, 16, 32);
+AT(DeskStanding, counts, 48, 256);
+AT(DeskStanding, cuts, 304, 512);
+AT(DeskStanding, uncut, 816, 8);
+
 SIZE(DeskCalls, 24);
 AT(DeskCalls, number, 0, 1);
 AT(DeskCalls, line, 8, 8);
@@ -166,6 +180,9 @@ static void sizes(Desk desk, DeskPlain plain) {
     GIVES(OnDesk, desk_take_back, sizeof(DeskMoved), room, desk);
     GIVES(OnPlain, desk_go_over, sizeof(Desk), room, plain);
     GIVES(OnDesk, desk_textbook, sizeof(DeskChosen), room, desk);
+    GIVES(OnDesk, desk_shape, sizeof(DeskShape), room, desk);
+    GIVES(OnDesk, desk_standing, sizeof(DeskStanding), room, desk);
+    GIVES(OnNumber, desk_gaps, sizeof(DeskChosen), room, desk, 5);
     GIVES(OnDesk, desk_missing_runs, sizeof(DeskChosen), room, desk);
     GIVES(OnText, desk_count_calls, sizeof(DeskCalls), room, desk, P, 0);
     GIVES(OnTwo, desk_placement_calls, sizeof(DeskCalls), room, desk, P, 0, P, 0);
@@ -215,6 +232,25 @@ static void fields(Desk desk) {
     that("nest kept", memcmp(&refused.desk.nest, &desk.nest, sizeof desk.nest) == 0);
     DeskAnswer listed = desk_list(desk, (const uint8_t[]){DESK_INDEPENDENT, 0, 2, 5, DESK_CARRIED}, 5);
     that("list", listed.number == 2 && listed.line == 2 && listed.value == 0);
+}
+
+/* P is loop 0 with the loops 1 to 6 and 7 to 12 in it. */
+static void told(Desk desk) {
+    DeskShape shape = desk_shape(desk);
+    that("shape", shape.number == 0 && shape.line == 0);
+    that("owners", shape.owners[0] == 0 && shape.owners[1] == 0 && shape.owners[12] == 7 && shape.owners[14] == 0);
+    that("ends", shape.ends[0] == 13 && shape.ends[1] == 6 && shape.ends[7] == 12 && shape.ends[2] == 0);
+    that("depths", shape.depths[0] == 0 && shape.depths[8] == 2 && shape.depths[12] == 1 && shape.depths[13] == 0);
+    DeskStanding now = desk_standing(desk_put(desk_put(desk, 5).desk, 13).desk);
+    that("standing", now.number == 0 && now.line == 0 && now.placement.words[0] == (1u << 5 | 1u << 13));
+    that("counts of loops", now.counts[0] == 1 && now.counts[1] == 1 && now.counts[7] == 0 && now.counts[255] == 0);
+    that("cuts", now.cuts[0] == 1 && now.cuts[2] == 0 && now.cuts[4] == 1 && now.cuts[511] == 0 && now.uncut == 2);
+    DeskChosen gaps = desk_gaps(desk, 4);
+    that("gaps", gaps.number == 0 && gaps.line == 0 && gaps.set.words[0] == 0x3806 && gaps.set.words[3] == 0);
+    that("no dependence", desk_gaps(desk, 6).number == 6 && desk_gaps(desk, SIZE_MAX).number == 6);
+    desk = desk_reset(desk);
+    that("no nest", desk_shape(desk).number == 10 && desk_standing(desk).number == 10);
+    that("no nest, no gaps", desk_gaps(desk, 0).number == 10);
 }
 
 static void barred(Desk desk) {
@@ -268,6 +304,36 @@ static void joining(void) {
     that("the joint text", memcmp(lent, "01\n01\n03\n02\n04\n02\n02\n12010202\n\a", 31) == 0);
     joined = desk_join(one, 18, two, 3, lent, sizeof lent);
     that("the second text", joined.number == 4 && joined.text == 2 && joined.line == 2 && joined.value == 0);
+    const uint8_t *bars = (const uint8_t *)"01\n02\n1301\n", *loops = (const uint8_t *)"01\n01\n02\n02\n1301\n";
+    joined = desk_join(one, 18, bars, 11, lent, sizeof lent);
+    that("the second paper has barred gaps", joined.number == 14 && joined.text == 2 && joined.line == 0);
+    joined = desk_join(bars, 11, bars, 11, lent, sizeof lent);
+    that("both have, the first is named", joined.number == 14 && joined.text == 1 && joined.line == 0);
+    joined = desk_join(one, 18, loops, 17, lent, sizeof lent);
+    that("a line at fault has its number", joined.number == 14 && joined.text == 2 && joined.line == 5);
+    that("a line before a paper", desk_join(bars, 11, loops, 17, lent, sizeof lent).line == 5);
+}
+
+/* Where a length is 0 the pointer is not read: NULL in every place of every call, a desk with a key and one without. */
+static void empty(Desk desk) {
+    Desk planned = desk_plan(desk).desk;
+    that("load", desk_load(desk, NULL, 0).number == 0);
+    that("mark", desk_mark(desk, NULL, 0).number == 11 && desk_mark(planned, NULL, 0).verdict == DESK_UNCUT);
+    that("write", desk_write(desk, NULL, 0).number == 11 && desk_write(planned, NULL, 0).number == 9);
+    that("list", desk_list(desk, NULL, 0).number == 11 && desk_list(planned, NULL, 0).number == 0);
+    that("sitting", desk_sitting(desk, NULL, 0).number == 0 && desk_sitting(desk, NULL, 0).value == 0);
+    that("sitting, too short", desk_sitting(desk_put(desk, 5).desk, NULL, 0).number == 9);
+    that("candidate's slip", desk_candidate_slip(desk, NULL, 0, NULL, 0).number == 9);
+    that("candidate's slip, written", desk_candidate_slip(desk, NULL, 0, lent, 28).value == 28);
+    that("examiner's slip", desk_examiner_slip(planned, NULL, 0, NULL, 0).number == 9);
+    that("compare", desk_compare(desk, NULL, 0, NULL, 0).number == 0 && desk_compare(desk, NULL, 0, NULL, 0).first);
+    that("count calls", desk_count_calls(planned, NULL, 0).number == 17);
+    that("placement calls", desk_placement_calls(desk, NULL, 0, NULL, 0).number == 17);
+    that("improve", desk_improve(planned, NULL, 0, 10).number == 17);
+    that("join", desk_join(NULL, 0, NULL, 0, NULL, 0).number == 9);
+    that("join, written", desk_join(NULL, 0, NULL, 0, lent, sizeof lent).value == 18);
+    that("sheet", desk_sheet(2, 2, NULL, 0, NULL, 0).number == 19);
+    that("sheet of one phase", desk_sheet(1, 1, WORK, 1, NULL, 0).waiting == 5);
 }
 
 int main(void) {
@@ -275,6 +341,8 @@ int main(void) {
     DeskPlain plain = {.loaded = true, .nest = desk.nest, .planned = true};
     sizes(desk, plain);
     fields(desk);
+    told(desk);
+    empty(desk);
     barred(desk_load(desk, FOUNDATION, sizeof FOUNDATION - 1).desk);
     skipping(desk_load(desk, SKIPPING, sizeof SKIPPING - 1).desk);
     improving(desk_plan(desk_load(desk, ONCE, sizeof ONCE - 1).desk).desk);
