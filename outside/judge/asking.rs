@@ -10,6 +10,7 @@ use crate::skipping;
 use crate::slips;
 use crate::textbook_rule;
 use crate::texts::shown;
+use crate::told;
 
 /// A call with what is lent to it: a text, a list, a buffer. Over takes the desk's nest as a desk of the kind before
 /// sittings, with a key or not, and other words in the key's place where some are given.
@@ -28,6 +29,10 @@ pub enum Call {
     TakeBack,
     Sitting(Vec<u8>),
     Over(bool, Option<[u64; WORDS]>),
+    Shape,
+    /// Of the dependence of a number.
+    Gaps(usize),
+    Standing,
     Textbook,
     /// The examiner's slip or the candidate's, of a text, into a buffer.
     Slip(bool, Vec<u8>, Vec<u8>),
@@ -62,6 +67,9 @@ impl Call {
             Call::TakeBack => "take back",
             Call::Sitting(_) => "sitting",
             Call::Over(..) => "go over",
+            Call::Shape => "shape",
+            Call::Gaps(_) => "gaps",
+            Call::Standing => "standing",
             Call::Textbook => "textbook",
             Call::Slip(false, ..) => "candidate's slip",
             Call::Slip(true, ..) => "examiner's slip",
@@ -80,7 +88,7 @@ impl Call {
             Call::Load(text) | Call::Mark(text) => shown(text),
             Call::List(list) | Call::CountCalls(list) => format!("{list:?}"),
             Call::Write(out) | Call::Sitting(out) => format!("a buffer of {} bytes", out.len()),
-            Call::Count(n) | Call::Put(n) | Call::Lift(n) => n.to_string(),
+            Call::Count(n) | Call::Put(n) | Call::Lift(n) | Call::Gaps(n) => n.to_string(),
             Call::Over(planned, key) => format!("with a key: {planned}, words {key:?}"),
             Call::Slip(_, text, out) => format!("{}, a buffer of {} bytes", shown(text), out.len()),
             Call::Compare(a, b) => format!("{}, {}", shown(a), shown(b)),
@@ -161,6 +169,9 @@ pub fn play(desk: &mut Desk, call: &Call) -> Reply {
                 *desk = host::desk_go_over(PlainDesk { loaded, nest, planned, key });
                 reply(0, 0, &[])
             }
+            Call::Shape => told::play_shape(*desk),
+            Call::Gaps(dependence) => told::play_gaps(*desk, *dependence),
+            Call::Standing => told::play_standing(*desk),
             Call::Textbook => textbook_rule::play(*desk),
             Call::Slip(examiner, text, out) => slips::play(*desk, *examiner, text, out),
             Call::Compare(a, b) => comparing::play(*desk, a, b),

@@ -68,6 +68,19 @@ pub struct Mark { pub number: u8, pub line: usize, pub verdict: u8, pub a: usize
 pub struct Chosen { pub number: u8, pub line: usize, pub set: Placement }
 
 #[repr(C)]
+pub struct Shape { pub number: u8, pub line: usize, pub owners: [u8; 256], pub ends: [u8; 256], pub depths: [u8; 256] }
+
+#[repr(C)]
+pub struct Standing {
+    pub number: u8,
+    pub line: usize,
+    pub placement: Placement,
+    pub counts: [u8; 256],
+    pub cuts: [u8; 512],
+    pub uncut: usize,
+}
+
+#[repr(C)]
 pub struct Calls { pub number: u8, pub line: usize, pub calls: u64 }
 
 #[repr(C)]
@@ -111,6 +124,9 @@ extern "C" {
     pub fn desk_take_back(desk: Desk) -> Moved;
     pub fn desk_sitting(desk: Desk, out: *mut u8, length: usize) -> Answer;
     pub fn desk_go_over(old: PlainDesk) -> Desk;
+    pub fn desk_standing(desk: Desk) -> Standing;
+    pub fn desk_shape(desk: Desk) -> Shape;
+    pub fn desk_gaps(desk: Desk, dependence: usize) -> Chosen;
     pub fn desk_textbook(desk: Desk) -> Chosen;
     pub fn desk_candidate_slip(desk: Desk, text: *const u8, length: usize, out: *mut u8, room: usize) -> Answer;
     pub fn desk_examiner_slip(desk: Desk, text: *const u8, length: usize, out: *mut u8, room: usize) -> Answer;

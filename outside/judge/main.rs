@@ -42,6 +42,7 @@ mod skipping;
 mod slips;
 mod textbook_rule;
 mod texts;
+mod told;
 
 use std::io::Read;
 

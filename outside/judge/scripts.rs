@@ -16,6 +16,7 @@ use crate::sheets::{every_sheet, random_sheet};
 use crate::skipping;
 use crate::slips::slip_length;
 use crate::texts::barrier_lines;
+use crate::told;
 use std::collections::BTreeMap;
 use std::sync::atomic::{AtomicUsize, Ordering::SeqCst};
 use std::sync::Mutex;
@@ -109,7 +110,7 @@ fn random_call(random: &mut Random, desk: &Desk, mix: Mix, edges: &[Vec<u8>]) ->
 }
 
 fn random_ask(random: &mut Random, desk: &Desk, edges: &[Vec<u8>]) -> Call {
-    match random.below(28) {
+    match random.below(33) {
         0 => Call::Count(random_point(random, desk)),
         1 | 2 => Call::Write(buffer(random, 5 * desk.key().len())),
         3 => Call::Sitting(buffer(random, 5 * desk.sitting.len())),
@@ -130,6 +131,9 @@ fn random_ask(random: &mut Random, desk: &Desk, edges: &[Vec<u8>]) -> Call {
         19 | 20 => Call::Sheet(random_sheet(random)),
         21 | 22 => Call::PlacementCalls(placement_text(random, desk), random_turns(random, desk.nest.as_ref())),
         23 | 24 => Call::Compare(placement_text(random, desk), placement_text(random, desk)),
+        25 => Call::Shape,
+        26 | 27 => Call::Gaps(told::random_dependence(random, desk)),
+        28 | 29 => Call::Standing,
         _ => Call::Mark(placement_text(random, desk)),
     }
 }
@@ -290,7 +294,7 @@ fn fixed_scripts() -> Vec<Vec<Call>> {
     let asked = made.map(|text| vec![Call::Load(text), Call::Plan, Call::MissingRuns]);
     let beside = (2..=SMALLEST).flat_map(every_shape).flat_map(|nest| comparisons(&nest));
     let every = (2..=SMALLEST).flat_map(every_paper).map(|nest| asks_of(&nest));
-    lines.chain(asked).chain(joins()).chain(every_sheet()).chain(beside).chain(every).collect()
+    lines.chain(asked).chain(joins()).chain(every_sheet()).chain(beside).chain(told::every_ask()).chain(every).collect()
 }
 
 /// What is asked of a small paper: its missing runs; its calls under all turns from 2 to 4, under some if it is not one

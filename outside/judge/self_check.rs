@@ -17,6 +17,7 @@ use crate::skipping::check_skipping;
 use crate::slips::check_slips;
 use crate::textbook_rule::check_textbook;
 use crate::texts::*;
+use crate::told::check_told;
 
 pub struct Checks { passed: usize, failed: usize }
 
@@ -38,6 +39,7 @@ pub fn self_check() -> bool {
     check_first(&mut checks);
     check_desk(&mut checks);
     check_barred(&mut checks);
+    check_told(&mut checks);
     check_textbook(&mut checks);
     check_slips(&mut checks);
     check_comparing(&mut checks);
