@@ -13,6 +13,7 @@ from collections.abc import Callable, Iterable, Iterator
 from dataclasses import dataclass
 
 from office.command import ROOT, Fault
+from office.frames import DO
 from office.header import DECLARED
 from office.refusal import Refusal, Refused
 
@@ -29,6 +30,24 @@ class Nest:
     dependences: list[tuple[int, int, int, int]]
     barred: list[int]
     flagged: list[int]
+
+
+@dataclass(frozen=True)
+class Shape:
+    """The shape of a nest: the loop of each gap by its DO, the ENDDO of each DO, how many loops each point is inside."""
+    owner: dict[int, int]
+    end: dict[int, int]
+    depth: list[int]
+
+
+@dataclass(frozen=True)
+class Standing:
+    """How a sitting stands: its gaps, rising, how many of them each loop has, by its DO, how many cut each dependence,
+    and how many dependences none cuts."""
+    gaps: list[int]
+    counts: dict[int, int]
+    cuts: bytes
+    uncut: int
 
 
 @dataclass(frozen=True)
@@ -100,6 +119,21 @@ class Desk:
         """The barriers put, as a placement text."""
         return self.written(library().desk_sitting, TEXT)
 
+    def standing(self) -> Standing:
+        """All that a page shows of the sitting."""
+        now, nest = given(library().desk_standing(self.held)), self.held.nest
+        counts = {d: now.counts[d] for d, kind in enumerate(nest.points[:nest.count]) if kind == DO}
+        return Standing(members(now.placement), counts, bytes(now.cuts)[:nest.many], now.uncut)
+
+    def shape(self) -> Shape:
+        shape, count = given(library().desk_shape(self.held)), self.held.nest.count
+        return Shape(dict(enumerate(shape.owners[1:count], 1)), {d: end for d, end in enumerate(shape.ends) if end},
+                     shape.depths[:count])
+
+    def gaps(self, dependence: int) -> list[int]:
+        """The gaps where a barrier cuts a dependence, which is named by its number; barred ones too."""
+        return members(given(library().desk_gaps(self.held, dependence)).set)
+
     def textbook(self) -> list[int]:
         return members(given(library().desk_textbook(self.held)).set)
 
@@ -137,16 +171,6 @@ class Desk:
         dependences = [(e.kind, e.d, e.s, e.t) for e in nest.deps[:nest.many]]
         return Nest(list(nest.points[:nest.count]), dependences, list(nest.barred[:nest.bars]),
                     list(nest.flagged[:nest.flags]))
-
-    @property
-    def cuts(self) -> bytes:
-        """How many barriers of the sitting cut each dependence."""
-        return bytes(self.held.sitting.counts)[:self.held.nest.many]
-
-    @property
-    def uncut(self) -> int:
-        """How many dependences no barrier of the sitting cuts."""
-        return int(self.held.sitting.uncut)
 
     def moved(self, reply: ctypes.Structure) -> int:
         self.held = given(reply).desk

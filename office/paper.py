@@ -1,13 +1,8 @@
-"""A paper as the calls tell of it: its loops, the loop of each gap, the gaps of each dependence; and placements on it.
-
-A gap's loop is the one that counts a barrier there, by the candidate's slip. The gaps of a dependence are those where
-a barrier of the sitting cuts it. Barred gaps are asked of the same nest with nothing barred.
-"""
+"""A paper as the calls tell of it: its loops, the loop of each gap, the gaps of each dependence; and placements on it."""
 from dataclasses import dataclass
 
-from office.frames import (BARRED, CARRIED, ENDDO, FLAGGED, INDEPENDENT, NONE, frames_of, placement_text,
-                           text_of)
-from office.library import Desk, Nest
+from office.frames import INDEPENDENT, NONE, frames_of
+from office.library import Desk
 from office.words import ranges, runs_of
 
 
@@ -51,13 +46,6 @@ class Placed:
     uncut: int | None
 
 
-def nest_text(nest: Nest, with_barred: bool = True) -> bytes:
-    """The text of a nest: points, dependences, then barred gaps, each once."""
-    frames = [[FLAGGED if i in nest.flagged else kind] for i, kind in enumerate(nest.points)]
-    frames += [[kind, d, s, t] if kind == CARRIED else [kind, s, t] for kind, d, s, t in nest.dependences]
-    return text_of(frames + [[BARRED, gap] for gap in sorted(set(nest.barred)) if with_barred])
-
-
 def placed(desk: Desk, text: bytes) -> Placed:
     """What the candidate's slip tells of a placement text."""
     (_, high, low), *counts = frames_of(desk.candidate_slip(text))
@@ -68,24 +56,7 @@ def placed(desk: Desk, text: bytes) -> Placed:
 
 def paper_on(desk: Desk) -> Paper:
     """The paper of the nest on a desk."""
-    nest, free = desk.nest, Desk()
-    free.load(nest_text(nest, with_barred=False))
-    owner: dict[int, int] = {}
-    cut: list[list[int]] = [[] for _ in nest.dependences]
-    for gap in range(1, len(nest.points)):
-        counts = placed(free, placement_text([gap])).counts
-        owner[gap] = next(d for d, count in counts.items() if count == 1)
-        free.put(gap)
-        for number, many in enumerate(free.cuts):
-            if many:
-                cut[number].append(gap)
-        free.take_back()
-    end = {owner[point]: point for point, kind in enumerate(nest.points) if kind == ENDDO}
-    depth: list[int] = []
-    for point, kind in enumerate(nest.points):
-        around = owner.get(point)
-        depth.append(0 if around is None else depth[around] + (kind != ENDDO))
-    dependences = [Dependence(None if kind == INDEPENDENT else d, s, t, gaps)
-                   for (kind, d, s, t), gaps in zip(nest.dependences, cut)]
-    return Paper(nest.points, dict(sorted(end.items())), depth, owner, dependences, set(nest.barred),
-                 set(nest.flagged))
+    nest, shape = desk.nest, desk.shape()
+    dependences = [Dependence(None if kind == INDEPENDENT else d, s, t, desk.gaps(number))
+                   for number, (kind, d, s, t) in enumerate(nest.dependences)]
+    return Paper(nest.points, shape.end, shape.depth, shape.owner, dependences, set(nest.barred), set(nest.flagged))

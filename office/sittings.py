@@ -9,7 +9,6 @@ from dataclasses import dataclass, field
 
 from office.chain import OFFICE, Event
 from office.library import Desk
-from office.paper import placed
 from office.words import ranges
 
 MOVE = re.compile('(put|lift) (0|[1-9][0-9]{0,2})|take back')
@@ -68,7 +67,7 @@ class Sitting:
 
     @property
     def gaps(self) -> list[int]:
-        return placed(self.desk, self.desk.sitting()).gaps
+        return self.desk.standing().gaps
 
     @property
     def state(self) -> State:

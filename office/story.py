@@ -88,7 +88,8 @@ def told(event: Event, sitting: Sitting) -> str:
     at = f' at {event.machine}' * (event.machine != OFFICE)
     if event.act in (ENTER, LEAVE):
         return f'{"enters" if event.act == ENTER else "leaves"}{at}'
-    now = f'{told_gaps(sitting.gaps)}, {sitting.desk.uncut} of {len(sitting.desk.cuts)} dependences uncut'
+    there = sitting.desk.standing()
+    now = f'{told_gaps(there.gaps)}, {there.uncut} of {len(there.cuts)} dependences uncut'
     if MOVE.fullmatch(event.act):
         return f'{event.act}{at}: {now}'
     return f'hands in{at}: {now}; receipt {receipt_of(event)}'

@@ -5,7 +5,6 @@ import threading
 import time
 
 from office.library import Desk
-from office.paper import placed
 from office.refusal import Refused
 from outside.hall.chains import read
 from outside.hall.opened import Candidate, Hall, until_there
@@ -57,8 +56,8 @@ class Clicker:
 
     def same(self, told: dict) -> bool:
         """Whether what is told is the library's sitting."""
-        return (told['gaps'], told['moves'], bytes.fromhex(told['cuts'])) == (
-            placed(self.desk, self.desk.sitting()).gaps, self.moves, self.desk.cuts)
+        now = self.desk.standing()
+        return (told['gaps'], told['moves'], bytes.fromhex(told['cuts'])) == (now.gaps, self.moves, now.cuts)
 
     def after(self, told: dict) -> bool:
         """Whether all that was answered is there after a kill, and of the rest at most the move that was under way."""

@@ -2,7 +2,6 @@
 import contextlib
 
 from office.library import Desk
-from office.paper import placed
 from office.refusal import Refused
 from office.words import RULES
 from outside.hall.browser import ENTER, Browser, until
@@ -62,15 +61,15 @@ class Page:
 
     def wanted(self, said: str) -> dict[str, object]:
         """What the page must show of the library's sitting."""
-        now, cuts = placed(self.desk, self.desk.sitting()), self.desk.cuts
+        now = self.desk.standing()
         return {'bars': now.gaps, 'pressed': now.gaps, 'said': said, 'who': self.called,
                 'empty': [gap for gap in range(1, len(self.desk.nest.points)) if gap not in now.gaps],
-                'hollow': [number for number, many in enumerate(cuts) if not many and self.practice],
-                'words': [f'; cut, barriers: {many}' if many else '; UNCUT' for many in cuts if self.practice],
+                'hollow': [number for number, many in enumerate(now.cuts) if not many and self.practice],
+                'words': [f'; cut, barriers: {many}' if many else '; UNCUT' for many in now.cuts if self.practice],
                 'dots': any(self.dots(gap) for gap in now.gaps) and self.practice,
                 'counts': [[d, f'count {count}'] for d, count in now.counts.items()],
-                'state': f'{self.handed_in}Barriers: {len(now.gaps)}. Dependences uncut: {self.desk.uncut} of '
-                         f'{len(cuts)}.'}
+                'state': f'{self.handed_in}Barriers: {len(now.gaps)}. Dependences uncut: {now.uncut} of '
+                         f'{len(now.cuts)}.'}
 
     def dots(self, gap: int) -> bool:
         """Whether a barrier cuts anything."""
@@ -78,7 +77,7 @@ class Page:
         alone.load(self.hall.paper)
         with contextlib.suppress(Refused):
             alone.put(gap)
-        return any(alone.cuts)
+        return any(alone.standing().cuts)
 
     def shows(self, step: str, said: str = '') -> None:
         wanted = self.wanted(said)
@@ -88,7 +87,7 @@ class Page:
 
     def turn(self, gap: int, by: str = 'mouse') -> None:
         """Puts or lifts, as the library's sitting says, and looks."""
-        there = gap in placed(self.desk, self.desk.sitting()).gaps
+        there = gap in self.desk.standing().gaps
         if by == 'mouse':
             self.browser.click(GAP(gap))
         else:

@@ -15,7 +15,6 @@ import sys
 import tempfile
 import urllib.request
 
-from office.paper import placed
 from outside.hall import browser
 from outside.hall.browser import DOWN, END, ENTER, ESCAPE, HOME, SHIFT, TAB, UP, Browser, Driver, until
 from outside.hall.encrypted import by_itself, in_front
@@ -78,7 +77,7 @@ def day(tally: Tally, page: Page) -> None:
 
 def ring(page: Page) -> None:
     """More moves than can be taken back, made in another window."""
-    elsewhere, there = Candidate(page.hall, page.name), set(placed(page.desk, page.desk.sitting()).gaps)
+    elsewhere, there = Candidate(page.hall, page.name), set(page.desk.standing().gaps)
     for turn in range(MANY):
         gap = 1 + turn % 13
         elsewhere.move(f'lift {gap}' if gap in there else f'put {gap}')

@@ -12,10 +12,10 @@ import subprocess
 import tempfile
 
 from office.day import COMMANDS
-from office.frames import placement_text
+from office.frames import BARRED, CARRIED, FLAGGED, placement_text, text_of
 from office.header import DECLARED, HEADER
-from office.library import Desk
-from office.paper import nest_text, paper_on, placed
+from office.library import Desk, Nest
+from office.paper import paper_on, placed
 from office.refusal import Refused
 from office.show import listing_of
 from office.spell import spelled
@@ -139,6 +139,13 @@ def numbers(tally: Tally, folder: pathlib.Path) -> None:
             except Refused as refused:
                 tally.check(f'{call.__name__} gives {number}', refused.refusal.number == number, refused)
             desk.load(EXAMPLES['p'])
+
+
+def nest_text(nest: Nest) -> bytes:
+    """The text of a nest: points, dependences, then barred gaps, each once."""
+    frames = [[FLAGGED if i in nest.flagged else kind] for i, kind in enumerate(nest.points)]
+    frames += [[kind, d, s, t] if kind == CARRIED else [kind, s, t] for kind, d, s, t in nest.dependences]
+    return text_of(frames + [[BARRED, gap] for gap in sorted(set(nest.barred))])
 
 
 def listings(tally: Tally, folder: pathlib.Path) -> None:
