@@ -153,7 +153,7 @@ plans t d r s h = go (isBlocked (T.readNest t .nest-is)) (load-then-plan t d r (
 
 -- ---- demand 1
 
-move-kept : (number : ℕ) (after : Desk) (d : DD.Desk) (r : DS.Moved) → MoveSays number after d r → (r .number ≡ 0 → ⊥) → r .desk ≡ d
+pub move-kept : (number : ℕ) (after : Desk) (d : DD.Desk) (r : DS.Moved) → MoveSays number after d r → (r .number ≡ 0 → ⊥) → r .desk ≡ d
 move-kept number after d r h z = rw (ne-eqb number 0 (λ q. z (h .number-is ∙ q))) at (h .desk-is)
 
 step-kept : (d e : DD.Desk) (n : ℕ) → Step d n e → (n ≡ 0 → ⊥) → e ≡ d
@@ -173,11 +173,11 @@ plan-early d r h z =
     let e : planFault (deskIn d) ≡ 10 = rw z in
     (h .number-is ∙ e, h .line-is)
 
-turn-state : (d : DD.Desk) (n : ℕ) → OutOfTurn d n → (stateFault true (deskIn d) ≡ n) × (0 < n)
+pub turn-state : (d : DD.Desk) (n : ℕ) → OutOfTurn d n → (stateFault true (deskIn d) ≡ n) × (0 < n)
 turn-state d n (OutOfTurn.no-nest z) = (rw z, omega arith)
 turn-state d n (OutOfTurn.no-key y z) = (rw (y, z), omega arith)
 
-abbrev faultIn : Mark → Fault
+abbrev pub faultIn : Mark → Fault
 faultIn (refused f) = f
 faultIn (given v) = fault 0 0
 
@@ -218,14 +218,14 @@ write-early d out out′ a n h o =
 
 -- ---- demand 2: texts
 
-text-accepted : (t : List ℕ) → T.readNest t .number ≡ 0 → (p : Paper) × Spells t p
+pub text-accepted : (t : List ℕ) → T.readNest t .number ≡ 0 → (p : Paper) × Spells t p
 text-accepted t z =
     let n = T.readNest t .nest-is in
     let p : Paper = record { points = n .points; deps = unmapped (n .deps); barred = n .barred } in
     let same : n ≡ nestOf p (n .flagged) = rw (map-back (n .deps)) in
     (p, means-page t p (n .flagged) (subst (λ (x : Nest). T.Means t x) same (accepted-means t z)))
 
-paper-read : (t : List ℕ) (p : Paper) → Spells t p → (fl : List ℕ) × (T.readNest t ≡ T.got 0 0 (nestOf p fl))
+pub paper-read : (t : List ℕ) (p : Paper) → Spells t p → (fl : List ℕ) × (T.readNest t ≡ T.got 0 0 (nestOf p fl))
 paper-read t p s = let q = page-means t p s in (q .0, meaning-accepted t (nestOf p (q .0)) (q .1))
 
 abbrev pub paper : List ℕ → List DE.Dependence → List ℕ → Paper
@@ -318,7 +318,7 @@ module _ (p : Paper) (fs : List ℕ) (valid : isValid (nestOf p fs) ≡ true) (k
   verdict-means VV.Best h = best-means (sym h)
   verdict-means (VV.Dearer c) h = dearer-means c (sym h)
 
-text-five : (gs : List ℕ) → length (keyText gs) ≡ 5 * length gs
+pub text-five : (gs : List ℕ) → length (keyText gs) ≡ 5 * length gs
 unfolding keyText
 text-five [] = refl
 text-five (g ∷ gs) = let z = text-five gs in omega arith
@@ -332,7 +332,7 @@ module _ (d : DD.Desk) (m : IsMade d) (key : List ℕ) (k : KeyOn d key) where
   nest-same : nestIn (d .nest) ≡ nest
   nest-same = nest-of-paper (d .nest)
 
-  has-nest : d .loaded ≡ true
+  pub has-nest : d .loaded ≡ true
   has-nest = go (d .loaded) refl
     where
       go : (t : Bool) → d .loaded ≡ t → t ≡ true
@@ -433,7 +433,7 @@ module _ (d : DD.Desk) (m : IsMade d) (key : List ℕ) (k : KeyOn d key) where
       )
 
 -- a desk with a key
-key-there : (d : DD.Desk) → IsMade d → d .planned ≡ true → (key : List ℕ) × KeyOn d key
+pub key-there : (d : DD.Desk) → IsMade d → d .planned ≡ true → (key : List ℕ) × KeyOn d key
 key-there d m z =
     let i = made-first d m z .is-key in
     let l = rising-wider 0 (length (nestIn (d .nest) .points)) 256 (gapsIn (d .key .words)) (few-points d m)

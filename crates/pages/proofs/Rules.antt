@@ -30,13 +30,13 @@ use Rattle.pages.proofs.Bodies.{loop-end, loop-do, loop-at, shape-of, s
 use Rattle.pages.proofs.Placements.{mapped, nestOf, mapped-length}
 
 -- a point of one of two kinds
-either : (ps : List ℕ) (i a b : ℕ) → At ps i a ⊎ At ps i b → (ltb i (length ps) && (eqb (getD ps i 0) a || eqb (getD ps i 0) b)) ≡ true
+pub either : (ps : List ℕ) (i a b : ℕ) → At ps i a ⊎ At ps i b → (ltb i (length ps) && (eqb (getD ps i 0) a || eqb (getD ps i 0) b)) ≡ true
 either ps i a b (inl h) =
     and-intro (lt-ltb i (length ps) (at-in ps i a h)) (or-left (eqb (getD ps i 0) b) (eq-eqb (getD ps i 0) a (at-is ps i a 0 h)))
 either ps i a b (inr h) =
     and-intro (lt-ltb i (length ps) (at-in ps i b h)) (or-right (eqb (getD ps i 0) a) (eq-eqb (getD ps i 0) b (at-is ps i b 0 h)))
 
-is-either : (ps : List ℕ) (i a b : ℕ) → (ltb i (length ps) && (eqb (getD ps i 0) a || eqb (getD ps i 0) b)) ≡ true → At ps i a ⊎ At ps i b
+pub is-either : (ps : List ℕ) (i a b : ℕ) → (ltb i (length ps) && (eqb (getD ps i 0) a || eqb (getD ps i 0) b)) ≡ true → At ps i a ⊎ At ps i b
 is-either ps i a b h =
     let z = and-true (ltb i (length ps)) (eqb (getD ps i 0) a || eqb (getD ps i 0) b) h in
     let l = ltb-true i (length ps) (z .0) in
@@ -45,10 +45,10 @@ is-either ps i a b h =
     (λ (y : eqb (getD ps i 0) b ≡ true). inr (is-at ps i b 0 l (eqb-true (getD ps i 0) b y)))
     (or-true (eqb (getD ps i 0) a) (eqb (getD ps i 0) b) (z .1))
 
-one-is : (ps : List ℕ) → OneLoop ps → oneLoop ps ≡ true
+pub one-is : (ps : List ℕ) → OneLoop ps → oneLoop ps ≡ true
 one-is ps one = first-is-one-loop ps (λ d h. one d (is-at ps d 1 0 (point-in ps d 0 h) (eqb-true (getD ps d 0) 1 h)))
 
-is-one : (ps : List ℕ) → oneLoop ps ≡ true → OneLoop ps
+pub is-one : (ps : List ℕ) → oneLoop ps ≡ true → OneLoop ps
 is-one ps h i a = one-loop-is-first ps h i (eq-eqb (getD ps i 0) 1 (at-is ps i 1 0 a))
 
 -- ---- dependences

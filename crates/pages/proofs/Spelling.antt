@@ -30,7 +30,7 @@ digit-is : (c v : ℕ) → Digit c v → (c ≡ digitOf v) × (v < 16)
 digit-is c v (Digit.to9 h) = (rw (lt-ltb v 10 h), omega arith)
 digit-is c v (Digit.a-f {v = w} h) = (rw (le-ltb (10 + w) 10 (omega arith)) (omega arith), omega arith)
 
-line-made : (f : List ℕ) → areBytes f ≡ true → Line (lineText f) f
+pub line-made : (f : List ℕ) → areBytes f ≡ true → Line (lineText f) f
 line-made [] h = Line.feed
 line-made (b ∷ f) h =
     let z = and-true (ltb b 256) (areBytes f) h in
@@ -39,7 +39,7 @@ line-made (b ∷ f) h =
     subst (λ (x : ℕ). Line (lineText (b ∷ f)) (x ∷ f)) q
     (Line.byte (digit-made (b / 16) (omega arith)) (digit-made (b % 16) (omega arith)) (line-made f (z .1)))
 
-line-is : (s f : List ℕ) → Line s f → (s ≡ lineText f) × (areBytes f ≡ true)
+pub line-is : (s f : List ℕ) → Line s f → (s ≡ lineText f) × (areBytes f ≡ true)
 line-is s f Line.feed = (refl, refl)
 line-is s f (Line.byte {c = c} {b = b} {v = v} {w = w} {s = t} {f = g} x y r) =
     let i = digit-is c v x in

@@ -9,6 +9,7 @@ use native.Mathlib.Omega.{arith}
 use lib.ListN.{length, length-append}
 use borrow.Author.Tests.{eq-eqb, ne-eqb, lt-ltb}
 use Rattle.laws.proofs.Tests.{never, and-true, and-intro}
+use Rattle.laws.proofs.Ranges.{in-between}
 use Rattle.paper_nests.specs.declared.Dependence as DE
 use Rattle.paper_nests.specs.Nests.{Dep, dep, Nest, empty, withPoint, withDep, withBar, withFlagged}
 use Rattle.paper_nests.specs.Valid.{areFlags, isValid, isOfKind}
@@ -17,14 +18,14 @@ use Rattle.paper_lines.specs.Lines.{linesOf}
 use Rattle.paper_lines.proofs.Spelling.{areBytes, framesText, framesOf, areFrames, frames-back}
 use Rattle.paper_placements.proofs.Rising.{rises}
 use Rattle.paper_placements.specs.Placements.{areGapsFrom}
-use Rattle.paper_texts.specs.Pieces.{Piece, Point, Depend, Bar, Flagged, pieceFrame, piecesText, noFirst}
+use Rattle.paper_texts.specs.Pieces.{Piece, Point, Depend, Bar, Flagged, isPoint, pieceFrame, piecesText, noFirst}
 use Rattle.paper_texts.specs.Pieces.{isOrdered, madeFrom}
 use Rattle.paper_texts.specs.NestTexts as T
 use Rattle.paper_texts.specs.PlacementTexts.{keyText}
 use Rattle.paper_texts.proofs.Pieces.{isPiece, arePieces, framesFor, piece-long, DepSort, run, carry, dep-sort}
 use Rattle.paper_texts.proofs.Spelled.{pieces-good, start-order}
 use Rattle.paper_texts.proofs.PlacedTexts.{SpellsGaps}
-use Rattle.pages.specs.Demands.{Frames, Lines, Tells, Spells, barriers, Places, Paper}
+use Rattle.pages.specs.Demands.{Frames, Lines, Means, Tells, Spells, barriers, Places, Paper}
 use Rattle.pages.proofs.Placements.{mapped, nestOf, gaps-are, gaps-avoid, are-gaps}
 use Rattle.pages.proofs.Rules.{valid-page, page-valid}
 use Rattle.pages.proofs.Spelling.{lines-made, lines-are}
@@ -33,17 +34,23 @@ use Rattle.pages.proofs.Spelling.{lines-made, lines-are}
 
 data PointFrames : Frames → List ℕ → Type 0 where
   none : PointFrames [] []
-  point : {k : ℕ} {fs : Frames} {ps : List ℕ} → PointFrames fs ps → PointFrames ((k ∷ []) ∷ fs) (k ∷ ps)
+  point
+      : {k : ℕ} {fs : Frames} {ps : List ℕ} → 1 ≤ k → k ≤ 3 → PointFrames fs ps
+      → PointFrames ((k ∷ []) ∷ fs) (k ∷ ps)
   flagged : {fs : Frames} {ps : List ℕ} → PointFrames fs ps → PointFrames ((4 ∷ []) ∷ fs) (1 ∷ ps)
 
 -- the rest tells no point
 abbrev RestFrames : Frames → List DE.Dependence → List ℕ → Type 0
 RestFrames fs ds bs = Tells fs [] ds bs
 
-tells : (fs gs : Frames) (ps : List ℕ) (ds : List DE.Dependence) (bs : List ℕ) → PointFrames fs ps → RestFrames gs ds bs → Tells (fs ++ gs) ps ds bs
+tells
+    : (fs gs : Frames) (ps : List ℕ) (ds : List DE.Dependence) (bs : List ℕ) → PointFrames fs ps
+    → RestFrames gs ds bs → Tells (fs ++ gs) ps ds bs
 tells fs gs ps ds bs PointFrames.none r = r
-tells fs gs ps ds bs (PointFrames.point {fs = es} {ps = qs} w) r = Tells.point (tells es gs qs ds bs w r)
-tells fs gs ps ds bs (PointFrames.flagged {fs = es} {ps = qs} w) r = Tells.flagged (tells es gs qs ds bs w r)
+tells fs gs ps ds bs (PointFrames.point {fs = es} {ps = qs} a b w) r =
+    Tells.point (Means.point a b) (tells es gs qs ds bs w r)
+tells fs gs ps ds bs (PointFrames.flagged {fs = es} {ps = qs} w) r =
+    Tells.point Means.flagged (tells es gs qs ds bs w r)
 
 -- ---- frames and pieces
 
@@ -87,7 +94,7 @@ rests n (Bar i ∷ xs) h g =
     record {
       ds = r .ds;
       bs = i ∷ r .bs;
-      frames = Tells.bar (r .frames);
+      frames = Tells.bar Means.bar (r .frames);
       points-are = r .points-are;
       deps-are = r .deps-are;
       bars-are = r .bars-are ∙ append-assoc (n .barred) (i ∷ []) (r .bs);
@@ -103,7 +110,7 @@ rests n (Depend e ∷ xs) h g =
         record {
           ds = record { kind = 17; d = 0; s = s; t = t } ∷ r .ds;
           bs = r .bs;
-          frames = Tells.line (r .frames);
+          frames = Tells.dependence Means.line (r .frames);
           points-are = r .points-are;
           deps-are = r .deps-are ∙ append-assoc (n .deps) (dep 17 0 s t ∷ []) (mapped (r .ds));
           bars-are = r .bars-are;
@@ -113,7 +120,7 @@ rests n (Depend e ∷ xs) h g =
         record {
           ds = record { kind = 18; d = d; s = s; t = t } ∷ r .ds;
           bs = r .bs;
-          frames = Tells.round (r .frames);
+          frames = Tells.dependence Means.round (r .frames);
           points-are = r .points-are;
           deps-are = r .deps-are ∙ append-assoc (n .deps) (dep 18 d s t ∷ []) (mapped (r .ds));
           bars-are = r .bars-are;
@@ -154,7 +161,9 @@ split-rest n xs h g =
 split : (n : Nest) (xs : List Piece) → isOrdered xs ≡ true → arePieces xs ≡ true → Split n xs
 split n [] h g = split-rest n [] refl refl
 split n (Point k ∷ xs) h g =
-    let r = split (withPoint n k) xs h (and-true (isPiece (Point k) && areBytes (pieceFrame (Point k))) (arePieces xs) g .1) in
+    let a = and-true (isPiece (Point k) && areBytes (pieceFrame (Point k))) (arePieces xs) g in
+    let kind = in-between 1 k 3 (and-true (isPoint k) (areBytes (pieceFrame (Point k))) (a .0) .0) in
+    let r = split (withPoint n k) xs h (a .1) in
     record {
       fs = (k ∷ []) ∷ r .fs;
       gs = r .gs;
@@ -162,7 +171,7 @@ split n (Point k ∷ xs) h g =
       ps = k ∷ r .ps;
       ds = r .ds;
       bs = r .bs;
-      points = PointFrames.point (r .points);
+      points = PointFrames.point (kind .0) (kind .1) (r .points);
       rest = r .rest;
       points-are = r .points-are ∙ append-assoc (n .points) (k ∷ []) (r .ps);
       deps-are = r .deps-are;
@@ -257,7 +266,7 @@ all-pieces fs ps ds bs i Tells.none =
       flags-are = refl;
       made = λ n h. rw (append-nil (n .points), append-nil (n .deps), append-nil (n .barred), append-nil (n .flagged));
     }
-all-pieces fs ps ds bs i (Tells.point {k = k} {fs = es} {ps = qs} w) =
+all-pieces fs ps ds bs i (Tells.point {fs = es} {ps = qs} (Means.point {k = k} a b) w) =
     let q = all-pieces es qs ds bs (suc i) w in
     record {
       xs = Point k ∷ q .xs;
@@ -271,7 +280,7 @@ all-pieces fs ps ds bs i (Tells.point {k = k} {fs = es} {ps = qs} w) =
           let z : length (n .points ++ (k ∷ [])) ≡ suc i = length-append (n .points) (k ∷ []) ∙ omega arith in
           q .made (withPoint n k) z ∙ rw (append-assoc (n .points) (k ∷ []) qs);
     }
-all-pieces fs ps ds bs i (Tells.flagged {fs = es} {ps = qs} w) =
+all-pieces fs ps ds bs i (Tells.point {fs = es} {ps = qs} Means.flagged w) =
     let q = all-pieces es qs ds bs (suc i) w in
     record {
       xs = Flagged ∷ q .xs;
@@ -286,7 +295,7 @@ all-pieces fs ps ds bs i (Tells.flagged {fs = es} {ps = qs} w) =
           q .made (withFlagged n) z ∙
           rw (append-assoc (n .points) (1 ∷ []) qs, append-assoc (n .flagged) (length (n .points) ∷ []) (q .fl), h);
     }
-all-pieces fs ps ds bs i (Tells.line {s = s} {t = t} {fs = es} {ds = cs} w) =
+all-pieces fs ps ds bs i (Tells.dependence {fs = es} {ds = cs} (Means.line {s = s} {t = t}) w) =
     let q = all-pieces es [] cs bs i w in
     record {
       xs = Depend (dep 17 0 s t) ∷ q .xs;
@@ -297,7 +306,7 @@ all-pieces fs ps ds bs i (Tells.line {s = s} {t = t} {fs = es} {ds = cs} w) =
       flags-are = q .flags-are;
       made = λ n h. q .made (withDep n (dep 17 0 s t)) h ∙ rw (append-assoc (n .deps) (dep 17 0 s t ∷ []) (mapped cs));
     }
-all-pieces fs ps ds bs i (Tells.round {d = d} {s = s} {t = t} {fs = es} {ds = cs} w) =
+all-pieces fs ps ds bs i (Tells.dependence {fs = es} {ds = cs} (Means.round {d = d} {s = s} {t = t}) w) =
     let q = all-pieces es [] cs bs i w in
     record {
       xs = Depend (dep 18 d s t) ∷ q .xs;
@@ -308,7 +317,7 @@ all-pieces fs ps ds bs i (Tells.round {d = d} {s = s} {t = t} {fs = es} {ds = cs
       flags-are = q .flags-are;
       made = λ n h. q .made (withDep n (dep 18 d s t)) h ∙ rw (append-assoc (n .deps) (dep 18 d s t ∷ []) (mapped cs));
     }
-all-pieces fs ps ds bs i (Tells.bar {g = g} {fs = es} {bs = cs} w) =
+all-pieces fs ps ds bs i (Tells.bar {fs = es} {bs = cs} (Means.bar {g = g}) w) =
     let q = all-pieces es [] ds cs i w in
     record {
       xs = Bar g ∷ q .xs;

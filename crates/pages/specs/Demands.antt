@@ -179,24 +179,31 @@ pub data Lines : List ℕ → Frames → Type 0 where
   none : Lines [] []
   line : {s t f : List ℕ} {b : ℕ} {fs : Frames} → Line s (b ∷ f) → Lines t fs → Lines (s ++ t) ((b ∷ f) ∷ fs)
 
--- frames that tell points, 4 being a DO as well (02, job 10), then dependences, with barred gaps among them (02, job 7)
+-- what a frame of a nest text tells: a point alone, 4 being a DO as well (02, job 10); a dependence; a barred gap
+pub data Told : Type 0 where
+  point : ℕ → Told
+  dependence : Dependence → Told
+  bar : ℕ → Told
+
+pub data Means : List ℕ → Told → Type 0 where
+  point : {k : ℕ} → 1 ≤ k → k ≤ 3 → Means (k ∷ []) (Told.point k)
+  flagged : Means (4 ∷ []) (Told.point 1)
+  line : {s t : ℕ} → Means (17 ∷ s ∷ t ∷ []) (Told.dependence (record { kind = 17; d = 0; s = s; t = t }))
+  round : {d s t : ℕ} → Means (18 ∷ d ∷ s ∷ t ∷ []) (Told.dependence (record { kind = 18; d = d; s = s; t = t }))
+  bar : {g : ℕ} → Means (19 ∷ g ∷ []) (Told.bar g)
+
+-- 01, "Text": all points, then all dependences; 02, job 7: with barred gaps among these
 pub data Tells : Frames → List ℕ → List Dependence → List ℕ → Type 0 where
   none : Tells [] [] [] []
   point
-      : {k : ℕ} {fs : Frames} {ps : List ℕ} {ds : List Dependence} {bs : List ℕ} → Tells fs ps ds bs
-      → Tells ((k ∷ []) ∷ fs) (k ∷ ps) ds bs
-  flagged
-      : {fs : Frames} {ps : List ℕ} {ds : List Dependence} {bs : List ℕ} → Tells fs ps ds bs
-      → Tells ((4 ∷ []) ∷ fs) (1 ∷ ps) ds bs
-  line
-      : {s t : ℕ} {fs : Frames} {ds : List Dependence} {bs : List ℕ} → Tells fs [] ds bs
-      → Tells ((17 ∷ s ∷ t ∷ []) ∷ fs) [] (record { kind = 17; d = 0; s = s; t = t } ∷ ds) bs
-  round
-      : {d s t : ℕ} {fs : Frames} {ds : List Dependence} {bs : List ℕ} → Tells fs [] ds bs
-      → Tells ((18 ∷ d ∷ s ∷ t ∷ []) ∷ fs) [] (record { kind = 18; d = d; s = s; t = t } ∷ ds) bs
+      : {f : List ℕ} {k : ℕ} {fs : Frames} {ps : List ℕ} {ds : List Dependence} {bs : List ℕ}
+      → Means f (Told.point k) → Tells fs ps ds bs → Tells (f ∷ fs) (k ∷ ps) ds bs
+  dependence
+      : {f : List ℕ} {x : Dependence} {fs : Frames} {ds : List Dependence} {bs : List ℕ}
+      → Means f (Told.dependence x) → Tells fs [] ds bs → Tells (f ∷ fs) [] (x ∷ ds) bs
   bar
-      : {g : ℕ} {fs : Frames} {ds : List Dependence} {bs : List ℕ} → Tells fs [] ds bs
-      → Tells ((19 ∷ g ∷ []) ∷ fs) [] ds (g ∷ bs)
+      : {f : List ℕ} {g : ℕ} {fs : Frames} {ds : List Dependence} {bs : List ℕ}
+      → Means f (Told.bar g) → Tells fs [] ds bs → Tells (f ∷ fs) [] ds (g ∷ bs)
 
 -- a nest text spells a paper that breaks no rule; an empty one spells the blank paper (02, job 3)
 pub data Spells (t : List ℕ) (p : Paper) : Type 0 where
