@@ -102,7 +102,8 @@ found ps (suc f) a d h l m c =
       where
         inner : Found ps i (suc d) (suc a) → Found ps (suc i) d a
         inner u =
-            let v = more (suc (u .end)) d (suc i) (omega (arith, body-le ps i (suc a) (u .end) (u .body))) m (u .rest) in
+            let v =
+            more (suc (u .end)) d (suc i) (omega (arith, body-le ps i (suc a) (u .end) (u .body))) m (u .rest) in
             record {
               end = v .end;
               body = Body.loop (is-at ps a 1 0 z (eqb-true (getD ps a 0) 1 x)) (u .body) (u .ends) (v .body);
@@ -159,7 +160,8 @@ body-deeper ps h a b (suc k) l (Body.loop {h = i} {e = e} p s q r) =
     Body.loop p (body-deeper ps i (suc a) e k (omega arith) s) q (body-deeper ps (suc i) (suc e) b (suc k) l r)
 
 -- every DO in a body begins a loop
-do-loop : (ps : List ℕ) (h a b : ℕ) → h ≤ 7 → Body ps h a b → (d : ℕ) → a ≤ d → d < b → At ps d 1 → (e : ℕ) × Loop ps d e
+do-loop
+    : (ps : List ℕ) (h a b : ℕ) → h ≤ 7 → Body ps h a b → (d : ℕ) → a ≤ d → d < b → At ps d 1 → (e : ℕ) × Loop ps d e
 do-loop ps h a b l (Body.done x) d m n o = absurd (omega arith)
 do-loop ps h a b l (Body.statement p r) d m n o =
     ⊎-elim
@@ -202,7 +204,8 @@ loop-at ps shape d h =
     ⊎-elim
     (λ (x : w .end ≤ d).
     let v : d ≡ w .end = omega (arith, w .last) in
-    let u : _≡_ {A = ℕ} 1 2 = sym (at-is ps d 1 0 o) ∙ ap (λ (i : ℕ). getD ps i 0) v ∙ at-is ps (w .end) 2 0 (w .loop .ends) in
+    let u : _≡_ {A = ℕ} 1 2 =
+    sym (at-is ps d 1 0 o) ∙ ap (λ (i : ℕ). getD ps i 0) v ∙ at-is ps (w .end) 2 0 (w .loop .ends) in
     absurd (omega arith))
     (λ (x : d < w .end). named d (do-loop ps 7 1 (w .end) (omega arith) (w .loop .body) d z x o))
     (le-or (w .end) d))

@@ -41,7 +41,8 @@ open-depth i k ps (Open.statement {ps = qs} o) = open-depth i k qs o
 
 pub closed-is : (ps : List ℕ) → Closed ps → isClosed ps ≡ true
 closed-is [] c = absurd (c .0 refl)
-closed-is (p ∷ ps) c = and-intro (le-leb 1 (suc (length ps)) (omega arith)) (eq-eqb (depth (p ∷ ps)) 0 (open-depth 0 0 (p ∷ ps) (c .1)))
+closed-is (p ∷ ps) c =
+    and-intro (le-leb 1 (suc (length ps)) (omega arith)) (eq-eqb (depth (p ∷ ps)) 0 (open-depth 0 0 (p ∷ ps) (c .1)))
 
 -- what is known of the points of lines that break no rule
 pub record So-far (ps : List ℕ) : Type 0 where
@@ -130,7 +131,8 @@ module _ (p : Paper) (s : So-far (p .points)) where
       (λ (w : closed ≡ true). Breaks.after (is-closed ps s w))
       (λ (w : (eqb (length ps) 0 && not (eqb k DO)) ≡ true).
       let q = and-true (eqb (length ps) 0) (not (eqb k DO)) w in
-      Breaks.first (empty ps (eqb-true (length ps) 0 (q .0))) (λ e. never-both (eq-eqb k 1 e) (is-not (eqb k 1) (q .1))))
+      Breaks.first (empty ps (eqb-true (length ps) 0 (q .0)))
+      (λ e. never-both (eq-eqb k 1 e) (is-not (eqb k 1) (q .1))))
       (or-true closed (eqb (length ps) 0 && not (eqb k DO)) y)))
       (λ y. when-found (Breaks p (Told.point k)) (beyond k) 5
       (λ w. ⊎-elim
@@ -166,7 +168,8 @@ module _ (p : Paper) (s : So-far (p .points)) where
     least-dependence n (Breaks.deps l) =
         later-upto (when (not closed) 4) rest 5 (when-le (not closed) 4 5 (omega arith))
         (first-upto (when full 5) (depFault ps (depIn x)) 5
-        (when-upto full 5 (omega arith) (le-leb DEPENDENCES (length (nestOf p [] .deps)) (omega (arith, mapped-length (p .deps))))))
+        (when-upto full 5 (omega arith)
+        (le-leb DEPENDENCES (length (nestOf p [] .deps)) (omega (arith, mapped-length (p .deps))))))
     least-dependence n (Breaks.misfit m) =
         let big = misfit-big ps x n m in
         later-upto (when (not closed) 4) rest n (omega (arith, when-le (not closed) 4 4 (omega arith)))
@@ -182,7 +185,8 @@ module _ (p : Paper) (s : So-far (p .points)) where
         (λ z. Breaks.early (λ c. never-both (closed-is ps c) (is-not closed z))))
         (λ z. first-found (Breaks p (Told.dependence x)) (when full 5) (depFault ps (depIn x))
         (when-found (Breaks p (Told.dependence x)) full 5
-        (λ y. Breaks.deps (omega (arith, leb-true DEPENDENCES (length (nestOf p [] .deps)) y, mapped-length (p .deps)))))
+        (λ y. Breaks.deps
+        (omega (arith, leb-true DEPENDENCES (length (nestOf p [] .deps)) y, mapped-length (p .deps)))))
         (λ y h. Breaks.misfit (misfit-found ps x kinds (begins-closed ps (s .begins) (unless-zero closed 3 z)) h)))
 
   -- ---- barred gaps
@@ -229,7 +233,8 @@ module _ (p : Paper) (s : So-far (p .points)) where
         (when-found (Breaks p (Told.bar g)) many 5 (λ y. Breaks.bars (leb-true BARS (length (p .barred)) y)))
         (λ y. first-found (Breaks p (Told.bar g)) (when (not inside) 8) (when (not one) 14)
         (when-found (Breaks p (Told.bar g)) (not inside) 8
-        (λ w. Breaks.range (λ i. never-both (and-intro (lt-ltb 0 g (i .0)) (lt-ltb g (length ps) (i .1))) (is-not inside w))))
+        (λ w. Breaks.range (λ i. never-both (and-intro (lt-ltb 0 g (i .0)) (lt-ltb g (length ps) (i .1)))
+        (is-not inside w))))
         (λ w. when-found (Breaks p (Told.bar g)) (not one) 14
         (λ v. Breaks.several (λ i. never-both (one-is ps i) (is-not one v))))))
 

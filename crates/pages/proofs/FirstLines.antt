@@ -65,7 +65,8 @@ first-there b [] = go (eqb b 10) refl
   where
     go : (t : Bool) → eqb b 10 ≡ t → There (b ∷ [])
     go true e =
-        subst (λ (x : ℕ). There (x ∷ [])) (sym (eqb-true b 10 e)) (record { l = 10 ∷ []; rest = []; first = First.feed })
+        subst (λ (x : ℕ). There (x ∷ [])) (sym (eqb-true b 10 e))
+        (record { l = 10 ∷ []; rest = []; first = First.feed })
     go false e = record { l = b ∷ []; rest = []; first = First.last (eqb-false b 10 e) }
 first-there b (c ∷ s) = go (eqb b 10) refl (first-there c s)
   where
@@ -236,7 +237,11 @@ module _ (s l rest : List ℕ) (x : Split s l rest) (p : Paper) (fl : List ℕ) 
           let d = breaks-decided p so w (means-known frame w m) in
           let e = means-fault p fl frame w m in
           subst (Decides (LineBreaks p l)) (sym e)
-          (record { found = λ h. LineBreaks.rule frame w (good-spelled s l rest x g) m (d .found h); least = least g w m })
+          (record {
+            found = λ h. LineBreaks.rule frame w (good-spelled s l rest x g) m
+                (d .found h);
+            least = least g w m;
+          })
         where
           least
               : isGood line ≡ true → (w : Told) → Means frame w → (n : ℕ) → LineBreaks p l n → Upto (wordFault p w) n

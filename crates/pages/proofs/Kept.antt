@@ -4,32 +4,29 @@ use mathlib.Core.Path.{_≡_, refl, sym, _∙_, ap, subst}
 use mathlib.Core.Bool.{Bool, true, false}
 use mathlib.Core.List.{List, [], _∷_}
 use mathlib.Core.Logic.{⊎-elim, _↔_}
-use Prim.Native.Nat.{ℕ, zero, suc, _*_, _/_, _%_, _^_, _≤_, _<_}
+use Prim.Native.Nat.{ℕ, _*_, _/_, _%_, _^_, _≤_, _<_}
 use native.Mathlib.Omega.{arith}
 use lib.Dec.{eqb, ltb}
 use lib.ListN.{length, take, drop, getD}
 use lib.Seq.{drop-append-seam}
 use borrow.Author.Tests.{eq-eqb, ne-eqb, eqb-true, ltb-false, le-ltb}
 use Rattle.laws.specs.Bits.{bit}
-use Rattle.laws.specs.Choice.{pick, pickT, when, firstOf, isIn}
+use Rattle.laws.specs.Choice.{pickT, when, isIn}
 use Rattle.laws.proofs.Tests.{never-both, eq-or, le-or, bool-by}
 use Rattle.paper_nests.specs.declared.Dependence as DE
-use Rattle.paper_nests.specs.Nests.{Dep, Nest}
-use Rattle.paper_nests.specs.Loops.{endOf}
-use Rattle.paper_nests.specs.Valid.{isShape, isValid}
-use Rattle.paper_nests.specs.Stored.{nestIn, depIn}
+use Rattle.paper_nests.specs.Nests.{Nest}
+use Rattle.paper_nests.specs.Valid.{isValid}
+use Rattle.paper_nests.specs.Stored.{nestIn}
 use Rattle.paper_nests.proofs.Deps.{valid-is}
 use Rattle.paper_lines.specs.Writing.{over}
 use Rattle.paper_barred.specs.Reduced.{isBlocked}
-use Rattle.paper_placements.specs.declared.Counts as DC
-use Rattle.paper_placements.specs.Placements.{cuts, areGapsFrom, areGaps, avoids, isCorrect}
+use Rattle.paper_placements.specs.Placements.{areGapsFrom, isCorrect}
 use Rattle.paper_placements.specs.Words.{holds, gapsIn}
 use Rattle.paper_order.specs.Keys.{IsKey}
-use Rattle.paper_order.specs.Verdicts.{Verdict, Uncut, Dearer, Best, markOf}
+use Rattle.paper_order.specs.Verdicts.{markOf}
 use Rattle.paper_placements.proofs.Cuts.{correct-gaps, correct-avoids}
 use Rattle.paper_placements.proofs.Words.{in-gaps}
 use Rattle.paper_placements.proofs.Rising.{rising-in, rising-equal, rising-wider}
-use Rattle.paper_order.proofs.Verdicts.{uncut-lowest, best-key, dearer-greater}
 use Rattle.paper_texts.specs.NestTexts as T
 use Rattle.paper_texts.specs.PlacementTexts.{Placed, readPlacement, keyText}
 use Rattle.paper_texts.proofs.Accepted.{accepted-means, accepted-valid, meaning-accepted}
@@ -37,32 +34,26 @@ use Rattle.paper_texts.proofs.PlacedTexts.{placed-spelling, placed-spells}
 use Rattle.desk.specs.declared.Desk as DD
 use Rattle.desk.specs.declared.Reply as DR
 use Rattle.desk.specs.declared.Answer as DA
-use Rattle.desk.specs.declared.Fault as DF
 use Rattle.desk.specs.declared.Marked as DM
 use Rattle.desk.specs.declared.Marked.the-variants as MV
-use Rattle.desk.specs.declared.Verdict as DV
-use Rattle.desk.specs.declared.Verdict.the-variants as VV
-use Rattle.call_moves.specs.declared.Moved as DS
-use Rattle.desk.specs.Desks.{Desk, deskIn, IsMade, stateFault, planFault, Fault, fault}
-use Rattle.desk.specs.Says.{PlanSays, MarkSays, WriteSays, markIn, verdictIn, marked, readIn, writeFault}
-use Rattle.desk.specs.Says.{Mark, given, refused}
+use Rattle.desk.specs.Desks.{Desk, deskIn, IsMade, stateFault, fault}
+use Rattle.desk.specs.Says.{PlanSays, MarkSays, WriteSays, markIn, verdictIn, marked, writeFault}
+use Rattle.desk.specs.Says.{given, refused}
 use Rattle.desk.specs.Since as S
-use Rattle.desk.proofs.Made.{refused-keeps, plan-keeps, since-holds, load-then-plan}
+use Rattle.desk.proofs.Made.{since-holds, load-then-plan}
 use Rattle.desk.proofs.Ready.{Ready, ready}
 use Rattle.desk.proofs.TwoDesks.{made-first}
 use Rattle.desk.proofs.ReadAgain.{written-text}
-use Rattle.call_moves.specs.Says.{putFault, liftFault, backFault, MoveSays}
-use Rattle.call_moves.specs.Says.{afterPut, afterLift, afterBack}
-use Rattle.pages.specs.Demands as P
-use Rattle.pages.specs.Demands.{At, HowMany, Own, Paper, paperIn, Spells, Places}
+use Rattle.pages.specs.Demands.{Paper, paperIn, Spells, Places}
 use Rattle.pages.specs.Demands.{Since, SetIn, KeyOn, Marks, Planned, Demands}
-use Rattle.pages.specs.Demands.{Step, OutOfTurn}
-use Rattle.pages.proofs.Lists.{at-is, is-at, in-is, is-in}
-use Rattle.pages.proofs.Bodies.{loop-end, loop-do, loop-at}
-use Rattle.pages.proofs.Placements.{mapped, nestOf, nest-of-paper, mapped-at, mapped-length, is-cut, cut-is}
-use Rattle.pages.proofs.Placements.{rising-is, is-rising, counted, correct-is, is-correct}
-use Rattle.pages.proofs.Keys.{shaped, fit, is-same, best-of, key-of}
-use Rattle.pages.proofs.Texts.{means-page, page-means, page-placed, placed-page, one-placed, unmapped, unmap, map-back}
+use Rattle.pages.proofs.Lists.{in-is, is-in}
+use Rattle.pages.proofs.Placements.{nestOf, nest-of-paper}
+use Rattle.pages.proofs.Placements.{rising-is, is-rising, counted, correct-is}
+use Rattle.pages.proofs.Keys.{shaped, key-of}
+use Rattle.pages.proofs.Texts.{means-page, page-means, page-placed, placed-page, one-placed, unmapped, unmap}
+use Rattle.pages.proofs.Texts.{map-back}
+use Rattle.pages.proofs.Turns.{step-kept, unwritten, plan-early, mark-early, write-early}
+use Rattle.pages.proofs.Verdicts.{verdict-means}
 use Rattle.pages.proofs.Desks.{plain-made, reached-made, since-made, since-is}
 
 -- ---- the key's words
@@ -151,71 +142,6 @@ plans t d r s h = go (isBlocked (T.readNest t .nest-is)) (load-then-plan t d r (
     go true n = none-planned t d (since-is t d s) r n
     go false k = key-planned t d (since-is t d s) r k
 
--- ---- demand 1
-
-pub move-kept : (number : ℕ) (after : Desk) (d : DD.Desk) (r : DS.Moved) → MoveSays number after d r → (r .number ≡ 0 → ⊥) → r .desk ≡ d
-move-kept number after d r h z = rw (ne-eqb number 0 (λ q. z (h .number-is ∙ q))) at (h .desk-is)
-
-step-kept : (d e : DD.Desk) (n : ℕ) → Step d n e → (n ≡ 0 → ⊥) → e ≡ d
-step-kept d e n (Step.refused t r h w) z = refused-keeps d t r h z
-step-kept d e n (Step.plan r h) z = plan-keeps d r (λ q. z (h .number-is ∙ q)) h
-step-kept d e n (Step.put g r h) z = move-kept (putFault (deskIn d) g) (afterPut (deskIn d) g) d r h z
-step-kept d e n (Step.lift g r h) z = move-kept (liftFault (deskIn d) g) (afterLift (deskIn d) g) d r h z
-step-kept d e n (Step.take-back r h) z = move-kept (backFault (deskIn d)) (afterBack (deskIn d)) d r h z
-step-kept d e n (Step.over old o h) z = absurd (z refl)
-
-unwritten : (d : DD.Desk) (out out′ : List ℕ) (a : DA.Answer) → WriteSays d out out′ a → (a .number ≡ 0 → ⊥) → out′ ≡ out
-unwritten d out out′ a h z = rw (ne-eqb (writeFault (deskIn d) out) 0 (λ q. z (h .number-is ∙ q))) at (h .out-is)
-
--- calls out of turn
-plan-early : (d : DD.Desk) (r : DR.Reply) → PlanSays d r → d .loaded ≡ false → (r .number ≡ 10) × (r .line ≡ 0)
-plan-early d r h z =
-    let e : planFault (deskIn d) ≡ 10 = rw z in
-    (h .number-is ∙ e, h .line-is)
-
-pub turn-state : (d : DD.Desk) (n : ℕ) → OutOfTurn d n → (stateFault true (deskIn d) ≡ n) × (0 < n)
-turn-state d n (OutOfTurn.no-nest z) = (rw z, omega arith)
-turn-state d n (OutOfTurn.no-key y z) = (rw (y, z), omega arith)
-
-abbrev pub faultIn : Mark → Fault
-faultIn (refused f) = f
-faultIn (given v) = fault 0 0
-
-refused-is
-    : (m : DM.Marked) (n : ℕ) → markIn m ≡ refused (fault n 0)
-    → (f : DF.Fault) × ((m ≡ MV.Refused f) × (f .number ≡ n) × (f .line ≡ 0))
-refused-is (MV.Given v) n e = let q : _≡_ {A = ℕ} 0 1 = cc e in absurd (omega arith)
-refused-is (MV.Refused f) n e =
-    (f, (refl, ap (λ (x : Mark). faultIn x .number) e, ap (λ (x : Mark). faultIn x .place) e))
-
-mark-early
-    : (d : DD.Desk) (t : List ℕ) (m : DM.Marked) (n : ℕ) → MarkSays d t m → OutOfTurn d n
-    → (f : DF.Fault) × ((m ≡ MV.Refused f) × (f .number ≡ n) × (f .line ≡ 0))
-mark-early d t m n h o =
-    let e = turn-state d n o in
-    refused-is m n (h ∙ by (stateFault true (deskIn d)) n (e .0) (e .1))
-  where
-    by
-        : (s n : ℕ) → s ≡ n → 0 < n
-        → pick (eqb (pick (eqb s 0) (fault (readIn (deskIn d) t .number) (readIn (deskIn d) t .place)) (fault s 0) .number) 0)
-        (given (markOf (deskIn d .nest-is) (deskIn d .key) (readIn (deskIn d) t .gaps)))
-        (refused (pick (eqb s 0) (fault (readIn (deskIn d) t .number) (readIn (deskIn d) t .place)) (fault s 0)))
-        ≡ refused (fault n 0)
-    by s zero q l = absurd (omega arith)
-    by s (suc n) q l = rw (q, ne-eqb (suc n) 0 (λ z. omega arith)) (rw (ne-eqb (suc n) 0 (λ z. omega arith)))
-
-write-early
-    : (d : DD.Desk) (out out′ : List ℕ) (a : DA.Answer) (n : ℕ) → WriteSays d out out′ a → OutOfTurn d n
-    → (a .number ≡ n) × (a .line ≡ 0)
-write-early d out out′ a n h o =
-    let e = turn-state d n o in
-    let short = when (ltb (length out) (length (keyText (deskIn d .key)))) 9 in
-    (h .number-is ∙ by (stateFault true (deskIn d)) n short (e .0) (e .1), h .line-is)
-  where
-    by : (s n k : ℕ) → s ≡ n → 0 < n → firstOf s k ≡ n
-    by s zero k q l = absurd (omega arith)
-    by s (suc n) k q l = rw q
-
 -- ---- demand 2: texts
 
 pub text-accepted : (t : List ℕ) → T.readNest t .number ≡ 0 → (p : Paper) × Spells t p
@@ -231,7 +157,8 @@ paper-read t p s = let q = page-means t p s in (q .0, meaning-accepted t (nestOf
 abbrev pub paper : List ℕ → List DE.Dependence → List ℕ → Paper
 paper a b c = record { points = a; deps = b; barred = c }
 
-pub same-paper : (a x : List ℕ) (b y : List DE.Dependence) (c z : List ℕ) → a ≡ x → b ≡ y → c ≡ z → paper a b c ≡ paper x y z
+pub same-paper
+    : (a x : List ℕ) (b y : List DE.Dependence) (c z : List ℕ) → a ≡ x → b ≡ y → c ≡ z → paper a b c ≡ paper x y z
 same-paper a x b y c z i j k = cc
 
 one-paper : (t : List ℕ) (p q : Paper) → Spells t p → Spells t q → p ≡ q
@@ -243,80 +170,6 @@ one-paper t p q a b =
     let j : p .deps ≡ q .deps = sym (unmap (p .deps)) ∙ ap unmapped (ap (λ (n : Nest). n .deps) e) ∙ unmap (q .deps) in
     let k : p .barred ≡ q .barred = ap (λ (n : Nest). n .barred) e in
     same-paper (p .points) (q .points) (p .deps) (q .deps) (p .barred) (q .barred) i j k
-
--- ---- demand 2: what a verdict means
-
-module _ (p : Paper) (fs : List ℕ) (valid : isValid (nestOf p fs) ≡ true) (key : List ℕ) (k : IsKey (nestOf p fs) key)
-    (gs : List ℕ) (rising : areGaps (nestOf p fs) gs ≡ true) (avoiding : avoids (p .barred) gs ≡ true) where
-  abbrev n : Nest
-  n = nestOf p fs
-
-  abbrev ps : List ℕ
-  ps = p .points
-
-  shape : isShape ps ≡ true
-  shape = shaped p fs valid
-
-  none : Dep
-  none = record { kind = 0; d = 0; s = 0; t = 0 }
-
-  no-dep : DE.Dependence
-  no-dep = record { kind = 0; d = 0; s = 0; t = 0 }
-
-  dep-at : (i : ℕ) (x : DE.Dependence) → At (p .deps) i x → getD (mapped (p .deps)) i none ≡ depIn x
-  dep-at i x a = at-is (mapped (p .deps)) i (depIn x) none (mapped-at (p .deps) i x a)
-
-  uncut-means : (i : ℕ) → markOf n key gs ≡ Uncut i → P.Says p key gs (VV.Uncut i)
-  uncut-means i h =
-      let l = uncut-lowest n key gs none i h in
-      let there : i < length (p .deps) = omega (arith, l .there, mapped-length (p .deps)) in
-      let x = getD (p .deps) i no-dep in
-      let at : At (p .deps) i x = is-at (p .deps) i x no-dep there refl in
-      record {
-        not-cut = (
-          x,
-          (
-            at,
-            (λ c.
-                never-both (cut-is ps shape x gs c) (ap (λ (e : Dep). cuts ps e gs) (sym (dep-at i x at)) ∙ l .not-cut)),
-          ),
-        );
-        lower-cut =
-            λ j y b a.
-            is-cut ps shape y gs (fit p fs valid y (j, a)) (ap (λ (e : Dep). cuts ps e gs) (sym (dep-at j y a)) ∙ l .lower j b);
-      }
-
-  best-means : markOf n key gs ≡ Best → P.Says p key gs VV.Best
-  best-means h = best-of p fs valid gs (best-key n shape key gs k rising avoiding h)
-
-  dearer-means
-      : (c : DC.Counts) → markOf n key gs ≡ Dearer (c .d) (c .theirs) (c .ours) → P.Says p key gs (VV.Dearer c)
-  dearer-means c h =
-      let b = dearer-greater n shape key gs k rising avoiding (c .d) (c .theirs) (c .ours) h in
-      let e = endOf ps (c .d) in
-      let l = loop-at ps shape (c .d) (b .is-loop) in
-      let risen = correct-gaps n key (k .correct) in
-      record {
-        correct = is-correct p fs shape (fit p fs valid) gs (b .correct);
-        end = e;
-        loop = l;
-        theirs-are =
-            subst (λ (x : ℕ). HowMany (Own ps (c .d) e) gs x) (sym (b .theirs-is))
-            (counted ps shape n refl (c .d) e 0 l gs rising);
-        ours-are =
-            subst (λ (x : ℕ). HowMany (Own ps (c .d) e) key x) (sym (b .ours-is))
-            (counted ps shape n refl (c .d) e 0 l key risen);
-        more = b .dearer;
-        first =
-            λ x y m w.
-            is-same n shape key gs risen rising x y m
-            (b .earlier x (loop-do ps x y m) (omega (arith, w, loop-end ps x y m)));
-      }
-
-  verdict-means : (v : DV.Verdict) → verdictIn v ≡ markOf n key gs → P.Says p key gs v
-  verdict-means (VV.Uncut i) h = uncut-means i (sym h)
-  verdict-means VV.Best h = best-means (sym h)
-  verdict-means (VV.Dearer c) h = dearer-means c (sym h)
 
 pub text-five : (gs : List ℕ) → length (keyText gs) ≡ 5 * length gs
 unfolding keyText
@@ -373,13 +226,17 @@ module _ (d : DD.Desk) (m : IsMade d) (key : List ℕ) (k : KeyOn d key) where
       a ∙ ap (λ (n : Nest). given (markOf n (gapsIn (d .key .words)) (read t .gaps))) nest-same ∙
       ap (λ (x : List ℕ). given (markOf nest x (read t .gaps))) (sym key-same)
 
-  mark-refused : (t : List ℕ) → (read t .number ≡ 0 → ⊥) → marked (deskIn d) t ≡ refused (fault (read t .number) (read t .place))
+  mark-refused
+      : (t : List ℕ) → (read t .number ≡ 0 → ⊥) → marked (deskIn d) t ≡ refused (fault (read t .number) (read t .place))
   mark-refused t z = rw (eq-eqb (stateFault true (deskIn d)) 0 state, ne-eqb (read t .number) 0 z)
 
   mark-means : (t : List ℕ) (x : DM.Marked) → MarkSays d t x → Marks (paperOn d) key t x
-  mark-means t x h = ⊎-elim (λ z. yes z x (h ∙ mark-read t z)) (λ z. not-read z x (h ∙ mark-refused t z)) (eq-or (read t .number) 0)
+  mark-means t x h =
+      ⊎-elim (λ z. yes z x (h ∙ mark-read t z)) (λ z. not-read z x (h ∙ mark-refused t z)) (eq-or (read t .number) 0)
     where
-      yes : read t .number ≡ 0 → (x : DM.Marked) → markIn x ≡ given (markOf nest key (read t .gaps)) → Marks (paperOn d) key t x
+      yes
+          : read t .number ≡ 0 → (x : DM.Marked) → markIn x ≡ given (markOf nest key (read t .gaps))
+          → Marks (paperOn d) key t x
       yes z (MV.Refused f) e = let q : _≡_ {A = ℕ} 0 1 = cc e in absurd (omega arith)
       yes z (MV.Given v) e =
           let s = placed-spells (length (paperOn d .points)) (paperOn d .barred) t z in
@@ -398,15 +255,19 @@ module _ (d : DD.Desk) (m : IsMade d) (key : List ℕ) (k : KeyOn d key) where
       not-read z (MV.Refused f) e =
           λ gs s.
           z (ap (λ (y : Placed). y .number)
-          (placed-spelling (length (paperOn d .points)) (paperOn d .barred) t gs few .1 (page-placed (paperOn d) t gs s)))
+          (placed-spelling (length (paperOn d .points)) (paperOn d .barred) t gs few .1
+          (page-placed (paperOn d) t gs s)))
 
   room-means
       : (out out′ : List ℕ) (a : DA.Answer) → WriteSays d out out′ a → (a .number ≡ 0) ↔ (5 * length key ≤ length out)
   room-means out out′ a h =
       let t = keyText (gapsIn (d .key .words)) in
-      let l : length t ≡ 5 * length key = text-five (gapsIn (d .key .words)) ∙ ap (λ (x : List ℕ). 5 * length x) (sym key-same) in
-      let e : a .number ≡ when (ltb (length out) (length t)) 9 = rw state at (h .number-is) in
-      ((λ z. fits (ltb (length out) (length t)) refl l (sym e ∙ z)), (λ z. e ∙ rw (le-ltb (length out) (length t) (omega (arith, l)))))
+      let l : length t ≡ 5 * length key =
+      text-five (gapsIn (d .key .words)) ∙ ap (λ (x : List ℕ). 5 * length x) (sym key-same) in
+      let e : a .number ≡ when (ltb (length out) (length t)) 9 = rw state at (h .number-is) in (
+        (λ z. fits (ltb (length out) (length t)) refl l (sym e ∙ z)),
+        (λ z. e ∙ rw (le-ltb (length out) (length t) (omega (arith, l)))),
+      )
     where
       fits
           : (b : Bool) → ltb (length out) (length (keyText (gapsIn (d .key .words)))) ≡ b
@@ -419,7 +280,8 @@ module _ (d : DD.Desk) (m : IsMade d) (key : List ℕ) (k : KeyOn d key) where
       → Places (paperOn d) (take (a .value) out′) key × (drop (a .value) out′ ≡ drop (a .value) out)
   write-means out out′ a h z =
       let t = keyText (gapsIn (d .key .words)) in
-      let ok : eqb (writeFault (deskIn d) out) 0 ≡ true = eq-eqb (writeFault (deskIn d) out) 0 (sym (h .number-is) ∙ z) in
+      let ok : eqb (writeFault (deskIn d) out) 0 ≡ true =
+      eq-eqb (writeFault (deskIn d) out) 0 (sym (h .number-is) ∙ z) in
       let l : a .value ≡ length t = rw ok at (h .value-is) in
       let o : out′ ≡ over t out = rw ok at (h .out-is) in
       let text : take (a .value) out′ ≡ keyText key = written-text d out out′ a h z ∙ ap keyText (sym key-same) in (

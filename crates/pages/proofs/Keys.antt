@@ -1,4 +1,5 @@
--- A key of the project's definitions is one of the page's: correct, least loop by loop and by trees, smallest on a ring.
+-- A key of the project's definitions is one of the page's: correct, least loop by loop and by trees, and smallest on a
+-- ring.
 -- Main statements: `as-good`, `good-tree`, `on-ring`, `key-of`.
 use mathlib.Core.Path.{_≡_, refl, sym, _∙_, ap, subst}
 use mathlib.Core.Bool.{true}
@@ -75,7 +76,8 @@ module _ (n : Nest) (shape : isShape (n .points) ≡ true) (xs ys : List ℕ)
 
   -- by trees: the same order
   pub good-tree : AsGood ps xs ys → (d e : ℕ) → Loop ps d e → GoodTree ps xs ys d e
-  good-tree good d e l = from-inside ps shape (λ x. (y : ℕ) → Loop ps x y → GoodTree ps xs ys x y) step d (loop-do ps d e l) e l
+  good-tree good d e l =
+      from-inside ps shape (λ x. (y : ℕ) → Loop ps x y → GoodTree ps xs ys x y) step d (loop-do ps d e l) e l
     where
       step
           : (x : ℕ) → isDo ps x ≡ true
@@ -88,7 +90,8 @@ module _ (n : Nest) (shape : isShape (n .points) ≡ true) (xs ys : List ℕ)
           let j = nested ps shape x z h i (o .after) (omega (arith, o .upto, loop-end ps x y m)) in
           inner z i (inside-by ps x z (o .after) (omega (arith, j, end-after ps shape z i))) w k)
           (λ same. good x y m (λ z w k a b. under same z w k a b (right-in-around ps shape x z h (loop-do ps z w k)
-          (inside-by ps x z a (omega (arith, b, loop-end ps x y m, loop-end ps z w k, end-after ps shape z (loop-do ps z w k)))))))
+          (inside-by ps x z a
+          (omega (arith, b, loop-end ps x y m, loop-end ps z w k, end-after ps shape z (loop-do ps z w k)))))))
         where
           under
               : ((z w : ℕ) → Loop ps z w → Own ps x y z → SameTree ps xs ys z w)
@@ -96,7 +99,9 @@ module _ (n : Nest) (shape : isShape (n .points) ≡ true) (xs ys : List ℕ)
           under same z w k a b u =
               let r = right-in-lies ps x (u .loop) (u .right-in) in
               let c = u .loop in
-              let o = is-own ps shape x y c m (omega (arith, inside-lies ps x c (r .inside))) (point-in ps c 0 (r .loop)) (r .owner) in
+              let o =
+              is-own ps shape x y c m (omega (arith, inside-lies ps x c (r .inside))) (point-in ps c 0 (r .loop))
+              (r .owner) in
               same c (endOf ps c) (loop-at ps shape c (r .loop)) o z w k
               (⊎-elim
               (λ (q : z ≡ c). omega arith)
@@ -131,7 +136,12 @@ run-is m (suc k) a g l h b i =
     less x y = ⊎-elim (λ (z : y ≤ x). inr z) (λ (z : x < y). inl z) (le-or y x)
 
     up : OnRing m (suc a) k g → OnRing m a (suc k) g
-    up r = (r .0, r .1, ⊎-elim (λ z. inl (omega (arith, z .0), omega (arith, z .1))) (λ (z : g + m < suc a + k). inr (omega arith)) (r .2))
+    up r = (
+      r .0,
+      r .1,
+      ⊎-elim (λ z. inl (omega (arith, z .0), omega (arith, z .1)))
+          (λ (z : g + m < suc a + k). inr (omega arith)) (r .2),
+    )
 
     round : m ≤ a → OnRing m 1 k g → OnRing m a (suc k) g
     round y r = (r .0, r .1, inr (⊎-elim (λ z. omega (arith, z .1)) (λ (z : g + m < 1 + k). omega arith) (r .2)))
@@ -143,7 +153,8 @@ run-is m (suc k) a g l h b i =
     go (inr z) f = f z
 
 is-run : (m k a g : ℕ) → 1 ≤ a → a ≤ m → k ≤ m → OnRing m a k g → isIn g (runOf m a k) ≡ true
-is-run m zero a g l h b r = absurd (⊎-elim (λ z. omega (arith, z .0, z .1)) (λ (z : g + m < a + 0). omega (arith, r .0)) (r .2))
+is-run m zero a g l h b r =
+    absurd (⊎-elim (λ z. omega (arith, z .0, z .1)) (λ (z : g + m < a + 0). omega (arith, r .0)) (r .2))
 is-run m (suc k) a g l h b r =
     ⊎-elim
     (λ (z : g ≡ a). or-left (isIn g (runOf m (nextGap m a) k)) (eq-eqb g a z))
@@ -153,15 +164,23 @@ is-run m (suc k) a g l h b r =
     (λ (y : m ≤ a).
     let q : nextGap m a ≡ 1 = rw (le-ltb a m y) in
     rw q
-    (is-run m k 1 g (omega arith) (omega arith) (omega arith)
-    (r .0, r .1, inl (r .0, ⊎-elim (λ w. omega (arith, w .0, r .1, z)) (λ (w : g + m < a + suc k). omega arith) (r .2)))))
+    (is-run m k 1 g (omega arith) (omega arith) (omega arith) (
+      r .0,
+      r .1,
+      inl (
+        r .0,
+        ⊎-elim (λ w. omega (arith, w .0, r .1, z)) (λ (w : g + m < a + suc k). omega arith)
+            (r .2),
+      ),
+    )))
     (λ (y : a < m).
     let q : nextGap m a ≡ suc a = rw (lt-ltb a m y) in
     rw q
     (is-run m k (suc a) g (omega arith) y (omega arith) (
       r .0,
       r .1,
-      ⊎-elim (λ w. inl (omega (arith, w .0, z), omega (arith, w .1))) (λ (w : g + m < a + suc k). inr (omega arith)) (r .2),
+      ⊎-elim (λ w. inl (omega (arith, w .0, z), omega (arith, w .1))) (λ (w : g + m < a + suc k). inr (omega arith))
+          (r .2),
     )))
     (le-or m a)))
     (eq-or g a)
@@ -230,5 +249,7 @@ module _ (p : Paper) (fs : List ℕ) (valid : isValid (nestOf p fs) ≡ true) wh
         ring =
             λ one m q x i.
             interval x (fit x i) m q (fits-run (p .points) (depIn x) shaped (one-loop-is one) (fit x i));
-        smallest = λ one ys c. by-loops (nestOf p fs) shaped key k .one-loop ys (one-loop-is one) (correct-is p fs shaped ys c);
+        smallest =
+            λ one ys c. by-loops (nestOf p fs) shaped key k .one-loop ys (one-loop-is one)
+            (correct-is p fs shaped ys c);
       }

@@ -191,7 +191,8 @@ module _ (ps : List ℕ) (shape : isShape ps ≡ true) where
   pub is-uncut
       : (key : List ℕ) (xs : List DE.Dependence) → listFault 1 ps (allDeps xs) .number ≡ 0
       → FirstUncut ps key xs (listUncut 1 ps (allDeps xs) key)
-  is-uncut key xs z = go (listUncut 1 ps (allDeps xs) key) (uncut-from key xs 1 (λ x i. all-fine xs 1 z (i .0) x (i .1)))
+  is-uncut key xs z =
+      go (listUncut 1 ps (allDeps xs) key) (uncut-from key xs 1 (λ x i. all-fine xs 1 z (i .0) x (i .1)))
     where
       go : (v : ℕ) → UncutFrom key xs 1 v → FirstUncut ps key xs v
       go v (UncutFrom.none all) = FirstUncut.none all

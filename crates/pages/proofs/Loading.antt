@@ -27,7 +27,8 @@ use Rattle.pages.proofs.Placements.{nestOf}
 use Rattle.pages.proofs.Spelling.{line-is}
 use Rattle.pages.proofs.Chains.{Decides, lowest-is, is-lowest, none-wrong}
 use Rattle.pages.proofs.Breaking.{closed-is, is-closed, So-far, wordFault, breaks-decided}
-use Rattle.pages.proofs.FirstLines.{Split, first-split, There, first-there, good-spelled, good-some, line-decided}
+use Rattle.pages.proofs.FirstLines.{Split, first-split, There, first-there, good-spelled, good-some}
+use Rattle.pages.proofs.FirstLines.{line-decided}
 use Rattle.pages.proofs.FirstLines.{spelled-good, means-fault, means-adds, means-known, meant, not-meant}
 use Rattle.pages.proofs.Kept.{text-accepted, paper-read}
 
@@ -331,7 +332,8 @@ refused-at (x ∷ ls) t u (b ∷ s) k p e some r h z =
     let f = first-there b s in
     let y = first-split (b ∷ s) (f .l) (f .rest) (f .first) in
     at-line t u (b ∷ s) k p e some r f y
-    (λ v j q w i. refused-at ls t v (f .rest) j q w some i (tail (y .line) x (linesOf (f .rest)) ls (sym (y .lines) ∙ h)) z)
+    (λ v j q w i. refused-at ls t v (f .rest) j q w some i
+    (tail (y .line) x (linesOf (f .rest)) ls (sym (y .lines) ∙ h)) z)
   where
     tail : (a c : L.Line) (xs ys : List L.Line) → a ∷ xs ≡ c ∷ ys → xs ≡ ys
     tail a c xs ys q = cc q

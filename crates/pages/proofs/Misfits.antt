@@ -10,7 +10,8 @@ use lib.Dec.{eqb, ltb}
 use lib.ListN.{getD}
 use borrow.Author.Tests.{eq-eqb, eqb-true, ltb-true, ltb-false, not-false}
 use Rattle.laws.specs.Choice.{when}
-use Rattle.laws.proofs.Tests.{never, never-both, false-by, and-intro, and-false, and-true, or-true, or-false, or-left, or-right}
+use Rattle.laws.proofs.Tests.{never, never-both, false-by, and-intro, and-false, and-true, or-true, or-false, or-left}
+use Rattle.laws.proofs.Tests.{or-right}
 use Rattle.laws.proofs.Choices.{when-le, unless-zero}
 use Rattle.paper_nests.specs.declared.Dependence as DE
 use Rattle.paper_nests.specs.Kinds.{INDEPENDENT, CARRIED}

@@ -29,12 +29,14 @@ use Rattle.desk_moves.specs.TakeBack.{backTo}
 use Rattle.desk.specs.Desks.{Desk, desk, withKey, deskIn, IsMade, overIn}
 use Rattle.desk.specs.Says.{Holds}
 use Rattle.desk.proofs.Made.{loaded-holds, refused-keeps}
-use Rattle.call_moves.specs.Says.{MoveSays, PutSays, LiftSays, BackSays, putFault, liftFault, backFault, afterPut, afterLift}
+use Rattle.call_moves.specs.Says.{MoveSays, PutSays, LiftSays, BackSays, putFault, liftFault, backFault, afterPut}
+use Rattle.call_moves.specs.Says.{afterLift}
 use Rattle.call_moves.specs.Says.{afterBack}
 use Rattle.pages.specs.Demands.{In, paperIn, Step, Reached, SetIn}
 use Rattle.pages.specs.Numbers.{IsGap, pointsOn, PutNumber, LiftNumber, Next, Standing, BackNumber}
 use Rattle.pages.proofs.Lists.{in-is, is-in}
-use Rattle.pages.proofs.Kept.{set-is, move-kept}
+use Rattle.pages.proofs.Kept.{set-is}
+use Rattle.pages.proofs.Turns.{move-kept}
 
 -- ---- Put and Lift
 
@@ -59,7 +61,8 @@ module _ (d : DD.Desk) (m : IsMade d) (gs : List ℕ) (seat : SetIn (d .sitting 
   pub put-kept : (g : ℕ) (r : DS.Moved) → PutSays d g r → PutNumber d gs g (r .number) × (r .line ≡ 0)
   put-kept g r h = (
     subst (PutNumber d gs g) (sym (h .number-is))
-        (go (d .loaded) (isGap (pointsOn d) g) (isIn g (barriers (d .sitting))) (isIn g (paperIn (d .nest) .barred)) refl refl
+        (go (d .loaded) (isGap (pointsOn d) g) (isIn g (barriers (d .sitting)))
+        (isIn g (paperIn (d .nest) .barred)) refl refl
         (ap (isIn g) same) refl),
     h .line-is,
   )
@@ -126,7 +129,8 @@ standing-many d k (Standing.load d′ t r h z) = ap many (loaded-holds d′ t r 
 standing-many d k (Standing.over old h) = ap many (h .holds) ∙ none-over old
 standing-many d k (Standing.refused d′ t r s h z) =
     ap (λ (x : DD.Desk). many (deskIn x)) (refused-keeps d′ t r h z) ∙ standing-many d′ k s
-standing-many d k (Standing.plan d′ r s h) = ap (λ (x : DV.Moves). length (movesIn x)) (h .moves-are) ∙ standing-many d′ k s
+standing-many d k (Standing.plan d′ r s h) =
+    ap (λ (x : DV.Moves). length (movesIn x)) (h .moves-are) ∙ standing-many d′ k s
 standing-many d k (Standing.put d′ g r {k = i} s h z n) =
     ap many (made-move (putFault (deskIn d′) g) (afterPut (deskIn d′) g) d′ r h z) ∙
     kept-next i k (putAt g) (deskIn d′ .moves) n (standing-many d′ i s)
@@ -140,7 +144,9 @@ standing-many d k (Standing.take-back d′ r s h z) =
     popped : (x : Desk) → many x ≡ suc k → many (afterBack x) ≡ k
     popped x e = go (x .moves) e
       where
-        go : (ms : List DG.Move) → length ms ≡ suc k → length (backTo (sittingGame (x .nest-is)) (x .sitting) ms .kept) ≡ k
+        go
+            : (ms : List DG.Move) → length ms ≡ suc k
+            → length (backTo (sittingGame (x .nest-is)) (x .sitting) ms .kept) ≡ k
         go [] e = absurd (omega arith)
         go (m ∷ ms) e = omega arith
 

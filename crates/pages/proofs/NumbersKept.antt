@@ -50,7 +50,8 @@ use Rattle.pages.proofs.Loading.{load-is, is-load}
 use Rattle.pages.proofs.Placing.{place-is, is-place}
 use Rattle.pages.proofs.Listing.{is-list, one-list, is-uncut}
 use Rattle.pages.proofs.MoveNumbers.{put-kept, lift-kept, reached-standing, back-kept}
-use Rattle.pages.proofs.Kept.{paperOn, flagsOf, turn-state, key-there, has-nest, key-same, key-key, right, text-five, faultIn}
+use Rattle.pages.proofs.Turns.{turn-state, faultIn}
+use Rattle.pages.proofs.Kept.{paperOn, flagsOf, key-there, has-nest, key-same, key-key, right, text-five}
 
 -- ---- turns
 
@@ -170,7 +171,8 @@ module _ (d : DD.Desk) (m : IsMade d) (loaded : d .loaded ≡ true) where
             o .gap,
             (
               is-gap (page .points) shape x (o .gap) (fit page (flagsOf d) sound x i) (o .its),
-              (λ j. never-both (in-is (o .gap) (page .barred) (j .0) (j .1)) (not-true (isIn (o .gap) (page .barred)) (o .free))),
+              (λ j. never-both (in-is (o .gap) (page .barred) (j .0) (j .1))
+                  (not-true (isIn (o .gap) (page .barred)) (o .free))),
             ),
           ))
 
@@ -198,7 +200,8 @@ module _ (d : DD.Desk) (i : ℕ) (a : DA.Answer) (h : CountSays d i a) where
 
       go : (t : Bool) → isDo (pointsOn d) i ≡ t → InTurn d → CountNumber d i (when (not t) 6)
       go true e t =
-          CountNumber.loop t (is-at (pointsOn d) i 1 0 (point-in (pointsOn d) i 0 e) (eqb-true (getD (pointsOn d) i 0) 1 e))
+          CountNumber.loop t (is-at (pointsOn d) i 1 0 (point-in (pointsOn d) i 0 e)
+          (eqb-true (getD (pointsOn d) i 0) 1 e))
       go false e t =
           CountNumber.no-loop t (λ q. never-both (eq-eqb (getD (pointsOn d) i 0) 1 (at-is (pointsOn d) i 1 0 q)) e)
 
@@ -213,12 +216,14 @@ module _ (d : DD.Desk) (m : IsMade d) (key : List ℕ) (k : KeyOn d key) where
   turned = record { has-nest = has-nest d m key k; has-key = k .planned }
 
   counted-kept
-      : (i e : ℕ) (a : DA.Answer) → CountSays d i a → Loop (pointsOn d) i e → HowMany (Own (pointsOn d) i e) key (a .value)
+      : (i e : ℕ) (a : DA.Answer) → CountSays d i a → Loop (pointsOn d) i e
+      → HowMany (Own (pointsOn d) i e) key (a .value)
   counted-kept i e a h l =
       let gs = gapsIn (d .key .words) in
       let n = nestOf (paperOn d) (flagsOf d) in
       let z : countFault (deskIn d) i ≡ 0 = rw (in-turn d turned, loop-do (pointsOn d) i e l) in
-      let v : a .value ≡ loopCount (nestIn (d .nest)) gs i = rw (eq-eqb (countFault (deskIn d) i) 0 z) at (h .value-is) in
+      let v : a .value ≡ loopCount (nestIn (d .nest)) gs i =
+      rw (eq-eqb (countFault (deskIn d) i) 0 z) at (h .value-is) in
       let w : a .value ≡ loopCount n key i =
       v ∙ ap (λ (x : Nest). loopCount x gs i) (nest-of-paper (d .nest)) ∙
       ap (λ (x : List ℕ). loopCount n x i) (sym (key-same d m key k)) in
@@ -283,7 +288,9 @@ list-early d xs a n h o =
     by (stateFault true (deskIn d)) n (s .0) (s .1) in
     (h .number-is ∙ ap (λ (f : Fault). f .number) c, h .place-is ∙ ap (λ (f : Fault). f .place) c)
   where
-    by : (s n : ℕ) → s ≡ n → 0 < n → pick (eqb s 0) (listFault 1 (deskIn d .nest-is .points) (allDeps xs)) (fault s 0) ≡ fault n 0
+    by
+        : (s n : ℕ) → s ≡ n → 0 < n
+        → pick (eqb s 0) (listFault 1 (deskIn d .nest-is .points) (allDeps xs)) (fault s 0) ≡ fault n 0
     by s zero q l = absurd (omega arith)
     by s (suc n) q l = rw (q, ne-eqb (suc n) 0 (λ z. omega arith))
 
@@ -292,7 +299,8 @@ list-kept
     → ListNumber (pointsOn d) xs (a .number) (a .line)
 list-kept d xs a m t h =
     let c = list-checked d xs t in
-    let n : a .number ≡ listFault 1 (pointsOn d) (allDeps xs) .number = h .number-is ∙ ap (λ (f : Fault). f .number) c in
+    let n : a .number ≡ listFault 1 (pointsOn d) (allDeps xs) .number =
+    h .number-is ∙ ap (λ (f : Fault). f .number) c in
     let p : a .line ≡ listFault 1 (pointsOn d) (allDeps xs) .place = h .place-is ∙ ap (λ (f : Fault). f .place) c in
     subst (λ (j : ℕ). ListNumber (pointsOn d) xs j (a .line)) (sym n)
     (subst (λ (j : ℕ). ListNumber (pointsOn d) xs (listFault 1 (pointsOn d) (allDeps xs) .number) j) (sym p)

@@ -112,7 +112,8 @@ module _ (ps : List ℕ) (shape : isShape ps ≡ true) where
       }
 
   pub counted
-      : (n : Nest) → n .points ≡ ps → (d e low : ℕ) → Loop ps d e → (gs : List ℕ) → areGapsFrom low (length ps) gs ≡ true
+      : (n : Nest) → n .points ≡ ps → (d e low : ℕ) → Loop ps d e → (gs : List ℕ)
+      → areGapsFrom low (length ps) gs ≡ true
       → HowMany (Own ps d e) gs (loopCount n gs d)
   counted n q d e low l [] h = HowMany.none
   counted n q d e low l (g ∷ gs) h =
@@ -135,7 +136,8 @@ module _ (ps : List ℕ) (shape : isShape ps ≡ true) where
           r)
 
   pub count-is
-      : (n : Nest) → n .points ≡ ps → (d e low k : ℕ) → Loop ps d e → (gs : List ℕ) → areGapsFrom low (length ps) gs ≡ true
+      : (n : Nest) → n .points ≡ ps → (d e low k : ℕ) → Loop ps d e → (gs : List ℕ)
+      → areGapsFrom low (length ps) gs ≡ true
       → HowMany (Own ps d e) gs k → loopCount n gs d ≡ k
   count-is n q d e low k l gs h c = one-count (Own ps d e) gs (loopCount n gs d) k (counted n q d e low l gs h) c
 

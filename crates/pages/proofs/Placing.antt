@@ -28,7 +28,8 @@ use Rattle.pages.proofs.Placements.{gaps-are, gaps-avoid}
 use Rattle.pages.proofs.Spelling.{lines-are}
 use Rattle.pages.proofs.Texts.{placed-page}
 use Rattle.pages.proofs.Misfits.{not-is, is-not}
-use Rattle.pages.proofs.FirstLines.{Split, first-split, There, first-there, frame-same, spelled-good, good-spelled, good-some}
+use Rattle.pages.proofs.FirstLines.{Split, first-split, There, first-there, frame-same, spelled-good}
+use Rattle.pages.proofs.FirstLines.{good-spelled, good-some}
 use Rattle.pages.proofs.Chains.{Upto, Decides, first-upto, later-upto, when-upto, first-found, when-found}
 use Rattle.pages.proofs.Chains.{lowest-is, is-lowest, none-wrong}
 
@@ -57,7 +58,8 @@ last-in low (g ∷ gs) =
 
 -- ---- what is wrong with a line
 
-module _ (s l rest : List ℕ) (x : Split s l rest) (p : Paper) (gs : List ℕ) (rising : Rising (length (p .points)) 0 gs) where
+module _ (s l rest : List ℕ) (x : Split s l rest) (p : Paper) (gs : List ℕ)
+    (rising : Rising (length (p .points)) 0 gs) where
   abbrev line : L.Line
   line = x .line
 
@@ -160,7 +162,8 @@ module _ (s l rest : List ℕ) (x : Split s l rest) (p : Paper) (gs : List ℕ) 
       let h = barrier-line g b in
       ⊎-elim
       (λ (y : lastFrom 0 gs ≡ 0). PlaceBreaks.range gap h
-      (λ w. never-both (and-intro (lt-ltb (lastFrom 0 gs) gap (omega (arith, w .0))) (lt-ltb gap (length (p .points)) (w .1))) z))
+      (λ w. never-both (and-intro (lt-ltb (lastFrom 0 gs) gap (omega (arith, w .0)))
+      (lt-ltb gap (length (p .points)) (w .1))) z))
       (λ (y : In (lastFrom 0 gs) gs).
       ⊎-elim
       (λ (v : gap ≤ lastFrom 0 gs). PlaceBreaks.falling gap (lastFrom 0 gs) h y v)
@@ -175,7 +178,8 @@ module _ (s l rest : List ℕ) (x : Split s l rest) (p : Paper) (gs : List ℕ) 
       (when-found (PlaceBreaks p gs l) (not (isGood line)) 1
       (λ z. PlaceBreaks.spelling (λ b f h. never-both (spelled-good s l rest x b f h) (is-not (isGood line) z))))
       (λ z. first-found (PlaceBreaks p gs l) (when (not barrier) 2) behind
-      (when-found (PlaceBreaks p gs l) (not barrier) 2 (λ y. strange (unless-zero (isGood line) 0 z) (is-not barrier y)))
+      (when-found (PlaceBreaks p gs l) (not barrier) 2
+      (λ y. strange (unless-zero (isGood line) 0 z) (is-not barrier y)))
       (λ y. first-found (PlaceBreaks p gs l) (when (not ranged) 8) (when held 16)
       (when-found (PlaceBreaks p gs l) (not ranged) 8
       (λ w. not-ranged (unless-zero (isGood line) 0 z) (unless-zero barrier 1 y) (is-not ranged w)))
@@ -205,7 +209,8 @@ placed-on k low n bs gs (g ∷ hs) w h r v =
     let line = place-line k low n bs gs (33 ∷ g ∷ []) (framesText (barriers hs) ++ w) (f .0) refl in
     let more = placed-on (suc k) g n bs (gs ++ (g ∷ [])) hs w (f .1) (b .1) (y .1) in
     let count : suc k + length hs ≡ k + suc (length hs) = omega arith in
-    ap (λ (x : List ℕ). placeLines k low n bs gs (linesOf x)) (append-assoc (lineText (33 ∷ g ∷ [])) (framesText (barriers hs)) w) ∙
+    ap (λ (x : List ℕ). placeLines k low n bs gs (linesOf x))
+    (append-assoc (lineText (33 ∷ g ∷ [])) (framesText (barriers hs)) w) ∙
     line ∙ rw (a .0, b .0, free) (more ∙ rw (append-assoc gs (g ∷ []) hs, count))
 
 -- one barrier more
@@ -329,7 +334,8 @@ module _ (p : Paper) where
       made : Line l (33 ∷ g ∷ []) → (hs : List ℕ) × Places p (u ++ l) hs
       made h = (
         gs ++ (g ∷ []),
-        places-more p u l gs g q h (lt-by (λ (z : g ≤ lastFrom 0 gs). low z)) (lt-by (λ z. none 8 (PlaceBreaks.range g h (λ w. omega (arith, w .1)))))
+        places-more p u l gs g q h (lt-by (λ (z : g ≤ lastFrom 0 gs). low z))
+            (lt-by (λ z. none 8 (PlaceBreaks.range g h (λ w. omega (arith, w .1)))))
             (λ i. none 16 (PlaceBreaks.barred g h i)),
       )
         where
@@ -356,7 +362,8 @@ module _ (p : Paper) where
       ⊎-elim
       (λ (z : k ≤ 0).
       let h = next u s gs (f .l) (f .rest) q x (none-wrong d (omega arith)) in
-      later (u ++ f .l) (h .0) (e ∙ ap (λ (w : List ℕ). u ++ w) (x .whole) ∙ sym (append-assoc u (f .l) (f .rest))) (h .1))
+      later (u ++ f .l) (h .0) (e ∙ ap (λ (w : List ℕ). u ++ w) (x .whole) ∙ sym (append-assoc u (f .l) (f .rest)))
+      (h .1))
       (λ (z : 0 < k).
       subst (Numbered t) (sym (stopped t u s gs (f .l) (f .rest) e q x z))
       (PlaceNumber.line u s (f .l) (f .rest) gs e q (f .first) (is-lowest d z)))

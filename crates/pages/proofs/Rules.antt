@@ -15,7 +15,8 @@ use Rattle.paper_nests.specs.Nests.{Dep}
 use Rattle.paper_nests.specs.Loops.{isDo, endOf, inLoop}
 use Rattle.paper_nests.specs.Gaps.{isGap}
 use Rattle.paper_nests.specs.Ring.{oneLoop}
-use Rattle.paper_nests.specs.Valid.{isShape, isSource, isTarget, namesPoints, runsRight, isOfKind, isDep, areDeps, isBar, areBars}
+use Rattle.paper_nests.specs.Valid.{isShape, isSource, isTarget, namesPoints, runsRight, isOfKind, isDep, areDeps}
+use Rattle.paper_nests.specs.Valid.{isBar, areBars}
 use Rattle.paper_nests.specs.Valid.{areFlags, isValid}
 use Rattle.paper_nests.specs.Stored.{depIn}
 use Rattle.paper_nests.proofs.Levels.{point-in}
@@ -30,13 +31,19 @@ use Rattle.pages.proofs.Bodies.{loop-end, loop-do, loop-at, shape-of, s
 use Rattle.pages.proofs.Placements.{mapped, nestOf, mapped-length}
 
 -- a point of one of two kinds
-pub either : (ps : List ℕ) (i a b : ℕ) → At ps i a ⊎ At ps i b → (ltb i (length ps) && (eqb (getD ps i 0) a || eqb (getD ps i 0) b)) ≡ true
+pub either
+    : (ps : List ℕ) (i a b : ℕ) → At ps i a ⊎ At ps i b
+    → (ltb i (length ps) && (eqb (getD ps i 0) a || eqb (getD ps i 0) b)) ≡ true
 either ps i a b (inl h) =
-    and-intro (lt-ltb i (length ps) (at-in ps i a h)) (or-left (eqb (getD ps i 0) b) (eq-eqb (getD ps i 0) a (at-is ps i a 0 h)))
+    and-intro (lt-ltb i (length ps) (at-in ps i a h))
+    (or-left (eqb (getD ps i 0) b) (eq-eqb (getD ps i 0) a (at-is ps i a 0 h)))
 either ps i a b (inr h) =
-    and-intro (lt-ltb i (length ps) (at-in ps i b h)) (or-right (eqb (getD ps i 0) a) (eq-eqb (getD ps i 0) b (at-is ps i b 0 h)))
+    and-intro (lt-ltb i (length ps) (at-in ps i b h))
+    (or-right (eqb (getD ps i 0) a) (eq-eqb (getD ps i 0) b (at-is ps i b 0 h)))
 
-pub is-either : (ps : List ℕ) (i a b : ℕ) → (ltb i (length ps) && (eqb (getD ps i 0) a || eqb (getD ps i 0) b)) ≡ true → At ps i a ⊎ At ps i b
+pub is-either
+    : (ps : List ℕ) (i a b : ℕ) → (ltb i (length ps) && (eqb (getD ps i 0) a || eqb (getD ps i 0) b)) ≡ true
+    → At ps i a ⊎ At ps i b
 is-either ps i a b h =
     let z = and-true (ltb i (length ps)) (eqb (getD ps i 0) a || eqb (getD ps i 0) b) h in
     let l = ltb-true i (length ps) (z .0) in
@@ -68,16 +75,23 @@ dep-by ps x a b (Runs.round e k l m n o q) =
     let i : inLoop ps (x .d) (x .s) ≡ true = inside-by ps (x .d) (x .s) m (omega arith) in
     let j : inLoop ps (x .d) (x .t) ≡ true = inside-by ps (x .d) (x .t) o (omega arith) in
     and-intro (or-right (eqb (x .kind) 17 && eqb (x .d) 0) (eq-eqb (x .kind) 18 k))
-    (and-intro (and-intro s (and-intro t (or-right (not (eqb (x .kind) 18)) (loop-do ps (x .d) e l)))) (rw k (and-intro i j)))
+    (and-intro (and-intro s (and-intro t (or-right (not (eqb (x .kind) 18)) (loop-do ps (x .d) e l))))
+    (rw k (and-intro i j)))
 
-deps-by : (ps : List ℕ) (xs : List DE.Dependence) → ((x : DE.Dependence) → In x xs → isDep ps (depIn x) ≡ true) → areDeps ps (mapped xs) ≡ true
+deps-by
+    : (ps : List ℕ) (xs : List DE.Dependence) → ((x : DE.Dependence) → In x xs → isDep ps (depIn x) ≡ true)
+    → areDeps ps (mapped xs) ≡ true
 deps-by ps [] h = refl
 deps-by ps (x ∷ xs) h = and-intro (h x (0, refl)) (deps-by ps xs (λ y i. h y (suc (i .0), i .1)))
 
-deps-each : (ps : List ℕ) (xs : List DE.Dependence) → areDeps ps (mapped xs) ≡ true → (i : ℕ) (x : DE.Dependence) → At xs i x → isDep ps (depIn x) ≡ true
+deps-each
+    : (ps : List ℕ) (xs : List DE.Dependence) → areDeps ps (mapped xs) ≡ true → (i : ℕ) (x : DE.Dependence) → At xs i x
+    → isDep ps (depIn x) ≡ true
 deps-each ps [] h i x a = absurd a
-deps-each ps (y ∷ ys) h zero x a = ap (λ (e : DE.Dependence). isDep ps (depIn e)) (sym a) ∙ and-true (isDep ps (depIn y)) (areDeps ps (mapped ys)) h .0
-deps-each ps (y ∷ ys) h (suc i) x a = deps-each ps ys (and-true (isDep ps (depIn y)) (areDeps ps (mapped ys)) h .1) i x a
+deps-each ps (y ∷ ys) h zero x a =
+    ap (λ (e : DE.Dependence). isDep ps (depIn e)) (sym a) ∙ and-true (isDep ps (depIn y)) (areDeps ps (mapped ys)) h .0
+deps-each ps (y ∷ ys) h (suc i) x a =
+    deps-each ps ys (and-true (isDep ps (depIn y)) (areDeps ps (mapped ys)) h .1) i x a
 
 module _ (ps : List ℕ) (shape : isShape ps ≡ true) (x : DE.Dependence) (h : isDep ps (depIn x) ≡ true) where
   abbrev e : Dep
@@ -110,7 +124,8 @@ module _ (ps : List ℕ) (shape : isShape ps ≡ true) (x : DE.Dependence) (h : 
           absurd (omega arith))
           (or-true (eqb (x .kind) 17 && eqb (x .d) 0) (eqb (x .kind) 18) kinds)
       go (inr f) =
-          Runs.round (endOf ps (x .d)) (f .kind-is) (loop-at ps shape (x .d) (f .loop)) (f .source-after) (f .source-before)
+          Runs.round (endOf ps (x .d)) (f .kind-is) (loop-at ps shape (x .d) (f .loop)) (f .source-after)
+          (f .source-before)
           (f .target-after) (f .target-before)
 
 -- ---- barred gaps
@@ -138,7 +153,8 @@ page-valid p fs flags v =
       shape = shape-of (p .points) (w .0) (w .1 .0) (w .1 .1);
       few-points = v .few .0;
       few-deps = omega (arith, v .few .1, long);
-      all-deps = deps-by (p .points) (p .deps) (λ x i. dep-by (p .points) x (v .source x i) (v .target x i) (v .runs x i));
+      all-deps =
+          deps-by (p .points) (p .deps) (λ x i. dep-by (p .points) x (v .source x i) (v .target x i) (v .runs x i));
       few-bars = v .few .2;
       all-bars = bars-by (p .points) (p .barred) (v .bars);
       all-flags = flags;
@@ -152,11 +168,15 @@ valid-page p fs h =
     record {
       whole = (w .end, (w .loop, w .last));
       few = (v .few-points, omega (arith, v .few-deps), v .few-bars);
-      source = λ x i. source-is (p .points) (v .shape) x (deps-each (p .points) (p .deps) (v .all-deps) (i .0) x (i .1));
-      target = λ x i. target-is (p .points) (v .shape) x (deps-each (p .points) (p .deps) (v .all-deps) (i .0) x (i .1));
+      source =
+          λ x i. source-is (p .points) (v .shape) x (deps-each (p .points) (p .deps) (v .all-deps) (i .0) x (i .1));
+      target =
+          λ x i. target-is (p .points) (v .shape) x (deps-each (p .points) (p .deps) (v .all-deps) (i .0) x (i .1));
       runs = λ x i. runs-is (p .points) (v .shape) x (deps-each (p .points) (p .deps) (v .all-deps) (i .0) x (i .1));
       bars =
           λ g i.
-          let z = gap-within (p .points) g (bar-is-gap (p .points) (p .barred) (v .all-bars) g (in-is g (p .barred) (i .0) (i .1))) in
+          let z =
+          gap-within (p .points) g
+          (bar-is-gap (p .points) (p .barred) (v .all-bars) g (in-is g (p .barred) (i .0) (i .1))) in
           (z .0, z .1, is-one (p .points) (bar-one (p .points) (p .barred) (v .all-bars) (i .0) g (i .1)));
     }

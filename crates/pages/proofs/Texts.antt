@@ -90,7 +90,8 @@ rests n [] h g =
 rests n (Point k ∷ xs) h g = never h
 rests n (Flagged ∷ xs) h g = never h
 rests n (Bar i ∷ xs) h g =
-    let r = rests (withBar n i) xs h (and-true (isPiece (Bar i) && areBytes (pieceFrame (Bar i))) (arePieces xs) g .1) in
+    let r =
+    rests (withBar n i) xs h (and-true (isPiece (Bar i) && areBytes (pieceFrame (Bar i))) (arePieces xs) g .1) in
     record {
       ds = r .ds;
       bs = i ∷ r .bs;
@@ -178,7 +179,8 @@ split n (Point k ∷ xs) h g =
       bars-are = r .bars-are;
     }
 split n (Flagged ∷ xs) h g =
-    let r = split (withFlagged n) xs h (and-true (isPiece Flagged && areBytes (pieceFrame Flagged)) (arePieces xs) g .1) in
+    let r =
+    split (withFlagged n) xs h (and-true (isPiece Flagged && areBytes (pieceFrame Flagged)) (arePieces xs) g .1) in
     record {
       fs = (4 ∷ []) ∷ r .fs;
       gs = r .gs;
@@ -244,6 +246,15 @@ flags-front : (i p : ℕ) (ps fl : List ℕ) → areFlags (suc i) ps fl ≡ true
 flags-front i p ps [] h = refl
 flags-front i p ps (f ∷ fl) h = rw (ne-eqb i f (λ q. omega (arith, flags-from (suc i) ps f fl h))) h
 
+abbrev longer : Nest → List ℕ → List DE.Dependence → List ℕ → List ℕ → Nest
+longer n ps ds bs fl =
+    record {
+      points = n .points ++ ps;
+      deps = n .deps ++ mapped ds;
+      barred = n .barred ++ bs;
+      flagged = n .flagged ++ fl;
+    }
+
 record AllPieces (fs : Frames) (ps : List ℕ) (ds : List DE.Dependence) (bs : List ℕ) (i : ℕ) : Type 0 where
   xs : List Piece
   frames-are : framesFor xs ≡ fs
@@ -251,11 +262,11 @@ record AllPieces (fs : Frames) (ps : List ℕ) (ds : List DE.Dependence) (bs : L
   none-first : ps ≡ [] → noFirst xs ≡ true
   fl : List ℕ
   flags-are : areFlags i ps fl ≡ true
-  made : (n : Nest) → length (n .points) ≡ i → madeFrom n xs
-      ≡ record { points = n .points ++ ps; deps = n .deps ++ mapped ds; barred = n .barred ++ bs; flagged = n .flagged ++ fl }
+  made : (n : Nest) → length (n .points) ≡ i → madeFrom n xs ≡ longer n ps ds bs fl
 
 all-pieces
-    : (fs : Frames) (ps : List ℕ) (ds : List DE.Dependence) (bs : List ℕ) (i : ℕ) → Tells fs ps ds bs → AllPieces fs ps ds bs i
+    : (fs : Frames) (ps : List ℕ) (ds : List DE.Dependence) (bs : List ℕ) (i : ℕ) → Tells fs ps ds bs
+    → AllPieces fs ps ds bs i
 all-pieces fs ps ds bs i Tells.none =
     record {
       xs = [];
@@ -372,7 +383,8 @@ page-placed p t gs h =
     }
 
 pub placed-page
-    : (p : Paper) (t gs : List ℕ) → length (p .points) ≤ 256 → SpellsGaps (length (p .points)) (p .barred) t gs → Places p t gs
+    : (p : Paper) (t gs : List ℕ) → length (p .points) ≤ 256 → SpellsGaps (length (p .points)) (p .barred) t gs
+    → Places p t gs
 placed-page p t gs l h =
     record {
       gaps = are-gaps p [] gs (h .gaps) (h .avoiding);
@@ -386,7 +398,8 @@ pub one-placed : (p : Paper) (t xs ys : List ℕ) → Places p t xs → Places p
 one-placed p t xs ys a b =
     let x = lines-are t (barriers xs) (a .lines) in
     let y = lines-are t (barriers ys) (b .lines) in
-    let back : (zs : List ℕ) → areFrames (barriers zs) ≡ true → framesOf (linesOf (framesText (barriers zs))) ≡ barriers zs =
+    let back : (zs : List ℕ) → areFrames (barriers zs) ≡ true
+    → framesOf (linesOf (framesText (barriers zs))) ≡ barriers zs =
     λ zs h. frames-back (barriers zs) h .0 in
     same xs ys (sym (back xs (x .1)) ∙ ap (λ (s : List ℕ). framesOf (linesOf s)) (sym (x .0) ∙ y .0) ∙ back ys (y .1))
   where

@@ -1,13 +1,13 @@
--- The numbers of refusals on one page (01, "Numbers from the input" and "Numbers from the state"; 02, jobs 3 to 5 and 7):
--- which number and which line each call gives, for every text, list, buffer and desk. It rests on the page of the demands,
--- whose legend it shares, and of the project on the names of three contracts more: CountSays (loop_count), ListSays with
--- allDeps, the lent records (check_list). `numbers-kept` (proofs/NumbersKept) proves it of whatever keeps the contracts.
--- With it demand 1 is whole, but for what the language asks of every function: that no call reads or writes outside a
--- buffer, wraps a sum or runs for ever.
+-- The numbers of refusals on one page (01, "Numbers from the input" and "Numbers from the state"; 02, jobs 3 to 5 and
+-- 7): which number and which line each call gives, for every text, list, buffer and desk. It rests on the page of the
+-- demands, whose legend it shares, and of the project on the names of three contracts more: CountSays (loop_count),
+-- ListSays with allDeps, the lent records (check_list). `numbers-kept` (proofs/NumbersKept) proves it of whatever
+-- keeps the contracts. With it demand 1 is whole, but for what the language asks of every function: that no call reads
+-- or writes outside a buffer, wraps a sum or runs for ever.
 --
--- The rule of every text: the first faulty line decides, and on it the lowest number; lines count from 1, and the end of
--- the text as the line after the last. A relation like Breaks lists all that can be wrong with a line, each with its
--- number; Lowest takes the least of them. Numbers from the state come first. A number without a line has line 0.
+-- The rule of every text: the first faulty line decides, and on it the lowest number; lines count from 1, and the end
+-- of the text as the line after the last. A relation like Breaks lists all that can be wrong with a line, each with
+-- its number; Lowest takes the least of them. Numbers from the state come first. A number without a line has line 0.
 use mathlib.Core.Path.{_≡_}
 use mathlib.Core.Bool.{true, false}
 use mathlib.Core.List.{List, [], _∷_, _++_}
@@ -104,7 +104,8 @@ pub data Read : List ℕ → ℕ → Paper → Type 0 where
 pub data LoadNumber (t : List ℕ) : ℕ → ℕ → Type 0 where
   accepted : (p : Paper) → Spells t p → LoadNumber t 0 0
   line
-      : {n k : ℕ} (u s l rest : List ℕ) (p : Paper) → t ≡ u ++ s → Read u k p → First s l rest → Lowest (LineBreaks p l) n
+      : {n k : ℕ} (u s l rest : List ℕ) (p : Paper) → t ≡ u ++ s → Read u k p → First s l rest
+      → Lowest (LineBreaks p l) n
       → LoadNumber t n (suc k)
   end : {k : ℕ} (p : Paper) → (t ≡ [] → ⊥) → Read t k p → (Closed (p .points) → ⊥) → LoadNumber t 4 (suc k)
 
@@ -199,10 +200,16 @@ pub data Standing : Desk → ℕ → Type 0 where
   new-or-reset : {d : Desk} → EmptySays d → Standing d 0
   load : (d : Desk) (t : List ℕ) (r : Reply) → LoadSays d t r → r .number ≡ 0 → Standing (r .desk) 0
   over : (old : PlainDesk) {e : Desk} → OverSays old e → Standing e 0
-  refused : (d : Desk) (t : List ℕ) (r : Reply) {k : ℕ} → Standing d k → LoadSays d t r → (r .number ≡ 0 → ⊥) → Standing (r .desk) k
+  refused
+      : (d : Desk) (t : List ℕ) (r : Reply) {k : ℕ} → Standing d k → LoadSays d t r → (r .number ≡ 0 → ⊥)
+      → Standing (r .desk) k
   plan : (d : Desk) (r : Reply) {k : ℕ} → Standing d k → PlanSays d r → Standing (r .desk) k
-  put : (d : Desk) (g : ℕ) (r : Moved) {k j : ℕ} → Standing d k → PutSays d g r → r .number ≡ 0 → Next k j → Standing (r .desk) j
-  lift : (d : Desk) (g : ℕ) (r : Moved) {k j : ℕ} → Standing d k → LiftSays d g r → r .number ≡ 0 → Next k j → Standing (r .desk) j
+  put
+      : (d : Desk) (g : ℕ) (r : Moved) {k j : ℕ} → Standing d k → PutSays d g r → r .number ≡ 0 → Next k j
+      → Standing (r .desk) j
+  lift
+      : (d : Desk) (g : ℕ) (r : Moved) {k j : ℕ} → Standing d k → LiftSays d g r → r .number ≡ 0 → Next k j
+      → Standing (r .desk) j
   take-back : (d : Desk) (r : Moved) {k : ℕ} → Standing d (suc k) → BackSays d r → r .number ≡ 0 → Standing (r .desk) k
 
 -- Take back, where k moves can be taken back
