@@ -338,7 +338,7 @@ refused-at (x ∷ ls) t u (b ∷ s) k p e some r h z =
     tail : (a c : L.Line) (xs ys : List L.Line) → a ∷ xs ≡ c ∷ ys → xs ≡ ys
     tail a c xs ys q = cc q
 
-blank-accepted : readNest [] .number ≡ 0
+pub blank-accepted : readNest [] .number ≡ 0
 unfolding readNest
 blank-accepted = refl
 
