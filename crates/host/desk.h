@@ -2,7 +2,8 @@
 
    A desk is a value: it goes into a call and comes back in the reply, and no call keeps anything. Begin with desk_new
    and go on with the desk of each reply. No call checks a desk: on one that no call made it may answer anything, read or
-   write memory that is not its own, stop the program, or not end. Calls on different desks may run at the same time.
+   write memory that is not its own, stop the program, or not end. Two desks are not to be compared byte by byte: what
+   lies beyond the counts in a desk is not told. Calls on different desks may run at the same time.
 
    `number` is 0, or the number of a refusal; `line` is the line of the text, from 1, or 0 where no text is at fault.
    A refused call leaves the desk as it was, every byte of a lent buffer too, and answers 0.

@@ -1,14 +1,15 @@
 """Holds README.md, docs/ and the READMEs of outside/ against the repository.
 
   python3 -m outside.checks.documents              all checks; the last line is 'N passed, M failed'
-  python3 -m outside.checks.documents --lengths    writes the lengths under "What a reader must believe" anew
+  python3 -m outside.checks.documents --lengths    writes the lengths under "The definitions behind the contracts" anew
 
 What is checked:
   - comments that cite 01, 02 or a demand find their heading in docs/RULES.md;
   - links lead to files and headings; a link whose text is a name leads to the file that defines it;
   - names, paths, commands and crates in code type are there, but for the notes on requests, which tell of their day;
   - the theorems stand in the files that are named beside them; every crate, call and request is in its table;
-  - the files that a reader must believe are all there, in order, with their lengths;
+  - the files behind the contracts are all there, in order, with their lengths; every other specs file is told too;
+  - a page takes of the project the structs and the names that contracts cite, and nothing else;
   - papers are shown one frame a line and the program reads them; examples print what is shown;
   - the picture of the families is the one that crates.txt makes;
   - the kit that is here is one that README names; the folders of outside/ say what is there;
@@ -23,7 +24,8 @@ import sys
 from typing import Iterator, NamedTuple
 
 from outside.checks import families
-from outside.checks.repository import CRATES, UNREAD, calls, cited, crates, defined, known, must_be_read, specs_used
+from outside.checks.repository import (CALLS, CRATES, UNREAD, calls, cited, contracts, crates, defined, known,
+                                       must_be_read, specs_used)
 from outside.run import parts
 from outside.trying import ROOT
 
@@ -32,6 +34,8 @@ Documents = dict[str, str]
 # Words in code type that the repository does not define: the kit's, and those that stand for what a reader fills in.
 KIT = set('''abbrev cc count_ones declared ensures gcc length-set let main omega pub python3 requires rt rustc rw
     subst usize valgrind where'''.split())
+# The headings of PROOFS on what to believe: the pages, and the definitions for those who want more.
+BELIEVED, BEHIND = 'What a reader must believe', 'The definitions behind the contracts'
 STAND_IN = set('CRATE EDIT FUNCTION GAPS LABEL NAME PART SECONDS'.split())
 RT = set('check ci dev doc fmt goals mir must-fail prove staticlib try version'.split())
 
@@ -231,9 +235,9 @@ def folders(_: Documents) -> Iterator[Check]:
 
 
 def believed(docs: Documents) -> Iterator[Check]:
-    """The files that a reader must believe: all there, each after those it uses, with their lengths."""
+    """The files behind the contracts: all there, each after those it uses, with their lengths."""
     seen, total = [], 0
-    for file, length, _ in rows(docs['docs/PROOFS.md'], 'What a reader must believe'):
+    for file, length, _ in rows(docs['docs/PROOFS.md'], BEHIND):
         yield Check('docs/PROOFS.md', f'{file} is a file', bool(linked(file)) or file == 'together')
         for path in linked(file):
             name = str(path.relative_to(CRATES).with_suffix(''))
@@ -247,6 +251,29 @@ def believed(docs: Documents) -> Iterator[Check]:
             yield Check('docs/PROOFS.md', f'together {total} lines (--lengths mends it)', length == str(total))
     for name in sorted(must_be_read()):
         yield Check('docs/PROOFS.md', f'{name} is among the files to believe', name in seen)
+
+
+def accounted(docs: Documents) -> Iterator[Check]:
+    """Every specs file is linked under the headings on what to believe, or its crate is named there."""
+    page = docs['docs/PROOFS.md']
+    told = ''.join(page.partition(f'\n## {heading}\n')[2].partition('\n## ')[0] for heading in (BELIEVED, BEHIND))
+    there, whole = set(linked(told)), set(re.findall(r'`(\w+)`', told)) & set(crates())
+    for path in sorted(CRATES.glob('*/specs/*.antt')):
+        crate = path.relative_to(CRATES).parts[0]
+        if path.stem != 'Lib':
+            name = f'{crate}/specs/{path.stem}'
+            yield Check('docs/PROOFS.md', f'{name} is told of under "{BELIEVED}" or "{BEHIND}"',
+                        path in there or crate in whole)
+
+
+def apart(_: Documents) -> Iterator[Check]:
+    """A page uses the structs, other pages, and names that the contracts of calls cite, so that it can be read alone."""
+    cites = {word for crate in CALLS for _, contract in contracts(crate) for word in re.findall(r"[\w′-]+", contract)}
+    for path in sorted(CRATES.glob('pages*/specs/*.antt')):
+        for crate, file, names in re.findall(r'^use Rattle·(\w+)[·\w]*\.specs\.(\w+)(.*)$', path.read_text(), re.M):
+            used = set(re.findall(r"[\w′-]+", names))
+            held = file == 'declared' or crate.startswith('pages') or used <= cites
+            yield Check(str(path.relative_to(ROOT)), f'{crate}/specs/{file}: {used} stand in contracts', held)
 
 
 def papers(docs: Documents) -> Iterator[Check]:
@@ -307,7 +334,7 @@ def run(command: list[str], text: str = '') -> str:
 
 # ---- Faults that must be noticed
 
-READING = [citations, links, names, tables, believed]
+READING = [citations, links, names, tables, believed, accounted]
 FAULTS = [
     ('docs/RULES.md', '\n## The program\n', '\n## The programme\n'),
     ('docs/RULES.md', '\n### Job 2. ', '\n### Request 2. '),
@@ -334,6 +361,7 @@ FAULTS = [
     ('docs/PROOFS.md', '| [plan_theorem/specs/OneKey](../crates/plan_theorem/specs/OneKey.antt)',
      '| [plan_theorem/specs/Lib](../crates/plan_theorem/specs/Lib.antt)'),
     ('docs/PROOFS.md', '(../crates/desk_moves/specs/Game.antt)', '(../crates/desk_moves/specs/Games.antt)'),
+    ('docs/PROOFS.md', '(../crates/laws/specs/Entries.antt)', '(../crates/laws/specs/Bits.antt)'),
     ('docs/ARCHITECTURE.md', '(../crates/paper_nests/specs/Loops.antt)', '(../crates/paper_nests/specs/Gaps.antt)'),
     ('docs/ARCHITECTURE.md', '[`asGood`](../crates/paper_order/specs/LoopOrder.antt)', '`asGood`'),
     ('docs/ARCHITECTURE.md', '| [plan_nest](../crates/plan_nest) |', '| [plan_method](../crates/plan_nest) |'),
@@ -353,9 +381,9 @@ def noticed(docs: Documents) -> Iterator[Check]:
 
 
 def write_lengths() -> None:
-    """Writes the lengths of the table under "What a reader must believe" anew."""
+    """Writes the lengths of the table of the files behind the contracts anew."""
     path = ROOT / 'docs/PROOFS.md'
-    before, heading, after = path.read_text().partition('\n## What a reader must believe\n')
+    before, heading, after = path.read_text().partition(f'\n## {BEHIND}\n')
     total = 0
 
     def lines(row: re.Match) -> str:
@@ -376,7 +404,7 @@ def main() -> int:
         print(__doc__, file=sys.stderr)
         return 2
     docs = documents()
-    readings = [*READING, folders, papers, examples, kits, drawn, noticed]
+    readings = [*READING, apart, folders, papers, examples, kits, drawn, noticed]
     checks = [check for reading in readings for check in reading(docs)]
     failed = [check for check in checks if not check.holds]
     for check in failed:
