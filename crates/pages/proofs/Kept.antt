@@ -54,7 +54,7 @@ use Rattle.pages.proofs.Texts.{means-page, page-means, page-placed, pla
 use Rattle.pages.proofs.Texts.{map-back}
 use Rattle.pages.proofs.Turns.{step-kept, unwritten, plan-early, mark-early, write-early}
 use Rattle.pages.proofs.Verdicts.{verdict-means}
-use Rattle.pages.proofs.Desks.{plain-made, reached-made, since-made, since-is}
+use Rattle.pages.proofs.Desks.{plain-made, old-reached, reached-made, since-made, since-is}
 
 -- ---- the key's words
 
@@ -310,7 +310,7 @@ pub demands-kept : Demands
 demands-kept =
     record {
       assumed = reached-made;
-      assumed-old = λ d old q o. plain-made d old o (reached-made d q);
+      assumed-old = λ old. (old-reached old, (λ r. plain-made (r .0) old (r .1 .1) (reached-made (r .0) (r .1 .0))));
       desk-kept = step-kept;
       bytes-kept = unwritten;
       plan-turn = plan-early;

@@ -339,9 +339,9 @@ pub data Planned (p : Paper) (r : Reply) : Type 0 where
   none : r .number ≡ 15 → ((gs : List ℕ) → Correct p gs → ⊥) → Planned p r
 
 pub record Demands : Type 0 where
-  -- demand 1: calls require nothing but that their desk was reached by calls
+  -- demand 1: calls require nothing but that their desk was reached by calls; go_over, that it has the nest of one
   pub assumed : (d : Desk) → Reached d → IsMade d
-  pub assumed-old : (d : Desk) (old : PlainDesk) → Reached d → OldOf d old → IsMadePlain old
+  pub assumed-old : (old : PlainDesk) → IsMadePlain old ↔ ((d : Desk) × (Reached d × OldOf d old))
   -- a refused call leaves the desk as it was, and every byte of a lent buffer
   pub desk-kept : (d e : Desk) (n : ℕ) → Step d n e → (n ≡ 0 → ⊥) → e ≡ d
   pub bytes-kept
