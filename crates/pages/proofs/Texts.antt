@@ -54,12 +54,12 @@ tells fs gs ps ds bs (PointFrames.flagged {fs = es} {ps = qs} w) r =
 
 -- ---- frames and pieces
 
-pieces-frames : (xs : List Piece) → piecesText xs ≡ framesText (framesFor xs)
+pub pieces-frames : (xs : List Piece) → piecesText xs ≡ framesText (framesFor xs)
 unfolding piecesText
 pieces-frames [] = refl
 pieces-frames (x ∷ xs) = rw (pieces-frames xs)
 
-good-frames : (xs : List Piece) → arePieces xs ≡ true → areFrames (framesFor xs) ≡ true
+pub good-frames : (xs : List Piece) → arePieces xs ≡ true → areFrames (framesFor xs) ≡ true
 good-frames [] h = refl
 good-frames (x ∷ xs) h =
     let a = and-true (isPiece x && areBytes (pieceFrame x)) (arePieces xs) h in

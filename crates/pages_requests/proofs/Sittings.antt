@@ -1,5 +1,6 @@
--- The calls at the screen keep the page of jobs 4 and 5.
--- Main statement: `sittings-kept`.
+-- The sitting as a set, its kept counts as fresh ones, and what moves leave.
+-- Main statements: `kept-counts`, `kept-uncut`, `put-numbers`, `lift-numbers`, `left`, `put-left`, `lift-left`,
+-- `undone-seat`.
 use mathlib.Core.Path.{_≡_, refl, sym, _∙_, ap, subst}
 use mathlib.Core.Bool.{Bool, true, false, _&&_, not}
 use mathlib.Core.List.{List, [], _∷_}
@@ -25,43 +26,46 @@ use Rattle.paper_placements.proofs.GapLists.{in-with, in-without}
 use Rattle.paper_placements.proofs.Rising.{rising-wider}
 use Rattle.desk_sitting.specs.Counts.{cutCount, countAt, uncutCount}
 use Rattle.desk_sitting.specs.Kept.{barriers}
-use Rattle.desk_sitting.specs.declared.Sitting as DS
 use Rattle.desk_moves.specs.declared.Move as DG
 use Rattle.desk_moves.specs.TakeBack.{most}
 use Rattle.desk_moves.specs.Game.{putAt, liftAt}
 use Rattle.desk.specs.declared.Desk as DD
 use Rattle.desk.specs.Desks.{Desk, deskIn, IsMade}
 use Rattle.desk.specs.Says.{Holds}
-use Rattle.desk.proofs.Made.{loaded-holds, made-plan}
+use Rattle.desk.proofs.Made.{made-plan}
 use Rattle.call_moves.specs.declared.Moved as DM
 use Rattle.call_moves.specs.Says.{putFault, liftFault, afterPut, afterLift, uncutOn, PutSays, LiftSays}
 use Rattle.call_moves.specs.Runs as R
 use Rattle.call_moves.proofs.Made.{made-put, made-lift, made-back}
 use Rattle.call_moves.proofs.Runs.{taken-back, none-refused}
 use Rattle.pages.specs.Demands.{At, In, HowMany, GapOf, Paper, paperIn, Cut, SetIn, KeyOn}
-use Rattle.pages.specs.Sitting.{Seat, Remain, IsGap, PutNumber, LiftNumber, Left, Undone, Sittings}
+use Rattle.pages_requests.specs.Sitting.{Seat, Remain, IsGap, PutNumber, LiftNumber, Left, Undone}
 use Rattle.pages.proofs.Lists.{in-is, is-in}
 use Rattle.pages.proofs.Placements.{mapped, nestOf, nest-of-paper, gap-is, is-gap, cut-is, is-cut}
 use Rattle.pages.proofs.Keys.{shaped, fit}
 use Rattle.pages.proofs.Texts.{unmapped, unmap}
-use Rattle.pages.proofs.Desks.{reached-made}
-use Rattle.pages.proofs.Kept.{paperOn, flagsOf, set-here, set-is, same-paper, key-same, key-wide}
+use Rattle.pages_requests.proofs.Papers.{papers-same}
+use Rattle.pages.proofs.Kept.{paperOn, flagsOf, set-here, set-is, key-same, key-wide}
 
 -- ---- the sitting as a set
 
 points-few : (d : DD.Desk) → IsMade d → length (nestIn (d .nest) .points) ≤ 256
 points-few d m = omega (arith, m .counted .count-is, m .counted .count-fits)
 
-seat-wide : (d : DD.Desk) → IsMade d → areGapsFrom 0 256 (barriers (d .sitting)) ≡ true
-seat-wide d m = rising-wider 0 (length (nestIn (d .nest) .points)) 256 (barriers (d .sitting)) (points-few d m) (m .kept .gaps-fit)
+pub seat-wide : (d : DD.Desk) → IsMade d → areGapsFrom 0 256 (barriers (d .sitting)) ≡ true
+seat-wide d m =
+    rising-wider 0 (length (nestIn (d .nest) .points)) 256 (barriers (d .sitting)) (points-few d m) (m .kept .gaps-fit)
 
-seat-is : (d : DD.Desk) (gs : List ℕ) → IsMade d → Seat d gs → gs ≡ barriers (d .sitting)
+pub seat-is : (d : DD.Desk) (gs : List ℕ) → IsMade d → Seat d gs → gs ≡ barriers (d .sitting)
 seat-is d gs m s = set-is (d .sitting .placement .words) gs (seat-wide d m) s
 
 -- another desk with the same barriers
-seat-on : (d e : DD.Desk) (gs : List ℕ) → IsMade d → IsMade e → barriers (e .sitting) ≡ barriers (d .sitting) → Seat d gs → Seat e gs
+seat-on
+    : (d e : DD.Desk) (gs : List ℕ) → IsMade d → IsMade e → barriers (e .sitting) ≡ barriers (d .sitting) → Seat d gs
+    → Seat e gs
 seat-on d e gs m w q s =
-    subst (λ (x : List ℕ). Seat e x) (q ∙ sym (seat-is d gs m s)) (set-here (e .sitting .placement .words) (seat-wide e w))
+    subst (λ (x : List ℕ). Seat e x) (q ∙ sym (seat-is d gs m s))
+    (set-here (e .sitting .placement .words) (seat-wide e w))
 
 -- ---- fresh counts
 
@@ -79,7 +83,8 @@ module _ (p : Paper) (fs : List ℕ) (valid : isValid (nestOf p fs) ≡ true) wh
           let w : 0 + uncutCount (p .points) (mapped xs) gs ≡ uncutCount (p .points) (mapped xs) gs = omega arith in
           rw w (HowMany.other (λ c. c (is-cut (p .points) (shaped p fs valid) x gs (f x (0, refl)) h)) r)
       go false h r =
-          let w : 1 + uncutCount (p .points) (mapped xs) gs ≡ suc (uncutCount (p .points) (mapped xs) gs) = omega arith in
+          let w : 1 + uncutCount (p .points) (mapped xs) gs ≡ suc (uncutCount (p .points) (mapped xs) gs) =
+          omega arith in
           rw w (HowMany.one (λ c. never-both (cut-is (p .points) (shaped p fs valid) x gs c) h) r)
 
   remains : (gs : List ℕ) → Remain p gs (uncutCount (p .points) (mapped (p .deps)) gs)
@@ -91,7 +96,8 @@ module _ (p : Paper) (fs : List ℕ) (valid : isValid (nestOf p fs) ≡ true) wh
   cuts-counted x f (g ∷ gs) = go (hasGap (p .points) (depIn x) g) refl (cuts-counted x f gs)
     where
       go
-          : (t : Bool) → hasGap (p .points) (depIn x) g ≡ t → HowMany (GapOf (p .points) x) gs (cutCount (p .points) (depIn x) gs)
+          : (t : Bool) → hasGap (p .points) (depIn x) g ≡ t
+          → HowMany (GapOf (p .points) x) gs (cutCount (p .points) (depIn x) gs)
           → HowMany (GapOf (p .points) x) (g ∷ gs) (one t + cutCount (p .points) (depIn x) gs)
       go true h r =
           let w : 1 + cutCount (p .points) (depIn x) gs ≡ suc (cutCount (p .points) (depIn x) gs) = omega arith in
@@ -134,17 +140,19 @@ module _ (d : DD.Desk) (m : IsMade d) where
       go : (t : Bool) → d .loaded ≡ t → Remain page gs (uncutCount (nest .points) (nest .deps) gs)
       go true h = remains page (flagsOf d) (right h) gs
       go false h =
-          subst (λ (xs : List DE.Dependence). HowMany (λ x. Cut (page .points) x gs → ⊥) xs (uncutCount (page .points) (mapped xs) gs))
+          subst (λ (xs : List DE.Dependence). HowMany (λ x.
+          Cut (page .points) x gs → ⊥) xs (uncutCount (page .points) (mapped xs) gs))
           (sym (no-deps h)) HowMany.none
 
-  kept-uncut : (gs : List ℕ) → Seat d gs → Remain page gs (d .sitting .uncut)
+  pub kept-uncut : (gs : List ℕ) → Seat d gs → Remain page gs (d .sitting .uncut)
   kept-uncut gs s =
       let q = seat-is d gs m s in
       subst (λ (k : ℕ). Remain page gs k)
-      (ap (λ (x : List ℕ). uncutCount (nestIn (d .nest) .points) (nestIn (d .nest) .deps) x) q ∙ sym (m .kept .uncut-is))
+      (ap (λ (x : List ℕ). uncutCount (nestIn (d .nest) .points) (nestIn (d .nest) .deps) x) q ∙
+      sym (m .kept .uncut-is))
       (uncut-here gs)
 
-  kept-counts : (gs : List ℕ) (i : ℕ) (x : DE.Dependence) → Seat d gs → At (page .deps) i x
+  pub kept-counts : (gs : List ℕ) (i : ℕ) (x : DE.Dependence) → Seat d gs → At (page .deps) i x
       → HowMany (GapOf (page .points) x) gs (getD (d .sitting .counts) i 0)
   kept-counts gs i x s a = go (d .loaded) refl
     where
@@ -174,7 +182,7 @@ module _ (d : DD.Desk) (m : IsMade d) where
   not-in : (g : ℕ) (xs : List ℕ) → isIn g xs ≡ false → In g xs → ⊥
   not-in g xs h i = never-both (in-is g xs (i .0) (i .1)) h
 
-  put-numbers : (gs : List ℕ) (g n : ℕ) → Seat d gs → n ≡ putFault (deskIn d) g → PutNumber d gs g n
+  pub put-numbers : (gs : List ℕ) (g n : ℕ) → Seat d gs → n ≡ putFault (deskIn d) g → PutNumber d gs g n
   put-numbers gs g n s e =
       let q = seat-is d gs m s in
       subst (λ (k : ℕ). PutNumber d gs g k) (sym e)
@@ -191,7 +199,7 @@ module _ (d : DD.Desk) (m : IsMade d) where
       go true true false true w x y z = PutNumber.barred w (gap-here g x) (not-in g gs y) (is-in g (page .barred) z)
       go true true false false w x y z = PutNumber.none w (gap-here g x) (not-in g gs y) (not-in g (page .barred) z)
 
-  lift-numbers : (gs : List ℕ) (g n : ℕ) → Seat d gs → n ≡ liftFault (deskIn d) g → LiftNumber d gs g n
+  pub lift-numbers : (gs : List ℕ) (g n : ℕ) → Seat d gs → n ≡ liftFault (deskIn d) g → LiftNumber d gs g n
   lift-numbers gs g n s e =
       let q = seat-is d gs m s in
       subst (λ (k : ℕ). LiftNumber d gs g k) (sym e)
@@ -207,27 +215,18 @@ module _ (d : DD.Desk) (m : IsMade d) where
 
 -- ---- a move that is made
 
-paper-same : (d e : DD.Desk) → nestIn (e .nest) ≡ nestIn (d .nest) → paperIn (e .nest) ≡ paperIn (d .nest)
-paper-same d e q =
-    let z : nestOf (paperOn e) (flagsOf e) ≡ nestOf (paperOn d) (flagsOf d) =
-    sym (nest-of-paper (e .nest)) ∙ q ∙ nest-of-paper (d .nest) in
-    same-paper (paperOn e .points) (paperOn d .points) (paperOn e .deps) (paperOn d .deps) (paperOn e .barred) (paperOn d .barred)
-    (ap (λ (n : Nest). n .points) z)
-    (sym (unmap (paperOn e .deps)) ∙ ap unmapped (ap (λ (n : Nest). n .deps) z) ∙ unmap (paperOn d .deps))
-    (ap (λ (n : Nest). n .barred) z)
-
 module _ (d : DD.Desk) (r : DM.Moved) (m : IsMade d) (w : IsMade (r .desk)) (hs : List ℕ)
     (same-nest : deskIn (r .desk) .nest-is ≡ deskIn d .nest-is) (same-has : deskIn (r .desk) .hasKey ≡ deskIn d .hasKey)
     (same-key : deskIn (r .desk) .key ≡ deskIn d .key) (now-is : deskIn (r .desk) .sitting ≡ hs)
     (told : r .uncut ≡ uncutCount (deskIn d .nest-is .points) (deskIn d .nest-is .deps) hs) where
-  left : Left d r hs
+  pub left : Left d r hs
   left =
       record {
         seat =
             subst (λ (x : List ℕ). Seat (r .desk) x) now-is
             (set-here (r .desk .sitting .placement .words) (seat-wide (r .desk) w));
         told = subst (λ (k : ℕ). Remain (paperIn (d .nest)) hs k) (sym told) (uncut-here d m hs);
-        paper-same = paper-same d (r .desk) same-nest;
+        paper-same = papers-same (d .nest) (r .desk .nest) same-nest;
         key-same = λ key k. moved key k;
       }
     where
@@ -238,11 +237,12 @@ module _ (d : DD.Desk) (r : DM.Moved) (m : IsMade d) (w : IsMade (r .desk)) (hs 
             planned = same-has ∙ k .planned;
             set =
                 subst (λ (x : List ℕ). SetIn (r .desk .key .words) x) e
-                (set-here (r .desk .key .words) (subst (λ (x : List ℕ). areGapsFrom 0 256 x ≡ true) (sym same-key) (key-wide d m key k)));
+                (set-here (r .desk .key .words) (subst
+                (λ (x : List ℕ). areGapsFrom 0 256 x ≡ true) (sym same-key) (key-wide d m key k)));
           }
 
 module _ (d : DD.Desk) (gs : List ℕ) (g : ℕ) (r : DM.Moved) (m : IsMade d) (s : Seat d gs) where
-  put-left
+  pub put-left
       : PutSays d g r → r .number ≡ 0 → (hs : List ℕ) × (Left d r hs × ((x : ℕ) → In x hs ↔ ((x ≡ g) ⊎ In x gs)))
   put-left h z =
       let none : putFault (deskIn d) g ≡ 0 = sym (h .number-is) ∙ z in
@@ -253,7 +253,8 @@ module _ (d : DD.Desk) (gs : List ℕ) (g : ℕ) (r : DM.Moved) (m : IsMade d) (
       let q = seat-is d gs m s in (
         hs,
         (
-          left d r m (made-put d g r m h) hs (ap (λ (x : Desk). x .nest-is) (p .holds)) (ap (λ (x : Desk). x .hasKey) (p .holds))
+          left d r m (made-put d g r m h) hs (ap
+              (λ (x : Desk). x .nest-is) (p .holds)) (ap (λ (x : Desk). x .hasKey) (p .holds))
               (ap (λ (x : Desk). x .key) (p .holds)) (ap (λ (x : Desk). x .sitting) (p .holds)) u,
           (λ x. (
             (λ i.
@@ -273,7 +274,7 @@ module _ (d : DD.Desk) (gs : List ℕ) (g : ℕ) (r : DM.Moved) (m : IsMade d) (
         ),
       )
 
-  lift-left
+  pub lift-left
       : LiftSays d g r → r .number ≡ 0 → (hs : List ℕ) × (Left d r hs × ((x : ℕ) → In x hs ↔ ((x ≡ g → ⊥) × In x gs)))
   lift-left h z =
       let none : liftFault (deskIn d) g ≡ 0 = sym (h .number-is) ∙ z in
@@ -286,11 +287,13 @@ module _ (d : DD.Desk) (gs : List ℕ) (g : ℕ) (r : DM.Moved) (m : IsMade d) (
       λ x. in-without 0 256 g x (barriers (d .sitting)) (seat-wide d m) in (
         hs,
         (
-          left d r m (made-lift d g r m h) hs (ap (λ (x : Desk). x .nest-is) (p .holds)) (ap (λ (x : Desk). x .hasKey) (p .holds))
+          left d r m (made-lift d g r m h) hs (ap
+              (λ (x : Desk). x .nest-is) (p .holds)) (ap (λ (x : Desk). x .hasKey) (p .holds))
               (ap (λ (x : Desk). x .key) (p .holds)) (ap (λ (x : Desk). x .sitting) (p .holds)) u,
           (λ x. (
             (λ i.
-                let y = and-true (not (eqb x g)) (isIn x (barriers (d .sitting))) (sym (law x) ∙ in-is x hs (i .0) (i .1)) in
+                let y =
+                and-true (not (eqb x g)) (isIn x (barriers (d .sitting))) (sym (law x) ∙ in-is x hs (i .0) (i .1)) in
                 ((λ e. never (rw (eq-eqb x g e) at (y .0))), is-in x gs (ap (isIn x) q ∙ y .1))),
             (λ i.
                 is-in x hs
@@ -316,12 +319,18 @@ most-few a b c x y = go (ltb a b)
     go false = x
 
 ran
-    : (o : DD.Desk) → IsMade o → (ms : List DG.Move) (h : ℕ) (d e : DD.Desk) → length ms + h ≤ 64 → Undone h d e → Ran o ms d
+    : (o : DD.Desk) → IsMade o → (ms : List DG.Move) (h : ℕ) (d e : DD.Desk) → length ms + h ≤ 64 → Undone h d e
+    → Ran o ms d
     → Ran o ms e
 ran o m ms h d e l (Undone.done q) u = subst (λ (x : DD.Desk). Ran o ms x) q u
 ran o m ms h d e l (Undone.plan r p q) u =
     ran o m ms h (r .desk) e l q
-    (record { peak = u .peak; few = u .few; run = R.Run.other (u .peak) ms d (r .desk) (u .run) (R.Unmoved.planned r p) })
+    (record {
+      peak = u .peak;
+      few = u .few;
+      run = R.Run.other (u .peak) ms d (r .desk) (u .run)
+          (R.Unmoved.planned r p);
+    })
 ran o m ms h d e l (Undone.put {h = k} {b = b} g r q p z i f j) u =
     let a = ran o m (putAt g ∷ ms) k (r .desk) b (omega arith) i
     (record {
@@ -351,30 +360,8 @@ undone-made h d e (Undone.put {h = k} {b = b} g r q p z i f j) m =
 undone-made h d e (Undone.lift {h = k} {b = b} g r q p z i f j) m =
     undone-made (suc k) (q .desk) e j (made-back b q (undone-made k (r .desk) b i (made-lift d g r m p)) f)
 
-undone-seat : (d e : DD.Desk) (gs : List ℕ) → IsMade d → Undone 64 d e → Seat d gs → Seat e gs
+pub undone-seat : (d e : DD.Desk) (gs : List ℕ) → IsMade d → Undone 64 d e → Seat d gs → Seat e gs
 undone-seat d e gs m u s =
     let a = ran d m [] 64 d e (omega arith) u (record { peak = 0; few = omega arith; run = R.Run.start }) in
     let q = taken-back d e e (a .peak) [] m (a .run) (a .few) R.Backs.start in
     seat-on d e gs m (undone-made 64 d e u m) (sym (q .placement-is)) s
-
-pub sittings-kept : Sittings
-sittings-kept =
-    record {
-      seated =
-          λ d q.
-          (barriers (d .sitting), set-here (d .sitting .placement .words) (seat-wide d (reached-made d q)));
-      fresh = λ d t r h z. empty-seat (r .desk) (ap (λ (x : Desk). x .sitting) (loaded-holds d t r h z .holds));
-      plan = λ d r gs h s. subst (λ (x : DS.Sitting). SetIn (x .placement .words) gs) (sym (h .sitting-is)) s;
-      counts = λ d gs i x q s a. kept-counts d (reached-made d q) gs i x s a;
-      uncut = λ d gs q s. kept-uncut d (reached-made d q) gs s;
-      put-number = λ d gs g r q s h. put-numbers d (reached-made d q) gs g (r .number) s (h .number-is);
-      put = λ d gs g r q s h z. put-left d gs g r (reached-made d q) s h z;
-      lift-number = λ d gs g r q s h. lift-numbers d (reached-made d q) gs g (r .number) s (h .number-is);
-      lift = λ d gs g r q s h z. lift-left d gs g r (reached-made d q) s h z;
-      taken-back = λ d e gs q u s. undone-seat d e gs (reached-made d q) u s;
-    }
-  where
-    empty-seat : (d : DD.Desk) → barriers (d .sitting) ≡ [] → Seat d []
-    empty-seat d e =
-        subst (λ (x : List ℕ). Seat d x) e
-        (set-here (d .sitting .placement .words) (subst (λ (x : List ℕ). areGapsFrom 0 256 x ≡ true) (sym e) refl))

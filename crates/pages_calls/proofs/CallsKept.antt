@@ -1,5 +1,5 @@
--- The count of barrier calls keeps the page of job 11.
--- Main statements: `times-is`, `times-made`, `calls-kept`.
+-- The count of barrier calls keeps the page of request 11.
+-- Main statements: `times-is`, `times-made`, `calls-are`, `calls-made`, `calls-number`, `calls-kept`.
 use mathlib.Core.Path.{_≡_, refl, sym, _∙_, ap, subst}
 use mathlib.Core.Bool.{Bool, true, false, _&&_, not}
 use mathlib.Core.List.{List, [], _∷_}
@@ -9,9 +9,11 @@ use native.Mathlib.Omega.{arith}
 use lib.Dec.{eqb, leb}
 use lib.ListN.{length, getD}
 use borrow.Author.Tests.{eq-eqb, eqb-true, leb-true, le-leb}
-use Rattle.laws.specs.Choice.{pick, when}
+use Rattle.laws.specs.Choice.{pick, when, firstOf, between}
+use Rattle.laws.proofs.Ranges.{in-between, between-in}
 use Rattle.laws.proofs.Choices.{first-zero, unless-zero}
 use Rattle.laws.proofs.Tests.{never-both, and-true, and-intro, false-by, le-or}
+use Rattle.paper_nests.specs.declared.Nest as DN
 use Rattle.paper_nests.specs.Nests.{Nest}
 use Rattle.paper_nests.specs.Loops.{isDo, endOf}
 use Rattle.paper_nests.specs.Valid.{isShape, isValid}
@@ -27,14 +29,15 @@ use Rattle.call_runs.specs.declared.Calls as CC
 use Rattle.call_runs.specs.Says.{canCount, callsFault, CallsSays}
 use Rattle.call_runs.proofs.Countable.{countable}
 use Rattle.call_runs.proofs.Fewest.{no-fewer}
-use Rattle.pages.specs.Demands.{At, Loop, Correct, KeyOn}
-use Rattle.pages.specs.CallsInRun.{Dos, Times, Calls, CallsInRun}
+use Rattle.pages.specs.Demands.{At, Loop, paperIn, Correct, KeyOn, OutOfTurn}
+use Rattle.pages_calls.specs.MissingRuns.{flagsIn}
+use Rattle.pages_calls.specs.CallsInRun.{Dos, Times, Calls, Countable, CallsNumber, CallsInRun}
 use Rattle.pages.proofs.Lists.{at-is, is-at}
 use Rattle.pages.proofs.Bodies.{loop-end, loop-do, loop-at}
 use Rattle.pages.proofs.Placements.{nestOf, nest-of-paper, correct-is}
 use Rattle.pages.proofs.Keys.{shaped}
 use Rattle.pages.proofs.Desks.{reached-made}
 use Rattle.pages.proofs.Kept.{paperOn, flagsOf, key-same}
 
 module _ (ps : List ℕ) where
   at-do : (a : ℕ) → isDo ps a ≡ true → At ps a 1
@@ -84,7 +87,7 @@ module _ (ps ts : List ℕ) (shape : isShape ps ≡ true) (g : ℕ) where
       let z = and-true (isDo ps b) (leb g (endOf ps b)) q in
       (loop-at ps shape b (z .0), leb-true g (endOf ps b) (z .1))
 
-  times-is : (a k : ℕ) → Times ps ts g a k → timesFrom ps ts a g ≡ k
+  pub times-is : (a k : ℕ) → Times ps ts g a k → timesFrom ps ts a g ≡ k
   unfolding timesFrom
   times-is a k Times.none = refl
   times-is a k (Times.around {a = b} {e = e} {i = i} {k = j} t l m d h r) =
@@ -100,7 +103,7 @@ module _ (ps ts : List ℕ) (shape : isShape ps ≡ true) (g : ℕ) where
       rw off z
 
   module _ (long : length ts ≡ dosBefore ps (length ps)) where
-    times-made : (a : ℕ) → Times ps ts g a (timesFrom ps ts a g)
+    pub times-made : (a : ℕ) → Times ps ts g a (timesFrom ps ts a g)
     unfolding timesFrom
     times-made zero = Times.none
     times-made (suc a) = go (isDo ps a && leb g (endOf ps a)) refl (times-made a)
@@ -122,7 +125,7 @@ module _ (ps ts : List ℕ) (shape : isShape ps ≡ true) (g : ℕ) where
             r
 
 module _ (ps ts : List ℕ) (shape : isShape ps ≡ true) where
-  calls-are : (gs : List ℕ) (c : ℕ) → Calls ps ts gs c → callsIn ps ts gs ≡ c
+  pub calls-are : (gs : List ℕ) (c : ℕ) → Calls ps ts gs c → callsIn ps ts gs ≡ c
   unfolding callsIn
   calls-are gs c Calls.none = refl
   calls-are gs c (Calls.more {g = g} {k = k} {c = b} {gs = hs} t r) =
@@ -130,7 +133,7 @@ module _ (ps ts : List ℕ) (shape : isShape ps ≡ true) where
       let z = calls-are hs b r in
       omega arith
 
-  calls-made : length ts ≡ dosBefore ps (length ps) → (gs : List ℕ) → Calls ps ts gs (callsIn ps ts gs)
+  pub calls-made : length ts ≡ dosBefore ps (length ps) → (gs : List ℕ) → Calls ps ts gs (callsIn ps ts gs)
   unfolding callsIn
   calls-made long [] = Calls.none
   calls-made long (g ∷ gs) = Calls.more (times-made ps ts shape g long g) (calls-made long gs)
@@ -144,9 +147,11 @@ module _ (d : DD.Desk) (m : IsMade d) (ts : List ℕ) (r : CC.Calls) (h : CallsS
 
   long : length ts ≡ dosBefore (paperOn d .points) (length (paperOn d .points))
   long =
-      let f = countable INNER (nestIn (d .nest)) ts (unless-zero (canCount INNER (nestIn (d .nest)) ts) 16 (parts .1)) in
+      let f =
+      countable INNER (nestIn (d .nest)) ts (unless-zero (canCount INNER (nestIn (d .nest)) ts) 16 (parts .1)) in
       eqb-true (length ts) (dosBefore (paperOn d .points) (length (paperOn d .points)))
-      (and-true (eqb (length ts) (dosBefore (paperOn d .points) (length (paperOn d .points)))) (areTurns OUTER INNER ts) (f .fits) .0)
+      (and-true (eqb (length ts) (dosBefore (paperOn d .points) (length (paperOn d .points))))
+      (areTurns OUTER INNER ts) (f .fits) .0)
 
   shape : isShape (paperOn d .points) ≡ true
   shape = ready d m (parts .0) .shape
@@ -166,14 +171,87 @@ module _ (d : DD.Desk) (m : IsMade d) (ts : List ℕ) (r : CC.Calls) (h : CallsS
   none-fewer ys c ok w =
       let n = nestOf (paperOn d) (flagsOf d) in
       let i = correct-is (paperOn d) (flagsOf d) (shaped (paperOn d) (flagsOf d) right-valid) ys ok in
-      let j : isCorrect (nestIn (d .nest)) ys ≡ true = ap (λ (x : Nest). isCorrect x ys) (nest-of-paper (d .nest)) ∙ i in
+      let j : isCorrect (nestIn (d .nest)) ys ≡ true =
+      ap (λ (x : Nest). isCorrect x ys) (nest-of-paper (d .nest)) ∙ i in
       let l = no-fewer d ts ys r m h z j in
       let e = calls-are (paperOn d .points) ts shape ys c w in
       omega (arith, l, e)
 
+-- ---- the numbers
+
+module _ (inner : ℕ) where
+  turns-each
+      : (low : ℕ) (ts : List ℕ) → areTurns low inner ts ≡ true
+      → ((t : ℕ) → At ts 0 t → (low ≤ t) × (t ≤ 16)) × ((i t : ℕ) → At ts (suc i) t → (inner ≤ t) × (t ≤ 16))
+  turns-each low [] h = ((λ t a. absurd a), (λ i t a. absurd a))
+  turns-each low (x ∷ xs) h =
+      let z = and-true (between low x 16) (areTurns inner inner xs) h in
+      let b = in-between low x 16 (z .0) in
+      let r = turns-each inner xs (z .1) in (
+        (λ t a. (omega (arith, a, b .0), omega (arith, a, b .1))),
+        (λ i t a. rest i t a r),
+      )
+    where
+      rest
+          : (i t : ℕ) → At xs i t
+          → ((t : ℕ) → At xs 0 t → (inner ≤ t) × (t ≤ 16)) × ((i t : ℕ) → At xs (suc i) t → (inner ≤ t) × (t ≤ 16))
+          → (inner ≤ t) × (t ≤ 16)
+      rest zero t a r = r .0 t a
+      rest (suc i) t a r = r .1 i t a
+
+  each-turns
+      : (low : ℕ) (ts : List ℕ) → ((t : ℕ) → At ts 0 t → (low ≤ t) × (t ≤ 16))
+      → ((i t : ℕ) → At ts (suc i) t → (inner ≤ t) × (t ≤ 16)) → areTurns low inner ts ≡ true
+  each-turns low [] f g = refl
+  each-turns low (x ∷ xs) f g =
+      let b = f x refl in
+      and-intro (between-in low x 16 (b .0) (b .1)) (each-turns inner xs (λ t a. g 0 t a) (λ i t a. g (suc i) t a))
+
+  countable-is : (n : DN.Nest) (ts : List ℕ) → Countable inner n ts → canCount inner (nestIn n) ts ≡ true
+  countable-is n ts c =
+      and-intro (eq-eqb (length (paperIn n .barred)) 0 (ap length (c .unbarred)))
+      (and-intro (eq-eqb (length (flagsIn n)) 0 (ap length (c .unflagged)))
+      (and-intro
+      (eq-eqb (length ts) (dosBefore (paperIn n .points) (length (paperIn n .points)))
+      (sym (dos-is (paperIn n .points) (length (paperIn n .points)) (length ts) (c .many))))
+      (each-turns 1 ts (c .outermost) (c .others))))
+
+  is-countable : (n : DN.Nest) (ts : List ℕ) → canCount inner (nestIn n) ts ≡ true → Countable inner n ts
+  is-countable n ts h =
+      let c = countable inner (nestIn n) ts h in
+      let ps = paperIn n .points in
+      let z = and-true (eqb (length ts) (dosBefore ps (length ps))) (areTurns OUTER inner ts) (c .fits) in
+      let t = turns-each OUTER ts (z .1) in
+      record {
+        many =
+            subst (λ (k : ℕ). Dos ps (length ps) k) (sym (eqb-true (length ts) (dosBefore ps (length ps)) (z .0)))
+            (dos-made ps (length ps));
+        outermost = t .0;
+        others = t .1;
+        unflagged = c .none-flagged;
+        unbarred = c .none-barred;
+      }
+
+  pub calls-number : (d : DD.Desk) (ts : List ℕ) → CallsNumber inner d ts (callsFault inner (deskIn d) ts)
+  calls-number d ts = go (d .loaded) (d .planned) (canCount inner (nestIn (d .nest)) ts) refl refl refl
+    where
+      go
+          : (a b c : Bool) → d .loaded ≡ a → d .planned ≡ b → canCount inner (nestIn (d .nest)) ts ≡ c
+          → CallsNumber inner d ts (firstOf (firstOf (when (not a) 10) (when (true && not b) 11)) (when (not c) 17))
+      go false b c x y z = CallsNumber.turn (OutOfTurn.no-nest x)
+      go true false c x y z = CallsNumber.turn (OutOfTurn.no-key x y)
+      go true true false x y z = CallsNumber.not-countable y (λ k. never-both (countable-is (d .nest) ts k) z)
+      go true true true x y z = CallsNumber.none y (is-countable (d .nest) ts z)
+
 pub calls-kept : CallsInRun
 calls-kept =
     record {
+      number =
+          λ d ts r q h. (
+            subst (λ (k : ℕ). CallsNumber 2 d ts k) (sym (h .number-is))
+                (calls-number 2 d ts),
+            h .line-is,
+          );
       key-calls = λ d key ts r q k h z. key-called d (reached-made d q) ts r h z key k;
       fewest = λ d ts ys r c q h z ok w. none-fewer d (reached-made d q) ts r h z ys c ok w;
     }

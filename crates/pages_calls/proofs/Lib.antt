@@ -1,0 +1,19 @@
+-- Proofs that the calls keep their pages, and what each page excludes.
+pub mod Flags
+pub mod MissingKept
+pub mod MissingCases
+pub mod Reading
+pub mod CompareKept
+pub mod CompareCases
+pub mod SlipFrames
+pub mod SlipsKept
+pub mod SlipsCases
+pub mod JointPapers
+pub mod JoinKept
+pub mod JoinCases
+pub mod CallsKept
+pub mod RunsCases
+pub mod ImproveKept
+pub mod ImproveCases
+pub mod SheetsKept
+pub mod SheetsCases
