@@ -1,4 +1,5 @@
 -- Laws of laying.
 pub mod Calls
+pub mod Sharing
 pub mod Turns
 pub mod Whole

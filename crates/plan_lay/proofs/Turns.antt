@@ -21,10 +21,12 @@ use Rattle.plan_method.specs.Sweep.{Lines, Tables, bare, only, also, IsTable}
 use Rattle.plan_method.specs.Home.{loopsIn}
 use Rattle.plan_sweeps.specs.Listed.{laid, Stepped}
 use Rattle.plan_sweeps.proofs.Turns as sweep
+use Rattle.plan_starts.specs.Grounds.{Kept}
 use Rattle.plan_settle.specs.Settled.{HasHeight, LinesAt, Rows}
 use Rattle.plan_settle.proofs.Heights.{child-height}
 use Rattle.plan_lay.specs.Laid.{Choices, PutSays, LaySays}
 use Rattle.plan_lay.proofs.Calls.{Asked, Call}
+use Rattle.plan_lay.proofs.Sharing.{Shared, shared-all, shared-less, shared-child, stepped-shared}
 
 -- the placement k is what the sweep has laid so far, added to key
 pub record Held
@@ -41,19 +43,20 @@ pub record Held
 pub record Laying
     (ps own ends reach limit left choice : List ℕ)
     (d h : ℕ)
-    (need key k : List ℕ)
+    (swept need key k : List ℕ)
     (c f p : ℕ)
     : Type 0 where
   pub from : d ≤ p
   pub high : p ≤ at ends d
   pub owner : d < p → ownerOf ps p ≡ d
   pub small : c + p ≤ at ends d
+  pub shared : Shared swept need d (at ends d) p
   pub held
       : (N : Lines) (T : Tables) (has : List ℕ)
       → IsTable (loopsIn ps) N T
       → LinesAt ps N reach limit has
       → Rows ps T left choice d (endOf ps d)
-      → Held ps own need left (h * 256 - 256) d (at ends d) (T .lay) key k c f p
+      → Held ps own swept left (h * 256 - 256) d (at ends d) (T .lay) key k c f p
 
 -- what a placement holds after a barrier, and after a child
 held-put : (w : ℕ → Bool) (key k k′ : List ℕ) (p : ℕ) → ((g : ℕ) → holds k g ≡ (w g || holds key g)) →
@@ -92,20 +95,22 @@ module _
     abbrev kids : ℕ
     kids = h * 256 - 256
 
-    pub begin : {need key : List ℕ} → Laying ps own ends reach limit left choice d h need key key 0 (e + 1) e
-    begin {need} =
+    pub begin
+        : {swept key : List ℕ} → Laying ps own ends reach limit left choice d h swept swept key key 0 (e + 1) e
+    begin {swept} =
         record {
           from = omega (arith, a .long);
           high = omega arith;
           owner = λ z. ap (ownerOf ps) (a .e-is) ∙ owner-of-end ps shape d (a .is-do);
           small = omega arith;
+          shared = shared-all;
           held = λ N T has t n r.
-              record { w = bare; turn = sweep.begin ps own need left kids d e (T .lay); held = λ g. refl };
+              record { w = bare; turn = sweep.begin ps own swept left kids d e (T .lay); held = λ g. refl };
         }
 
     module _
-        {need key k : List ℕ} {c f p : ℕ} (s : Laying ps own ends reach limit left choice d h need key k c f p)
-        (more : d < p)
+        {swept need key k : List ℕ} {c f p : ℕ}
+        (s : Laying ps own ends reach limit left choice d h swept need key k c f p) (more : d < p)
       where
         step-back : suc (p - 1) ≡ p
         step-back = omega arith
@@ -128,18 +133,20 @@ module _
             → (getD ps (p - 1) 0 ≡ 2 → ⊥)
             → at need p < f
             → ((g : ℕ) → holds k′ g ≡ (eqb g p || holds k g))
-            → Laying ps own ends reach limit left choice d h need key k′ (c + 1) p (p - 1)
+            → Laying ps own ends reach limit left choice d h swept need key k′ (c + 1) p (p - 1)
         on-put {k′} n m put =
             record {
               from = omega arith;
               high = omega (arith, s .high);
               owner = plain n;
               small = omega (arith, s .small);
+              shared = shared-less (s .shared) (omega arith);
               held = λ N T has t v r.
-                  let x : Held ps own need left kids d e (T .lay) key k c f p = s .held N T has t v r in
+                  let x : Held ps own swept left kids d e (T .lay) key k c f p = s .held N T has t v r in
                   record {
                     w = also (only p) (x .w);
-                    turn = sweep.on-put ps own need left kids d e (T .lay) p c f (x .w) more n m (x .turn);
+                    turn = sweep.on-put ps own swept left kids d e (T .lay) p c f (x .w) more n
+                        (omega (arith, s .shared .same p (omega arith))) (x .turn);
                     held = held-put (x .w) key k k′ p (x .held) put;
                   };
             }
@@ -147,18 +154,20 @@ module _
         pub on-skip
             : (getD ps (p - 1) 0 ≡ 2 → ⊥)
             → f ≤ at need p
-            → Laying ps own ends reach limit left choice d h need key k c f (p - 1)
+            → Laying ps own ends reach limit left choice d h swept need key k c f (p - 1)
         on-skip n m =
             record {
               from = omega arith;
               high = omega (arith, s .high);
               owner = plain n;
               small = omega (arith, s .small);
+              shared = shared-less (s .shared) (omega arith);
               held = λ N T has t v r.
-                  let x : Held ps own need left kids d e (T .lay) key k c f p = s .held N T has t v r in
+                  let x : Held ps own swept left kids d e (T .lay) key k c f p = s .held N T has t v r in
                   record {
                     w = x .w;
-                    turn = sweep.on-skip ps own need left kids d e (T .lay) p c f (x .w) more n m (x .turn);
+                    turn = sweep.on-skip ps own swept left kids d e (T .lay) p c f (x .w) more n
+                        (omega (arith, s .shared .same p (omega arith))) (x .turn);
                     held = x .held;
                   };
             }
@@ -189,6 +198,9 @@ module _
           child-choices x k y i m n = a .choices x k y i (omega (arith, child .inside))
               (omega (arith, child-end, there, s .high, a .e-is))
 
+          shared : Shared swept need d e (suc (p - 1))
+          shared = rw step-back (s .shared)
+
           module _ {c′ f′ ask : ℕ} (step : Stepped need left kids l (p - 1) c f c′ f′ ask) where
             pub child-asked : Asked ps own ends reach limit left choice l ask (h - 1)
             child-asked = (
@@ -206,25 +218,29 @@ module _
             )
 
             pub on-child
-                : {k′ : List ℕ} (mid : List ℕ)
+                : {need′ k′ : List ℕ} (mid : List ℕ)
                 → PutSays k c c′ p mid
                 → LaySays ps reach limit left choice l ask mid k′
-                → Laying ps own ends reach limit left choice d h need key k′ c′ f′ l
-            on-child {k′} mid put deeper =
+                → length need′ ≡ length need
+                → Kept need need′ l (endOf ps l)
+                → Laying ps own ends reach limit left choice d h swept need′ key k′ c′ f′ l
+            on-child {k′ = k′} mid put deeper size kept =
                 record {
                   from = omega (arith, child .inside);
                   high = omega (arith, s .high, child-long);
                   owner = λ z. child .owned;
                   small = omega (arith, s .small, step .grows, child-long);
+                  shared = shared-child (s .shared) (omega (arith, child .inside))
+                      (omega (arith, child-end, s .high)) (omega (arith, child-long)) size kept;
                   held = λ N T has t v r.
-                      let x : Held ps own need left kids d e (T .lay) key k c f p = s .held N T has t v r in
+                      let x : Held ps own swept left kids d e (T .lay) key k c f p = s .held N T has t v r in
                       let inside : Rows ps T left choice l (endOf ps l) =
                       rows-inside ps T left choice d l (omega (arith, child .inside))
                       (omega (arith, child-end, s .high, a .e-is)) r in
                       record {
                         w = laid (ltb c c′) (p - 1) (T .lay l ask) (x .w);
-                        turn = sweep.on-child ps own need left kids d e (T .lay) p c f c′ f′ ask (x .w) more ends-there
-                            (omega (arith, child-long)) step (x .turn);
+                        turn = sweep.on-child ps own swept left kids d e (T .lay) p c f c′ f′ ask (x .w) more ends-there
+                            (omega (arith, child-long)) (stepped-shared shared step) (x .turn);
                         held = held-child (x .w) (T .lay l ask) key k mid k′ (ltb c c′) (p - 1) (x .held)
                             (λ g. put g ∙ rw step-back refl) (deeper N T has t v inside);
                       };

@@ -39,13 +39,13 @@ use Rattle.plan_lay.proofs.Turns.{Held, Laying}
 pub record Lowered (reach : List ℕ) (base d e last : ℕ) (need : List ℕ) : Type 0 where
   pub copy : List ℕ
   pub copied : Copied reach base d e copy
-  pub size : length copy ≡ 256
+  pub size : 256 ≤ length copy
   pub need-is : need ≡ set copy last (min (at copy last) e)
 
 pub lowered-size
-    : {reach need : List ℕ} {base d e last : ℕ} → Lowered reach base d e last need → length need ≡ 256
+    : {reach need : List ℕ} {base d e last : ℕ} → Lowered reach base d e last need → 256 ≤ length need
 lowered-size {e = e} {last = last} m =
-    ap length (m .need-is) ∙ length-set (m .copy) last (min (at (m .copy) last) e) ∙ m .size
+    rw (m .need-is, length-set (m .copy) last (min (at (m .copy) last) e)) (m .size)
 
 -- the gaps of a sweep with its prefix, added to a key
 closed
@@ -101,18 +101,18 @@ module _
     last = row choice (h * 256) q
 
     pub done
-        : {need key k : List ℕ} {c f p : ℕ} (k′ : List ℕ)
+        : {swept need key k : List ℕ} {c f p : ℕ} (k′ : List ℕ)
         → (row left (h * 256) q ≡ 0 → ⊥)
-        → Lowered reach (h * 256) d e last need
-        → Laying ps own ends reach limit left choice d h need key k c f p
+        → Lowered reach (h * 256) d e last swept
+        → Laying ps own ends reach limit left choice d h swept need key k c f p
         → p ≤ d
         → PutSays k (row limit (h * 256) last) f (d + 1) k′
         → LaySays ps reach limit left choice d q key k′
-    done {need} {key} {k} {c} {f} {p} k′ some m s all grown N T has t n r g =
+    done {swept} {key = key} {k} {c} {f} {p} k′ some m s all grown N T has t n r g =
         closed d (row limit (h * 256) last) c f (x .w) key k k′ (x .held) grown g ∙
         ap (λ (b : Bool). b || holds key g) laid
       where
-        x : Held ps own need left (h * 256 - 256) d e (T .lay) key k c f p
+        x : Held ps own swept left (h * 256 - 256) d e (T .lay) key k c f p
         x = s .held N T has t n r
 
         B′ : Loops
@@ -146,13 +146,13 @@ module _
         low : (d < last) × (last ≤ e)
         low = picked a some
 
-        swept
+        valued
             : value (listed ps own e) (lined (N .has d) (m .copy) limit (h * 256))
             (tabled left (h * 256 - 256) (T .lay)) d last ≡
             close d (row limit (h * 256) last) (st c f (x .w))
-        swept = value-is ps own (m .copy) left (h * 256 - 256) limit (h * 256) d e last c f (x .w) (N .has d)
+        valued = value-is ps own (m .copy) left (h * 256 - 256) limit (h * 256) d e last c f (x .w) (N .has d)
             (T .lay) (omega (arith, low, m .size, a .short, a .charts .few))
-            (sweeps.done ps own need left (h * 256 - 256) d e (T .lay) p c f (x .w) all (x .turn) ∙
+            (sweeps.done ps own swept left (h * 256 - 256) d e (T .lay) p c f (x .w) all (x .turn) ∙
             ap (λ (y : List ℕ). sweepOf ps own y left (h * 256 - 256) (T .lay) d e) (m .need-is))
 
         laid : close d (row limit (h * 256) last) (st c f (x .w)) .w g ≡ T .lay d q g
@@ -162,4 +162,4 @@ module _
             let b : value (loopsIn ps) N T d last .w g ≡ value B′ N′ T′ d last .w g =
             value-alike (loopsIn ps) B′ (loop-laws ps shape) N N′ T T′ d (a .is-do) alike last (low .0)
             (omega (arith, low, a .e-is)) .w-is g in
-            ap (λ (v : State). v .w g) (sym swept) ∙ sym b ∙ sym (rw chosen at z)
+            ap (λ (v : State). v .w g) (sym valued) ∙ sym b ∙ sym (rw chosen at z)

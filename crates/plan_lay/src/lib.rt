@@ -4,11 +4,14 @@ use plan_rows::ROW;
 ghost use mathlib.Core.Path.{_≡_};
 ghost use mathlib.Core.Bool.{true};
 ghost use Prim.Native.Nat.{_<_, _≤_};
+ghost use lib.ListN.{length};
 ghost use Rattle.paper_nests.specs.Loops.{isDo, endOf};
+ghost use Rattle.plan_starts.specs.Grounds.{Kept};
 ghost use Rattle.plan_settle.specs.Settled.{HasHeight, Charts};
 ghost use Rattle.plan_lay.specs.Laid.{LayRoom, Choices, PutSays, LaySays};
 
-// What the loop d lays for the suffix that starts at q, added to a placement.
+// What the loop d lays for the suffix that starts at q, added to a placement. The loops inside write to their own part
+// of the row that is swept, which the sweep has passed by then.
 pub fn lay(
     points: &[u8],
     own: &[usize],
@@ -17,11 +20,13 @@ pub fn lay(
     limit: &[usize],
     left: &[usize],
     choice: &[usize],
+    need: &mut [usize],
     d: usize,
     q: usize,
     h: usize,
     key: Placement,
 ) -> Placement
+    requires { ⌜ 256 ≤ length (now need) ⌝ }
     requires { ⌜ Charts (now points) (now own) (now ends) ⌝ }
     requires { ⌜ LayRoom (now reach) (now limit) (now left) (now choice) ⌝ }
     requires { ⌜ isDo (now points) d ≡ true ⌝ }
@@ -31,6 +36,7 @@ pub fn lay(
     requires { ⌜ Choices (now points) (now left) (now choice) d (endOf (now points) d) ⌝ }
     ensures { λ r. ⌜ LaySays (now (points .entry)) (now (reach .entry)) (now (limit .entry))
         (now (left .entry)) (now (choice .entry)) d q (key .words) (r .words) ⌝ }
+    ensures { λ r. ⌜ Kept (now (need .entry)) (now (need .exit)) d (endOf (now (points .entry)) d) ⌝ }
 {
     let base = h * ROW;
     if left[base + q] == 0 {
@@ -38,8 +44,7 @@ pub fn lay(
     }
     let e = ends[d];
     let last = choice[base + q];
-    let mut need = [0; ROW];
-    plan_rows::copy_row(reach, base, d, e, &mut need);
+    plan_rows::copy_row(reach, base, d, e, need);
     need[last] = plan_sweeps::smaller(need[last], e);
     let mut k = key;
     let mut c = 0;
@@ -49,7 +54,7 @@ pub fn lay(
         let before = p - 1;
         if points[before] == paper_nests::ENDDO {
             let l = own[before];
-            let s = plan_sweeps::step_child(&need, left, base - ROW, l, before, c, f);
+            let s = plan_sweeps::step_child(need, left, base - ROW, l, before, c, f);
             let more = put_where(k, c, s.c, p);
             k = lay(
                 points,
@@ -59,6 +64,7 @@ pub fn lay(
                 limit,
                 left,
                 choice,
+                need,
                 l,
                 s.ask,
                 h - 1,

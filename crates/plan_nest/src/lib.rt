@@ -38,6 +38,10 @@ pub fn plan(nest: Nest) -> Placement
     // Here every entry is written before it is read.
     let mut left = [n; TABLE];
     let mut choice = [n; TABLE];
+    let mut need = [0; ROW];
+    let mut cs = [0; ROW];
+    let mut fs = [0; ROW];
+    let mut link = [0; ROW];
     plan_settle::settle(
         &points[..n],
         &own,
@@ -47,6 +51,10 @@ pub fn plan(nest: Nest) -> Placement
         &has,
         &mut left,
         &mut choice,
+        &mut need,
+        &mut cs,
+        &mut fs,
+        &mut link,
         0,
         Nest::DEPTH,
     );
@@ -59,6 +67,7 @@ pub fn plan(nest: Nest) -> Placement
         &limit,
         &left,
         &choice,
+        &mut need,
         0,
         1,
         Nest::DEPTH,

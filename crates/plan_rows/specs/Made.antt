@@ -1,5 +1,5 @@
 -- The row of one loop, made from the values of its suffixes: what is written, and that nothing else is.
--- Main definitions: `Copied`, `Cleared`, `Chosen`, `RowRoom`, `RowMade`.
+-- Main definitions: `Copied`, `Cleared`, `Chosen`, `RowRoom`, `ListsRoom`, `RowMade`.
 use mathlib.Core.Path.{_≡_}
 use mathlib.Core.Bool.{Bool}
 use mathlib.Core.List.{List}
@@ -51,6 +51,13 @@ pub record RowRoom (ps own reach limit left choice : List ℕ) (base d e : ℕ) 
   pub short : e < 256
   pub inner : 256 ≤ base
   pub ground : Ground ps own left (base - 256) d e
+
+-- room for an entry at each point, whatever stands there
+pub record ListsRoom (need cs fs link : List ℕ) : Type 0 where
+  pub need-room : 256 ≤ length need
+  pub cs-room : 256 ≤ length cs
+  pub fs-room : 256 ≤ length fs
+  pub link-room : 256 ≤ length link
 
 -- the row of the loop d with its ENDDO e, by some list of needs that agrees with its row of reach on its range
 pub record RowMade (ps own reach limit left choice left′ choice′ : List ℕ) (base d e some : ℕ) : Type 0 where

@@ -4,12 +4,13 @@ ghost use Prim.Native.Nat.{_+_, _<_};
 ghost use lib.ListN.{length};
 ghost use Rattle.plan_starts.specs.Grounds.{Kept};
 ghost use Rattle.plan_rows.specs.Valued.{CloseSays, CeilingSays, ClosedSays, FrontsIn, ValuesRoom};
-ghost use Rattle.plan_rows.specs.Made.{Copied, Cleared, BetterSays, ChooseSays, RowRoom, RowMade};
+ghost use Rattle.plan_rows.specs.Made.{Copied, Cleared, BetterSays, ChooseSays, RowRoom, ListsRoom, RowMade};
 
 // The places of a row, one for each point.
 pub const ROW: usize = 256;
 
-// The row of the loop d with its ENDDO e, from the row of the loops directly inside it, which is the one before.
+// The row of the loop d with its ENDDO e, from the row of the loops directly inside it, which is the one before; four
+// lists are lent for what is made on the way.
 pub fn make_row(
     points: &[u8],
     own: &[usize],
@@ -17,12 +18,17 @@ pub fn make_row(
     limit: &[usize],
     left: &mut [usize],
     choice: &mut [usize],
+    need: &mut [usize],
+    cs: &mut [usize],
+    fs: &mut [usize],
+    link: &mut [usize],
     base: usize,
     d: usize,
     e: usize,
     some: usize,
 )
     requires { ⌜ RowRoom (now points) (now own) (now reach) (now limit) (now left) (now choice) base d e ⌝ }
+    requires { ⌜ ListsRoom (now need) (now cs) (now fs) (now link) ⌝ }
     ensures { λ r. ⌜ RowMade (now (points .entry)) (now (own .entry)) (now (reach .entry)) (now (limit .entry))
         (now (left .entry)) (now (choice .entry)) (now (left .exit)) (now (choice .exit)) base d e some ⌝ }
 {
@@ -32,25 +38,10 @@ pub fn make_row(
         return;
     }
     let kids = base - ROW;
-    let mut need = [0; ROW];
-    let mut cs = [0; ROW];
-    let mut fs = [0; ROW];
-    let mut link = [0; ROW];
-    plan_starts::mark(points, own, reach, base, left, kids, d, e, &mut need);
-    let first = plan_starts::follow_all(
-        points,
-        own,
-        &need,
-        left,
-        kids,
-        d,
-        e,
-        &mut cs,
-        &mut fs,
-        &mut link,
-    );
-    let m = values(limit, base, d, e, first, &mut cs, &mut fs);
-    choose(&cs, &fs, m, left, choice, base, d, e);
+    plan_starts::mark(points, own, reach, base, left, kids, d, e, need);
+    let first = plan_starts::follow_all(points, own, need, left, kids, d, e, cs, fs, link);
+    let m = values(limit, base, d, e, first, cs, fs);
+    choose(cs, fs, m, left, choice, base, d, e);
 }
 
 // The entries from d + 1 to e of the row that starts at base.
@@ -59,6 +50,7 @@ pub fn copy_row(from: &[usize], base: usize, d: usize, e: usize, xs: &mut [usize
     requires { ⌜ e < length (now xs) ⌝ }
     requires { ⌜ d < e ⌝ }
     ensures { λ r. ⌜ Copied (now (from .entry)) base d e (now (xs .exit)) ⌝ }
+    ensures { λ r. ⌜ Kept (now (xs .entry)) (now (xs .exit)) d e ⌝ }
 {
     let mut p = d;
     while p < e {

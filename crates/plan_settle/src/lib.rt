@@ -2,9 +2,10 @@
 ghost use mathlib.Core.Path.{_≡_};
 ghost use mathlib.Core.Bool.{true};
 ghost use Rattle.paper_nests.specs.Loops.{isDo};
+ghost use Rattle.plan_rows.specs.Made.{ListsRoom};
 ghost use Rattle.plan_settle.specs.Settled.{HasHeight, Charts, Room, SettleSays};
 
-// A loop's row is made after the rows of the loops directly inside it.
+// A loop's row is made after the rows of the loops directly inside it; all rows are made in the same four lists.
 pub fn settle(
     points: &[u8],
     own: &[usize],
@@ -14,9 +15,14 @@ pub fn settle(
     has: &[usize],
     left: &mut [usize],
     choice: &mut [usize],
+    need: &mut [usize],
+    cs: &mut [usize],
+    fs: &mut [usize],
+    link: &mut [usize],
     d: usize,
     h: usize,
 )
+    requires { ⌜ ListsRoom (now need) (now cs) (now fs) (now link) ⌝ }
     requires { ⌜ Charts (now points) (now own) (now ends) ⌝ }
     requires { ⌜ Room (now reach) (now limit) (now has) (now left) (now choice) ⌝ }
     requires { ⌜ isDo (now points) d ≡ true ⌝ }
@@ -31,7 +37,22 @@ pub fn settle(
     let mut i = d + 1;
     while i < e {
         if points[i] == paper_nests::DO {
-            settle(points, own, ends, reach, limit, has, left, choice, i, h - 1);
+            settle(
+                points,
+                own,
+                ends,
+                reach,
+                limit,
+                has,
+                left,
+                choice,
+                need,
+                cs,
+                fs,
+                link,
+                i,
+                h - 1,
+            );
             let first = left[kids + (i + 1)];
             some = plan_sweeps::first_or(first, some);
             i = ends[i] + 1;
@@ -39,5 +60,20 @@ pub fn settle(
             i += 1;
         }
     }
-    plan_rows::make_row(points, own, reach, limit, left, choice, base, d, e, some);
+    plan_rows::make_row(
+        points,
+        own,
+        reach,
+        limit,
+        left,
+        choice,
+        need,
+        cs,
+        fs,
+        link,
+        base,
+        d,
+        e,
+        some,
+    );
 }

@@ -11,6 +11,16 @@ use borrow.Author.Needs.{needs}
 use Rattle.plan_nest.proofs.plan.Statement.{statement}
 use Rattle.plan_nest.proofs.plan.Tie as tie
 
+-- the call, and what was made before the last place
+abbrev called : tie.After-prepare → tie.Start
+called c = c .before .before .before .before .before .before .before
+
+abbrev prepared : tie.After-settle → tie.After-prepare
+prepared c = c .before .before .before .before .before .before .before .before .before .before .before .before .before .before .before .before .before .before .before .before
+
+abbrev settled : tie.After-lay → tie.After-settle
+settled c = c .before .before .before .before .before .before .before .before .before .before .before .before .before .before .before .before
+
 slice-aggregate-prepare : tie.Need-slice-aggregate-prepare
 slice-aggregate-prepare c = search needs
 
@@ -53,9 +63,8 @@ prepare-requires c κs =
 
 array-share-prefix-points : tie.Need-array-share-prefix-points
 array-share-prefix-points c =
-    let b12 = c .before .before .before .before .before .before .before .before .before .before .before .before in
-    let b14 = b12 .before .before in
-    count-there (b14 .args .nest .count) (b14 .args .nest .points) (b14 .pre .0 .count-is)
+    let b = called (c .before .before .before .before .before .before .before) in
+    count-there (b .args .nest .count) (b .args .nest .points) (b .pre .0 .count-is)
 
 slice-aggregate-settle : tie.Need-slice-aggregate-settle
 slice-aggregate-settle c = search needs
@@ -81,14 +90,24 @@ slice-aggregate-settle-7 c = search needs
 slice-aggregate-settle-8 : tie.Need-slice-aggregate-settle-8
 slice-aggregate-settle-8 c = search needs
 
+slice-aggregate-settle-9 : tie.Need-slice-aggregate-settle-9
+slice-aggregate-settle-9 c = search needs
+
+slice-aggregate-settle-10 : tie.Need-slice-aggregate-settle-10
+slice-aggregate-settle-10 c = search needs
+
+slice-aggregate-settle-11 : tie.Need-slice-aggregate-settle-11
+slice-aggregate-settle-11 c = search needs
+
+slice-aggregate-settle-12 : tie.Need-slice-aggregate-settle-12
+slice-aggregate-settle-12 c = search needs
+
 settle-requires : tie.Need-settle-requires
 settle-requires c κs =
-    let b12 = c .before .before .before .before .before .before .before .before .before .before .before .before in
-    let b15 = b12 .before .before .before in
-    let b22 = b15 .before .before .before .before .before .before .before in
-    let n = b22 .args .nest in
-    let p = b22 .pre in
-    let r = b15 .prepare in
+    let b = c .before .before .before .before .before .before .before .before .before .before .before .before .before .before .before .before .before .before .before in
+    let n = called b .args .nest in
+    let p = called b .pre in
+    let r = b .prepare in
     let ps = nestIn n .points in
     let ds = nestIn n .deps in
     let w = points-of (nestIn n) (p .1) in
@@ -98,17 +117,20 @@ settle-requires c κs =
     let reach = r .last .1 .1 .1 .1 .0 in
     let limit = r .last .1 .1 .1 .1 .1 .0 in
     let has = r .last .1 .1 .1 .1 .1 .1 .0 in (
-      charts ps ds own ends heights reach limit has w (r .ensures) (omega (arith, r .kept .1 .0))
-          (omega (arith, r .kept .1 .1 .0)),
+      record { need-room = omega arith; cs-room = omega arith; fs-room = omega arith; link-room = omega arith },
       (
-        record {
-          reach-room = omega (arith, r .kept .1 .1 .1 .1 .0);
-          limit-room = omega (arith, r .kept .1 .1 .1 .1 .1 .0);
-          has-room = omega (arith, r .kept .1 .1 .1 .1 .1 .1 .0);
-          left-room = omega arith;
-          choice-room = omega arith;
-        },
-        (starts-with-do ps (w .shape), top-height ps),
+        charts ps ds own ends heights reach limit has w (r .ensures) (omega (arith, r .kept .1 .0))
+            (omega (arith, r .kept .1 .1 .0)),
+        (
+          record {
+            reach-room = omega (arith, r .kept .1 .1 .1 .1 .0);
+            limit-room = omega (arith, r .kept .1 .1 .1 .1 .1 .0);
+            has-room = omega (arith, r .kept .1 .1 .1 .1 .1 .1 .0);
+            left-room = omega arith;
+            choice-room = omega arith;
+          },
+          (starts-with-do ps (w .shape), top-height ps),
+        ),
       ),
     )
 
@@ -117,13 +139,11 @@ empty-requires c κs = search needs
 
 array-share-prefix-points-2 : tie.Need-array-share-prefix-points-2
 array-share-prefix-points-2 c =
-    let b12 = c .before .before .before .before .before .before .before .before .before .before .before .before in
-    let b24 = b12 .before .before .before .before .before .before .before .before .before .before .before .before in
-    let b26 = b24 .before .before in
-    count-there (b26 .args .nest .count) (b26 .args .nest .points) (b26 .pre .0 .count-is)
+    let b = called (prepared (c .before .before .before .before .before .before .before)) in
+    count-there (b .args .nest .count) (b .args .nest .points) (b .pre .0 .count-is)
 
 slice-aggregate-lay : tie.Need-slice-aggregate-lay
-slice-aggregate-lay c = search needs
+slice-aggregate-lay c = called (prepared (c .before .before .before .before .before .before .before .before)) .pre .0 .count-is
 
 slice-aggregate-lay-2 : tie.Need-slice-aggregate-lay-2
 slice-aggregate-lay-2 c = search needs
@@ -143,15 +163,16 @@ slice-aggregate-lay-6 c = search needs
 slice-aggregate-lay-7 : tie.Need-slice-aggregate-lay-7
 slice-aggregate-lay-7 c = search needs
 
+slice-aggregate-lay-8 : tie.Need-slice-aggregate-lay-8
+slice-aggregate-lay-8 c = search needs
+
 lay-requires : tie.Need-lay-requires
 lay-requires c κs =
-    let b10 = c .before .before .before .before .before .before .before .before .before .before in
-    let b22 = b10 .before .before .before .before .before .before .before .before .before .before .before .before in
-    let b26 = b22 .before .before .before .before in
-    let b33 = b26 .before .before .before .before .before .before .before in
-    let n = b33 .args .nest in
-    let p = b33 .pre in
-    let r = b26 .prepare in
+    let s = c .before .before .before .before .before .before .before .before .before .before .before .before .before .before .before .settle in
+    let b = prepared (c .before .before .before .before .before .before .before .before .before .before .before .before .before .before .before) in
+    let n = called b .args .nest in
+    let p = called b .pre in
+    let r = b .prepare in
     let ps = nestIn n .points in
     let ds = nestIn n .deps in
     let w = points-of (nestIn n) (p .1) in
@@ -161,27 +182,29 @@ lay-requires c κs =
     let reach = r .last .1 .1 .1 .1 .0 in
     let limit = r .last .1 .1 .1 .1 .1 .0 in
     let has = r .last .1 .1 .1 .1 .1 .1 .0 in
-    let s = b10 .settle in
     let left = s .last .1 .1 .1 .1 .1 .1 .0 in
     let choice = s .last .1 .1 .1 .1 .1 .1 .1 .0 in (
-      charts ps ds own ends heights reach limit has w (r .ensures) (omega (arith, r .kept .1 .0))
-          (omega (arith, r .kept .1 .1 .0)),
+      omega (arith, s .kept .1 .1 .1 .1 .1 .1 .1 .1 .0),
       (
-        record {
-          reach-room = omega (arith, r .kept .1 .1 .1 .1 .0);
-          limit-room = omega (arith, r .kept .1 .1 .1 .1 .1 .0);
-          left-room = omega (arith, s .kept .1 .1 .1 .1 .1 .1 .0);
-          choice-room = omega (arith, s .kept .1 .1 .1 .1 .1 .1 .1 .0);
-        },
+        charts ps ds own ends heights reach limit has w (r .ensures) (omega (arith, r .kept .1 .0))
+            (omega (arith, r .kept .1 .1 .0)),
         (
-          starts-with-do ps (w .shape),
+          record {
+            reach-room = omega (arith, r .kept .1 .1 .1 .1 .0);
+            limit-room = omega (arith, r .kept .1 .1 .1 .1 .1 .0);
+            left-room = omega (arith, s .kept .1 .1 .1 .1 .1 .1 .0);
+            choice-room = omega (arith, s .kept .1 .1 .1 .1 .1 .1 .1 .0);
+          },
           (
-            top-height ps,
+            starts-with-do ps (w .shape),
             (
-              omega arith,
+              top-height ps,
               (
-                end-after ps (w .shape) 0 (starts-with-do ps (w .shape)),
-                choices ps ds own ends heights reach limit has w (r .ensures) left choice (s .ensures .rows),
+                omega arith,
+                (
+                  end-after ps (w .shape) 0 (starts-with-do ps (w .shape)),
+                  choices ps ds own ends heights reach limit has w (r .ensures) left choice (s .ensures .rows),
+                ),
               ),
             ),
           ),
@@ -191,14 +214,12 @@ lay-requires c κs =
 
 returns : tie.Need-returns
 returns c =
-    let b8 = c .before .before .before .before .before .before .before .before in
-    let b11 = b8 .before .before .before in
-    let b23 = b11 .before .before .before .before .before .before .before .before .before .before .before .before in
-    let b27 = b23 .before .before .before .before in
-    let b34 = b27 .before .before .before .before .before .before .before in
-    let n = b34 .args .nest in
-    let p = b34 .pre in
-    let r = b27 .prepare in
+    let l = c .before in
+    let s = settled l .settle in
+    let b = prepared (settled l) in
+    let n = called b .args .nest in
+    let p = called b .pre in
+    let r = b .prepare in
     let ps = nestIn n .points in
     let ds = nestIn n .deps in
     let w = points-of (nestIn n) (p .1) in
@@ -208,11 +229,10 @@ returns c =
     let reach = r .last .1 .1 .1 .1 .0 in
     let limit = r .last .1 .1 .1 .1 .1 .0 in
     let has = r .last .1 .1 .1 .1 .1 .1 .0 in
-    let s = b11 .settle in
     let left = s .last .1 .1 .1 .1 .1 .1 .0 in
     let choice = s .last .1 .1 .1 .1 .1 .1 .1 .0 in
     key ps ds own ends heights reach limit has w (r .ensures) left choice (s .ensures .rows)
-    (b8 .empty .result .words) (c .lay .result .words) (b8 .empty .ensures) (c .lay .ensures)
+    (l .before .before .before .before .before .before .before .before .before .empty .result .words) (l .lay .result .words) (l .before .before .before .before .before .before .before .before .before .empty .ensures) (l .lay .ensures .0)
 
 pub plan-spec : {M : Type 1} → statement M
 plan-spec =
@@ -234,6 +254,10 @@ plan-spec =
     slice-aggregate-settle-6
     slice-aggregate-settle-7
     slice-aggregate-settle-8
+    slice-aggregate-settle-9
+    slice-aggregate-settle-10
+    slice-aggregate-settle-11
+    slice-aggregate-settle-12
     settle-requires
     empty-requires
     array-share-prefix-points-2
@@ -244,5 +268,6 @@ plan-spec =
     slice-aggregate-lay-5
     slice-aggregate-lay-6
     slice-aggregate-lay-7
+    slice-aggregate-lay-8
     lay-requires
     returns)

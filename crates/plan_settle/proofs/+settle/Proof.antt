@@ -4,7 +4,9 @@ use mathlib.Core.Path.{_∙_}
 use Prim.Native.Nat.{ℕ, _-_, _<_}
 use native.Mathlib.Omega.{arith}
 use borrow.Author.Needs.{needs}
+use Rattle.plan_rows.specs.Made.{ListsRoom}
 use Rattle.plan_settle.proofs.Calls.{Call, called}
+use Rattle.plan_settle.proofs.Lists.{Lent, lent-all, lent-on, lent-room}
 use Rattle.plan_settle.proofs.Turns.{Settling, begin, on-plain, child-asked, child-long, child-short, on-child}
 use Rattle.plan_settle.proofs.Own.{done}
 use Rattle.plan_settle.proofs.Grounded.{row-room}
@@ -18,14 +20,14 @@ use Rattle.plan_sweeps.proofs.first_or.Reads as first-or-reads
 use Rattle.plan_settle.proofs.+settle.{statement}
 use Rattle.plan_settle.proofs.+settle.Tie.{close}
 
-abbrev μ-settle : Measures 8 settle-kinds.ps ℕ
-μ-settle κs a = a .1 .1 .1 .1 .1 .1 .1 .1 .1 .0
+abbrev μ-settle : Measures 12 settle-kinds.ps ℕ
+μ-settle κs a = a .1 .1 .1 .1 .1 .1 .1 .1 .1 .1 .1 .1 .1 .0
 
-abbrev settle-at : ℕ → In 8 settle-kinds.ps
-settle-at t = and 8 settle-kinds.ps (is 8 settle-kinds.ps μ-settle t) settle.Pre
+abbrev settle-at : ℕ → In 12 settle-kinds.ps
+settle-at t = and 12 settle-kinds.ps (is 12 settle-kinds.ps μ-settle t) settle.Pre
 
-abbrev settle-below : ℕ → In 8 settle-kinds.ps
-settle-below t = and 8 settle-kinds.ps (falls 8 settle-kinds.ps _<_ μ-settle t) settle.Pre
+abbrev settle-below : ℕ → In 12 settle-kinds.ps
+settle-below t = and 12 settle-kinds.ps (falls 12 settle-kinds.ps _<_ μ-settle t) settle.Pre
 
 abbrev callees : ℕ → lts.Claims
 callees t = (
@@ -38,11 +40,14 @@ callees t = (
 )
 
 abbrev Inv-loop : lts.InvT-loop
-Inv-loop points own ends reach limit has left₀ choice₀ d h e base kids some₀ i₀ left choice some i =
-    Settling points reach limit has left₀ choice₀ d left choice some i
+Inv-loop points own ends reach limit has left₀ choice₀ need₀ cs₀ fs₀ link₀ d h e base kids some₀ i₀ left choice need cs
+    fs link some i =
+    Settling points reach limit has left₀ choice₀ d left choice some i ×
+    Lent need₀ cs₀ fs₀ link₀ need cs fs link
 
 abbrev μ-loop : lts.MeasureT-loop
-μ-loop points own ends reach limit has left₀ choice₀ d h e base kids some₀ i₀ left choice some i =
+μ-loop points own ends reach limit has left₀ choice₀ need₀ cs₀ fs₀ link₀ d h e base kids some₀ i₀ left choice need cs
+    fs link some i =
     e - i
 
 module _ (t : ℕ) where
@@ -52,7 +57,7 @@ module _ (t : ℕ) where
   Start = lts.Start (callees t) (settle-at t) settle.Post Inv-loop μ-loop
 
   abbrev Known : Type 0
-  Known = lts.After-slice-known2 (callees t) (settle-at t) settle.Post Inv-loop μ-loop
+  Known = lts.After-slice-known6 (callees t) (settle-at t) settle.Post Inv-loop μ-loop
 
   abbrev Turn : Type 0
   Turn = lts.At-loop (callees t) (settle-at t) settle.Post Inv-loop μ-loop
@@ -70,7 +75,7 @@ module _ (t : ℕ) where
   Made = lts.After-make-row (callees t) (settle-at t) settle.Post Inv-loop μ-loop
 
   abbrev known : Known → Start
-  known c = c .before .before .before .before .before .before .before .before
+  known c = c .before .before .before .before .before .before .before .before .before .before .before .before
 
   abbrev turn : Turn → Start
   turn c = known (c .before .before .before)
@@ -79,20 +84,25 @@ module _ (t : ℕ) where
   inside c = c .before .before .before
 
   abbrev settled : Settled → Inside
-  settled c = c .before .before .before
+  settled c = c .before .before .before .before .before .before .before
 
   abbrev looked : Looked → Settled
-  looked c = c .before .before .before .before .before .before
+  looked c = c .before .before .before .before .before .before .before .before .before .before .before .before .before .before
 
   abbrev made : Made → Turn
-  made c = c .before .before .before .before
+  made c = c .before .before .before .before .before .before .before .before
 
   -- what the call has
   call
       : (c : Start)
       → Call (c .args .points .now) (c .args .own .now) (c .args .ends .now) (c .args .reach .now)
       (c .args .limit .now) (c .args .has .now) (c .args .left .now) (c .args .choice .now) (c .args .d) (c .args .h)
-  call c = called (c .pre .1)
+  call c = called (c .pre .1 .1)
+
+  -- the lists that the call is lent
+  lists
+      : (c : Start) → ListsRoom (c .args .need .now) (c .args .cs .now) (c .args .fs .now) (c .args .link .now)
+  lists c = c .pre .1 .0
 
   mul-e : lts.Need-mul-e (callees t) (settle-at t) settle.Post Inv-loop μ-loop
   mul-e c = let a = call (known c) in omega arith
@@ -116,37 +126,40 @@ module _ (t : ℕ) where
   add-i c = let a = call (known (c .before .before)) in omega arith
 
   loop-holds : lts.Need-loop-holds (callees t) (settle-at t) settle.Post Inv-loop μ-loop
-  loop-holds c = begin (call (known (c .before .before)))
+  loop-holds c = (begin (call (known (c .before .before))), lent-all)
 
   shared-slice-read-if1 : lts.Need-shared-slice-read-if1 (callees t) (settle-at t) settle.Post Inv-loop μ-loop
   shared-slice-read-if1 c = let a = call (turn (c .before .before)) in omega arith
 
   sub-settle : lts.Need-sub-settle (callees t) (settle-at t) settle.Post Inv-loop μ-loop
-  sub-settle c = let a = call (turn (inside (c .before .before))) in omega arith
+  sub-settle c = let a = call (turn (inside (c .before .before .before .before .before .before))) in omega arith
 
   settle-requires : lts.Need-settle-requires (callees t) (settle-at t) settle.Post Inv-loop μ-loop
   settle-requires c κs =
-      let i = c .before .before in
+      let i = c .before .before .before .before .before .before in
       let l = inside i in (
         omega (arith, turn l .pre .0, call (turn l) .low),
-        child-asked (call (turn l)) (l .loop .inv) (i .before .before .loop-test .taken) (i .if1 .taken),
+        (
+          lent-room (l .loop .inv .1) (lists (turn l)),
+          child-asked (call (turn l)) (l .loop .inv .0) (i .before .before .loop-test .taken) (i .if1 .taken),
+        ),
       )
 
   add-first : lts.Need-add-first (callees t) (settle-at t) settle.Post Inv-loop μ-loop
-  add-first c = let a = call (turn (inside (settled (c .before .before .before .before)))) in omega arith
+  add-first c = let a = call (turn (inside (settled (c .before .before .before .before .before .before .before .before .before .before .before .before)))) in omega arith
 
   add-first-2 : lts.Need-add-first-2 (callees t) (settle-at t) settle.Post Inv-loop μ-loop
-  add-first-2 c = let a = call (turn (inside (settled (c .before .before .before .before)))) in omega arith
+  add-first-2 c = let a = call (turn (inside (settled (c .before .before .before .before .before .before .before .before .before .before .before .before)))) in omega arith
 
   mul-first : lts.Need-mul-first (callees t) (settle-at t) settle.Post Inv-loop μ-loop
-  mul-first c = let a = call (turn (inside (settled (c .before .before .before .before)))) in omega arith
+  mul-first c = let a = call (turn (inside (settled (c .before .before .before .before .before .before .before .before .before .before .before .before)))) in omega arith
 
   slice-read-first : lts.Need-slice-read-first (callees t) (settle-at t) settle.Post Inv-loop μ-loop
   slice-read-first c =
-      let k = c .before .before .before .before .before in
+      let k = c .before .before .before .before .before .before .before .before .before .before .before .before .before in
       let l = inside (settled k) in
       let a = call (turn l) in
-      omega (arith, k .settle .kept .1 .1 .1 .1 .1 .1 .0, l .loop .inv .left-length)
+      omega (arith, k .settle .kept .1 .1 .1 .1 .1 .1 .0, l .loop .inv .0 .left-length)
 
   first-or-requires : lts.Need-first-or-requires (callees t) (settle-at t) settle.Post Inv-loop μ-loop
   first-or-requires c κs = search needs
@@ -162,14 +175,14 @@ module _ (t : ℕ) where
       let i = settled (looked (c .before)) in
       let l = inside i in
       let a = call (turn l) in
-      omega (arith, child-short a (l .loop .inv) (i .before .before .loop-test .taken) (i .if1 .taken))
+      omega (arith, child-short a (l .loop .inv .0) (i .before .before .loop-test .taken) (i .if1 .taken))
 
   loop-less : lts.Need-loop-less (callees t) (settle-at t) settle.Post Inv-loop μ-loop
   loop-less c =
       let i = settled (looked (c .before)) in
       let l = inside i in
       let more = i .before .before .loop-test .taken in
-      omega (arith, child-long (call (turn l)) (l .loop .inv) more (i .if1 .taken), more)
+      omega (arith, child-long (call (turn l)) (l .loop .inv .0) more (i .if1 .taken), more)
 
   loop-again : lts.Need-loop-again (callees t) (settle-at t) settle.Post Inv-loop μ-loop
   loop-again c =
@@ -177,8 +190,16 @@ module _ (t : ℕ) where
       let i = settled k in
       let l = inside i in
       let s = k .settle in
-      on-child (call (turn l)) (l .loop .inv) (i .before .before .loop-test .taken) (i .if1 .taken)
-      (s .kept .1 .1 .1 .1 .1 .1 .0) (s .kept .1 .1 .1 .1 .1 .1 .1 .0) (s .ensures) (c .before .first-or .ensures)
+      let n = s .kept .1 .1 .1 .1 .1 .1 in (
+        on-child (call (turn l)) (l .loop .inv .0) (i .before .before .loop-test .taken) (i .if1 .taken) (n .0)
+            (n .1 .0) (s .ensures) (c .before .first-or .ensures),
+        lent-on (l .loop .inv .1) record {
+          need-length = n .1 .1 .0;
+          cs-length = n .1 .1 .1 .0;
+          fs-length = n .1 .1 .1 .1 .0;
+          link-length = n .1 .1 .1 .1 .1 .0;
+        },
+      )
 
   add-i-3 : lts.Need-add-i-3 (callees t) (settle-at t) settle.Post Inv-loop μ-loop
   add-i-3 c = let a = call (turn (c .before .before .before)) in omega arith
@@ -189,28 +210,50 @@ module _ (t : ℕ) where
   loop-again-2 : lts.Need-loop-again-2 (callees t) (settle-at t) settle.Post Inv-loop μ-loop
   loop-again-2 c =
       let l = c .before .before .before in
-      on-plain (call (turn l)) (l .loop .inv) (c .before .before .loop-test .taken) (c .if1 .left)
+      (on-plain (call (turn l)) (l .loop .inv .0) (c .before .before .loop-test .taken) (c .if1 .left), l .loop .inv .1)
 
   make-row-requires : lts.Need-make-row-requires (callees t) (settle-at t) settle.Post Inv-loop μ-loop
   make-row-requires c κs =
-      let l = c .before .before .before in
-      row-room (call (turn l)) (l .loop .inv) (omega (arith, c .before .before .loop-test))
+      let l = c .before .before .before .before .before .before .before in (
+        row-room (call (turn l)) (l .loop .inv .0) (omega (arith, c .before .before .before .before .before .before .loop-test)),
+        lent-room (l .loop .inv .1) (lists (turn l)),
+      )
 
   same-length : lts.Need-same-length (callees t) (settle-at t) settle.Post Inv-loop μ-loop
   same-length c =
-      let m = c .before .before .before .before in
-      m .make-row .kept .1 .1 .1 .1 .0 ∙ made m .loop .inv .left-length
+      let m = c .before .before .before .before .before .before .before .before .before .before .before .before in
+      m .make-row .kept .1 .1 .1 .1 .0 ∙ made m .loop .inv .0 .left-length
 
   same-length-2 : lts.Need-same-length-2 (callees t) (settle-at t) settle.Post Inv-loop μ-loop
   same-length-2 c =
-      let m = c .before .before .before .before in
-      m .make-row .kept .1 .1 .1 .1 .1 .0 ∙ made m .loop .inv .choice-length
+      let m = c .before .before .before .before .before .before .before .before .before .before .before .before in
+      m .make-row .kept .1 .1 .1 .1 .1 .0 ∙ made m .loop .inv .0 .choice-length
+
+  same-length-3 : lts.Need-same-length-3 (callees t) (settle-at t) settle.Post Inv-loop μ-loop
+  same-length-3 c =
+      let m = c .before .before .before .before .before .before .before .before .before .before .before .before in
+      m .make-row .kept .1 .1 .1 .1 .1 .1 .0 ∙ made m .loop .inv .1 .need-length
+
+  same-length-4 : lts.Need-same-length-4 (callees t) (settle-at t) settle.Post Inv-loop μ-loop
+  same-length-4 c =
+      let m = c .before .before .before .before .before .before .before .before .before .before .before .before in
+      m .make-row .kept .1 .1 .1 .1 .1 .1 .1 .0 ∙ made m .loop .inv .1 .cs-length
+
+  same-length-5 : lts.Need-same-length-5 (callees t) (settle-at t) settle.Post Inv-loop μ-loop
+  same-length-5 c =
+      let m = c .before .before .before .before .before .before .before .before .before .before .before .before in
+      m .make-row .kept .1 .1 .1 .1 .1 .1 .1 .1 .0 ∙ made m .loop .inv .1 .fs-length
+
+  same-length-6 : lts.Need-same-length-6 (callees t) (settle-at t) settle.Post Inv-loop μ-loop
+  same-length-6 c =
+      let m = c .before .before .before .before .before .before .before .before .before .before .before .before in
+      m .make-row .kept .1 .1 .1 .1 .1 .1 .1 .1 .1 .0 ∙ made m .loop .inv .1 .link-length
 
   returns : lts.Need-returns (callees t) (settle-at t) settle.Post Inv-loop μ-loop
   returns c =
-      let m = c .before .before .before .before in
+      let m = c .before .before .before .before .before .before .before .before .before .before .before .before in
       let l = made m in
-      done (call (turn l)) (l .loop .inv) (omega (arith, m .before .before .before .loop-test)) (m .make-row .ensures)
+      done (call (turn l)) (l .loop .inv .0) (omega (arith, m .before .before .before .before .before .before .before .loop-test)) (m .make-row .ensures)
 
 pub +settle-spec : {M : Type 1} → statement M
 +settle-spec = close μ-settle λ t. lts.spec (callees t)
@@ -245,4 +288,8 @@ pub +settle-spec : {M : Type 1} → statement M
     (make-row-requires t)
     (same-length t)
     (same-length-2 t)
+    (same-length-3 t)
+    (same-length-4 t)
+    (same-length-5 t)
+    (same-length-6 t)
     (returns t)
