@@ -10,7 +10,6 @@ import fcntl
 import os
 import tempfile
 from collections.abc import Iterable, Iterator
-from typing import NoReturn
 
 from office.chain import Chain, Event, Reader, now
 from office.command import Fault, mention, printable
@@ -101,35 +100,34 @@ class Logbook:
         self.kept = self.chain.end
 
     def write(self, data: bytes) -> None:
-        """Writes behind what is kept; again, where another program has written into the file meanwhile."""
+        """Writes behind what is kept; again, where another program has written into the file meanwhile. A write that
+        fails leaves nothing there, if the disk can still do that."""
         for _ in range(TRIES):
             self.mend()
-            self.append(data)
-            if self.copy.is_before(data, self.opened):
+            try:
+                write_at(self.opened, data, self.length)
+                os.fsync(self.opened)
+                alone = self.copy.is_before(data, self.opened)
+            except OSError:
+                self.take_back()
+                raise
+            if alone:
                 break
-            self.clean = False
+            self.take_back()
         else:
-            self.cut_or_not_known(OSError(errno.EBUSY, MEDDLED))
+            raise OSError(errno.EBUSY, MEDDLED)
         self.length += len(data)
         self.copy.add(data)
         with contextlib.suppress(OSError):
             self.seen = os.fstat(self.opened).st_mtime_ns
 
-    def append(self, data: bytes) -> None:
-        """Has the disk take the data. A write that fails leaves nothing there, if the disk can still do that."""
-        try:
-            write_at(self.opened, data, self.length)
-            os.fsync(self.opened)
-        except OSError as fault:
-            self.cut_or_not_known(fault)
-
-    def cut_or_not_known(self, fault: OSError) -> NoReturn:
+    def take_back(self) -> None:
+        """Cuts off what was just written. Where that fails, nobody knows what the disk has."""
         self.clean = False
         try:
             self.cut()
-        except OSError as again:
-            raise NotKnown(*again.args) from fault
-        raise fault
+        except OSError as fault:
+            raise NotKnown(*fault.args) from fault
 
     # ---- The file stays ours, and clean
 
@@ -201,8 +199,10 @@ class Logbook:
     def close(self) -> None:
         """Gives the folder free, with the log in its place. One that was never begun leaves nothing behind."""
         if self.begun:
-            with contextlib.suppress(OSError):
+            try:
                 self.mend()
+            except OSError as fault:
+                mention(str(self.unable(fault)))
         self.copy.close()
         for opened in (self.opened, self.locked):
             with contextlib.suppress(OSError):

@@ -7,8 +7,9 @@ from office.command import Fault
 from outside.trying import Tally
 
 GOOD = 'abcd-efgh-jkmn-pqrs'
-NAMES = ['प्रिया शर्मा', 'สมชาย ใจดี', 'مُحَمَّد', 'José', 'O’Brien', "O'Brien", 'Gal·la', 'Müller, Hans', 'Łukasz Żółć', '李明',
-         'Jean-Luc (B)', 'می‌خواهم', 'Nguyễn Thị Ánh', 'Özge K.']
+NAMES = ['प्रिया शर्मा', 'สมชาย ใจดี', 'مُحَمَّد', 'José', 'O’Brien', "O'Brien", 'Gal·la',
+         'Müller, Hans', 'Łukasz Żółć',
+         '李明', 'Jean-Luc (B)', 'می‌خواهم', 'Nguyễn Thị Ánh', 'Özge K.']
 
 
 def said(read: object, *told: object) -> object:

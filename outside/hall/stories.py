@@ -41,7 +41,8 @@ def a_day(tally: Tally, hall: Hall) -> None:
 
 
 def told_again(tally: Tally, folder: pathlib.Path) -> None:
-    hall = Hall(folder / 'story', EXAMPLES['p'], ['anna', 'bert'], listed='id,name\nanna,"Ávila, Anna"\nbert,\n').start()
+    hall = Hall(folder / 'story', EXAMPLES['p'], ['anna', 'bert'], listed='id,name\nanna,"Ávila, Anna"\nbert,\n')
+    hall.start()
     a_day(tally, hall)
     story = DESK, 'story', hall.answers
     for where in ('while it is open', 'afterwards'):
