@@ -36,8 +36,9 @@ def a_day(tally: Tally, hall: Hall) -> None:
     hall.start()
     anna = Candidate(hall, 'anna')
     anna.move('take back')
-    tally.check('handed in', anna.ask('/hand-in', 'hand in 3')[1]['handed_in'])
-    tally.check('left', status(raw(hall.port, request(hall, 'POST', '/leave'))) == 303)
+    tally.check('handed in', anna.hand_in()[1]['handed_in'])
+    page = f'sitting={hall.whose("anna")["Sitting"]}'.encode()
+    tally.check('left', status(raw(hall.port, request(hall, 'POST', '/leave', page))) == 303)
 
 
 def told_again(tally: Tally, folder: pathlib.Path) -> None:
