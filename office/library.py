@@ -122,7 +122,7 @@ class Desk:
     def standing(self) -> Standing:
         """All that a page shows of the sitting."""
         now, nest = given(library().desk_standing(self.held)), self.held.nest
-        counts = {d: now.counts[d] for d, kind in enumerate(nest.points[:nest.count]) if kind == DO}
+        counts = {d: now.counts[d] for d, kind in enumerate(bytes(nest.points)[:nest.count]) if kind == DO}
         return Standing(members(now.placement), counts, bytes(now.cuts)[:nest.many], now.uncut)
 
     def shape(self) -> Shape:
@@ -207,7 +207,8 @@ def given(reply: ctypes.Structure) -> ctypes.Structure:
 
 def members(chosen: ctypes.Structure) -> list[int]:
     """The gaps of a set of them, or the DOs of its loops, rising."""
-    return [64 * i + bit for i, word in enumerate(chosen.words) for bit in range(64) if word >> bit & 1]
+    bits = f'{int.from_bytes(bytes(chosen), sys.byteorder):b}'
+    return [place for place, bit in enumerate(reversed(bits)) if bit == '1']
 
 
 @functools.cache
