@@ -59,7 +59,7 @@ ending
     Ending (called (c .before .before) .args .points .now) e (getD (c .before .before .before .before .before .before .before .owners-of .result) e 0)
 ending c =
     record {
-      ends = c .if1 .taken;
+      ends = omega (arith, c .if1 .taken);
       owner = c .before .before .before .before .before .before .before .owners-of .ensures (c .before .before .before .loop .e) (c .before .before .loop-test .taken);
     }
 
@@ -136,7 +136,7 @@ loop-less-5 : tie.Need-loop-less-5 Inv-loop μ-loop
 loop-less-5 c = omega (arith, c .before .before .loop-test .taken)
 
 loop-again-5 : tie.Need-loop-again-5 Inv-loop μ-loop
-loop-again-5 c = by-other (turn (c .before .before)) (c .if1 .left)
+loop-again-5 c = by-other (turn (c .before .before)) (λ q. omega (arith, c .if1 .left, q))
 
 returns : tie.Need-returns Inv-loop μ-loop
 returns c =
