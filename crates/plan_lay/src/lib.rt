@@ -16,10 +16,10 @@ pub fn lay(
     points: &[u8],
     own: &[usize],
     ends: &[usize],
-    reach: &[usize],
-    limit: &[usize],
-    left: &[usize],
-    choice: &[usize],
+    reach: &[u16],
+    limit: &[u16],
+    left: &[u16],
+    choice: &[u16],
     need: &mut [usize],
     d: usize,
     q: usize,
@@ -43,7 +43,7 @@ pub fn lay(
         return key;
     }
     let e = ends[d];
-    let last = choice[base + q];
+    let last = choice[base + q] as usize;
     plan_rows::copy_row(reach, base, d, e, need);
     need[last] = plan_sweeps::smaller(need[last], e);
     let mut k = key;
@@ -82,7 +82,7 @@ pub fn lay(
             p = before;
         }
     }
-    put_where(k, limit[base + last], f, d + 1)
+    put_where(k, limit[base + last] as usize, f, d + 1)
 }
 
 // The placement with gap g as well where a is below b.

@@ -19,12 +19,13 @@ pub fn plan(nest: Nest) -> Placement
 {
     // n is above every gap. A filling with a variable is no call of memset.
     let n = nest.count;
+    let high = n as u16;
     let mut own = [0; ROW];
     let mut ends = [0; ROW];
     let mut heights = [0; ROW];
     let mut has = [0; ROW];
-    let mut reach = [n; TABLE];
-    let mut limit = [n; TABLE];
+    let mut reach = [high; TABLE];
+    let mut limit = [high; TABLE];
     plan_tables::prepare(
         nest,
         &mut own,
@@ -36,8 +37,9 @@ pub fn plan(nest: Nest) -> Placement
     );
     let points = nest.points;
     // Here every entry is written before it is read.
-    let mut left = [n; TABLE];
-    let mut choice = [n; TABLE];
+    let mut left = [high; TABLE];
+    let mut choice = [high; TABLE];
+    // The lists that the rows are made in, and the row that is swept.
     let mut need = [0; ROW];
     let mut cs = [0; ROW];
     let mut fs = [0; ROW];

@@ -92,6 +92,7 @@ module _
                 left-room = omega (arith, room .left-room);
               };
           long = room .long;
+          short = room .short;
           cs-room = cs-room;
           fs-room = fs-room;
           link-room = link-room;

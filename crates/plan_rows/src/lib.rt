@@ -1,6 +1,7 @@
 // The row of one loop: its values for each suffix, and from them the fronts and choices.
 use plan_starts::Front;
-ghost use Prim.Native.Nat.{_+_, _<_};
+ghost use mathlib.Core.Path.{_≡_};
+ghost use Prim.Native.Nat.{_+_, _<_, min};
 ghost use lib.ListN.{length};
 ghost use Rattle.plan_starts.specs.Grounds.{Kept};
 ghost use Rattle.plan_rows.specs.Valued.{CloseSays, CeilingSays, ClosedSays, FrontsIn, ValuesRoom};
@@ -14,14 +15,14 @@ pub const ROW: usize = 256;
 pub fn make_row(
     points: &[u8],
     own: &[usize],
-    reach: &[usize],
-    limit: &[usize],
-    left: &mut [usize],
-    choice: &mut [usize],
+    reach: &[u16],
+    limit: &[u16],
+    left: &mut [u16],
+    choice: &mut [u16],
     need: &mut [usize],
-    cs: &mut [usize],
-    fs: &mut [usize],
-    link: &mut [usize],
+    cs: &mut [u16],
+    fs: &mut [u16],
+    link: &mut [u16],
     base: usize,
     d: usize,
     e: usize,
@@ -45,7 +46,7 @@ pub fn make_row(
 }
 
 // The entries from d + 1 to e of the row that starts at base.
-pub fn copy_row(from: &[usize], base: usize, d: usize, e: usize, xs: &mut [usize])
+pub fn copy_row(from: &[u16], base: usize, d: usize, e: usize, xs: &mut [usize])
     requires { ⌜ base + e < length (now from) ⌝ }
     requires { ⌜ e < length (now xs) ⌝ }
     requires { ⌜ d < e ⌝ }
@@ -55,13 +56,13 @@ pub fn copy_row(from: &[usize], base: usize, d: usize, e: usize, xs: &mut [usize
     let mut p = d;
     while p < e {
         let q = p + 1;
-        xs[q] = from[base + q];
+        xs[q] = from[base + q] as usize;
         p = q;
     }
 }
 
 // The same entries set to 0.
-fn clear(xs: &mut [usize], base: usize, d: usize, e: usize)
+fn clear(xs: &mut [u16], base: usize, d: usize, e: usize)
     requires { ⌜ base + e < length (now xs) ⌝ }
     requires { ⌜ d < e ⌝ }
     ensures { λ r. ⌜ Cleared (now (xs .entry)) (now (xs .exit)) base d e ⌝ }
@@ -76,17 +77,17 @@ fn clear(xs: &mut [usize], base: usize, d: usize, e: usize)
 
 // The leftmost front so far, 0 for none, and the suffix that gives it.
 pub struct Leftmost {
-    pub f: usize,
-    pub at: usize,
+    pub f: u16,
+    pub at: u16,
 }
 
 // The fronts of the suffixes from e down to d + 1 with m barriers, and where they come from, into the loop's row.
 fn choose(
-    cs: &[usize],
-    fs: &[usize],
-    m: usize,
-    left: &mut [usize],
-    choice: &mut [usize],
+    cs: &[u16],
+    fs: &[u16],
+    m: u16,
+    left: &mut [u16],
+    choice: &mut [u16],
     base: usize,
     d: usize,
     e: usize,
@@ -96,6 +97,7 @@ fn choose(
     requires { ⌜ base + e < length (now left) ⌝ }
     requires { ⌜ base + e < length (now choice) ⌝ }
     requires { ⌜ d < e ⌝ }
+    requires { ⌜ e < 256 ⌝ }
     ensures { λ r. ⌜ ChooseSays (now (cs .entry)) (now (fs .entry)) m
         (now (left .exit)) (now (choice .exit)) base d e ⌝ }
     ensures { λ r. ⌜ Kept (now (left .entry)) (now (left .exit)) (base + d) (base + e) ⌝ }
@@ -105,7 +107,7 @@ fn choose(
     let mut at = 0;
     let mut q = e;
     while d < q {
-        let best = better(f, at, m, q, cs[q], fs[q]);
+        let best = better(f, at, m, q as u16, cs[q], fs[q]);
         f = best.f;
         at = best.at;
         left[base + q] = f;
@@ -115,7 +117,7 @@ fn choose(
 }
 
 // The front so far, or that of the suffix q where it has m barriers and its front is no further right.
-fn better(f: usize, at: usize, m: usize, q: usize, c: usize, here: usize) -> Leftmost
+fn better(f: u16, at: u16, m: u16, q: u16, c: u16, here: u16) -> Leftmost
     ensures { λ r. ⌜ BetterSays f at m q c here (r .f) (r .at) ⌝ }
 {
     if c == m {
@@ -133,14 +135,14 @@ fn better(f: usize, at: usize, m: usize, q: usize, c: usize, here: usize) -> Lef
 // barriers among them. The sweep for q starts at q, or at `first` if that lies further right: before it all have the
 // barriers of `first`, or one more.
 fn values(
-    limit: &[usize],
+    limit: &[u16],
     base: usize,
     d: usize,
     e: usize,
     first: usize,
-    cs: &mut [usize],
-    fs: &mut [usize],
-) -> usize
+    cs: &mut [u16],
+    fs: &mut [u16],
+) -> u16
     requires { ⌜ ValuesRoom (now limit) base d e first (now cs) (now fs) ⌝ }
     ensures { λ r. ⌜ ClosedSays (now (limit .entry)) base d e first (now (cs .entry)) (now (fs .entry))
         (now (cs .exit)) (now (fs .exit)) e r ⌝ }
@@ -159,7 +161,7 @@ fn values(
             p = q;
         } else {
             cs[q] = c + 1;
-            fs[q] = d + 1;
+            fs[q] = (d + 1) as u16;
             p = q;
         }
     }
@@ -168,7 +170,7 @@ fn values(
         let v = closed(cs[q], fs[q], limit[base + q], d);
         cs[q] = v.c;
         fs[q] = v.f;
-        m = plan_sweeps::smaller(m, v.c);
+        m = fewer(m, v.c);
         p = q;
     }
     m
@@ -176,7 +178,7 @@ fn values(
 
 // No less than the barriers of the first value: one more than those of `first` where it is read there, else more than
 // there are gaps.
-fn ceiling(c: usize, d: usize, e: usize, first: usize) -> usize
+fn ceiling(c: u16, d: usize, e: usize, first: usize) -> u16
     requires { ⌜ (d + 1 < first → c < 256) ⌝ }
     requires { ⌜ d < e ⌝ }
     requires { ⌜ e < 256 ⌝ }
@@ -185,11 +187,11 @@ fn ceiling(c: usize, d: usize, e: usize, first: usize) -> usize
     if d + 1 < first {
         return c + 1;
     }
-    e + 1
+    (e + 1) as u16
 }
 
 // A sweep's barriers and front, with a barrier right after the DO where the front lies beyond the limit.
-fn closed(c: usize, f: usize, limit: usize, d: usize) -> Front
+fn closed(c: u16, f: u16, limit: u16, d: usize) -> Front
     requires { ⌜ c < 256 ⌝ }
     requires { ⌜ d < 256 ⌝ }
     ensures { λ r. ⌜ CloseSays d limit c f (r .c) (r .f) ⌝ }
@@ -197,5 +199,15 @@ fn closed(c: usize, f: usize, limit: usize, d: usize) -> Front
     if f <= limit {
         return Front { c: c, f: f };
     }
-    Front { c: c + 1, f: d + 1 }
+    Front {
+        c: c + 1,
+        f: (d + 1) as u16,
+    }
+}
+
+// The smaller of two numbers of barriers.
+fn fewer(a: u16, b: u16) -> u16
+    ensures { λ r. ⌜ r ≡ min a b ⌝ }
+{
+    if b < a { b } else { a }
 }

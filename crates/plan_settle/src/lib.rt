@@ -10,15 +10,15 @@ pub fn settle(
     points: &[u8],
     own: &[usize],
     ends: &[usize],
-    reach: &[usize],
-    limit: &[usize],
+    reach: &[u16],
+    limit: &[u16],
     has: &[usize],
-    left: &mut [usize],
-    choice: &mut [usize],
+    left: &mut [u16],
+    choice: &mut [u16],
     need: &mut [usize],
-    cs: &mut [usize],
-    fs: &mut [usize],
-    link: &mut [usize],
+    cs: &mut [u16],
+    fs: &mut [u16],
+    link: &mut [u16],
     d: usize,
     h: usize,
 )
@@ -53,7 +53,7 @@ pub fn settle(
                 i,
                 h - 1,
             );
-            let first = left[kids + (i + 1)];
+            let first = left[kids + (i + 1)] as usize;
             some = plan_sweeps::first_or(first, some);
             i = ends[i] + 1;
         } else {

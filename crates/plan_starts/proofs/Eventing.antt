@@ -188,6 +188,7 @@ module _
               let k = ground .child p (omega arith) (s .bound) i in
               record {
                 short = k .short;
+                narrow = omega (arith, s .bound .high, room .short);
                 need-room = omega (arith, s .bound .high, room .sweep-room .need-room);
                 left-room = omega (arith, s .bound .high, room .sweep-room .left-room);
                 cs-room = omega (arith, s .bound .high, room .cs-room, s .cs-length);

@@ -1,7 +1,8 @@
 -- The events of a loop inside, gap by gap from the right. The fronts lie further left than the gaps, so that the links
 -- are joined to the events at the end.
--- Main definition: `Filling`. Main statements: `outer-is`, `filling-none`, `filling-more`, `filled`.
-use mathlib.Core.Path.{_≡_, refl, _∙_}
+-- Main definition: `Filling`. Main statements: `outer-is`, `filling-none`, `filling-more`, `filling-after`,
+-- `rebased`, `room-on`, `said-on`, `filled`.
+use mathlib.Core.Path.{_≡_, refl, sym, _∙_}
 use mathlib.Core.List.{List}
 use Prim.Native.Nat.{ℕ, suc, _+_, _-_, _≤_, _<_, min}
 use native.Mathlib.Numerals.{add-one}
@@ -18,7 +19,7 @@ use Rattle.plan_sweeps.specs.Listed.{row}
 use Rattle.plan_starts.specs.Grounds.{Kept}
 use Rattle.plan_starts.specs.Started.{costAt, frontAt, Late, ChildRoom, ChildSays}
 use Rattle.plan_starts.proofs.Seeks.{seek-skip, seek-late}
-use Rattle.plan_starts.proofs.Happenings.{cost-one, front-within}
+use Rattle.plan_starts.proofs.Happenings.{cost-outer, front-outer, cost-one, front-within}
 
 -- one more store, from the right
 pub kept-down : (xs ys : List ℕ) (x high v : ℕ) → 0 < x → x ≤ high → Kept xs ys x high →
@@ -108,6 +109,52 @@ module _
           above : (y : ℕ) → x - 1 < y → (y ≡ x → ⊥) → x < y
           above y i z = lt-by λ j. z (omega arith)
 
+      -- what follows may be told of the lists as they stand
+      pub rebased : Filling need left kids d l p cs fs link cs fs link a x
+      rebased =
+          record {
+            low = s .low;
+            high = s .high;
+            cs-length = refl;
+            fs-length = refl;
+            link-length = refl;
+            cost-is = s .cost-is;
+            front-is = s .front-is;
+            link-is = s .link-is;
+            cs-kept = λ i h. refl;
+            fs-kept = λ i h. refl;
+            link-kept = λ i h. refl;
+            late = s .late;
+            last-high = s .last-high;
+          }
+
+      pub room-on : ChildRoom need left kids d l p cs fs link a₀
+      room-on =
+          record {
+            short = room .short;
+            narrow = room .narrow;
+            need-room = room .need-room;
+            left-room = room .left-room;
+            cs-room = omega (arith, s .cs-length, room .cs-room);
+            fs-room = omega (arith, s .fs-length, room .fs-room);
+            link-room = omega (arith, s .link-length, room .link-room);
+            fronts = room .fronts;
+            late = room .late;
+          }
+
+      pub said-on
+          : {cs′ fs′ link′ : List ℕ} {b : ℕ}
+          → ChildSays need left kids d l p cs fs link cs′ fs′ link′ b
+          → ChildSays need left kids d l p cs₀ fs₀ link₀ cs′ fs′ link′ b
+      said-on t =
+          record {
+            events = t .events;
+            cs-kept = λ i h. t .cs-kept i h ∙ s .cs-kept i (λ j. h (omega (arith, s .low)));
+            fs-kept = λ i h. t .fs-kept i h ∙ s .fs-kept i (λ j. h (omega (arith, s .low)));
+            link-kept = λ i h. t .link-kept i h ∙ s .link-kept i (λ j. h (omega (arith, s .low)));
+            late = t .late;
+          }
+
       pub filled : x ≤ l → ChildSays need left kids d l p cs₀ fs₀ link₀ cs fs link a
       filled h =
           let e : x ≡ l = omega (arith, s .low) in
@@ -128,3 +175,18 @@ module _
             link-kept = t .link-kept;
             late = t .late;
           }
+
+    -- the gap after the loop
+    pub filling-after
+        : {f a b : ℕ}
+        → f ≡ firstOf (row left kids (suc l)) (suc p)
+        → a ≡ min a₀ l
+        → b ≡ seek (at need) (p + 1) d a
+        → Filling need left kids d l p cs₀ fs₀ link₀ (set cs₀ (p + 1) 1) (set fs₀ (p + 1) f) (set link₀ (p + 1) b) b p
+    filling-after {f} fi ai bi =
+        let z : p + 1 - 1 ≡ p = omega arith in
+        let c : 1 ≡ costAt (row left kids) p (p + 1) =
+        sym (cost-outer (row left kids) l p (p + 1) (λ h. absurd (omega arith))) in
+        let o : f ≡ frontAt (row left kids) l p (p + 1) =
+        fi ∙ sym (front-outer (row left kids) l p (p + 1) (λ h. absurd (omega arith))) in
+        rw z at (filling-more (filling-none ai) (omega (arith, room .short)) c o bi)

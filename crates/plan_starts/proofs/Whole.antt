@@ -57,6 +57,7 @@ module _
     follow-room cs-same fs-same link-same =
         record {
           long = room .long;
+          short = room .short;
           cs-room = omega (arith, room .cs-room, length-set cs 0 0, cs-same);
           fs-room = omega (arith, room .fs-room, length-set fs 0 0, fs-same);
           link-room = omega (arith, room .link-room, link-same);

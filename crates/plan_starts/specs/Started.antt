@@ -36,6 +36,10 @@ frontOr left p x outer = pick (leb x p && ltb 0 (left x)) (left x) outer
 abbrev pub frontAt : (ℕ → ℕ) → ℕ → ℕ → ℕ → ℕ
 frontAt left l p x = frontOr left p x (firstOf (left (suc l)) (suc p))
 
+-- the event at a gap x of a loop, whatever its ENDDO
+abbrev pub EventSays : (ℕ → ℕ) → ℕ → ℕ → ℕ → ℕ → Type 0
+EventSays left x outer c f = (p : ℕ) → x ≤ p → (c ≡ costAt left p x) × (f ≡ frontOr left p x outer)
+
 -- what `mark` writes for the gap after a DO
 abbrev pub endAfter : ℕ → ℕ → ℕ → ℕ → ℕ → ℕ
 endAfter owner d p first end = pick (ltb d p && (eqb owner d && ltb 0 first)) 0 end
@@ -89,6 +93,7 @@ pub record ChildSays (need left : List ℕ) (kids d l p : ℕ) (cs fs link cs′
 -- room for them; their fronts, and the last start found so far
 pub record ChildRoom (need left : List ℕ) (kids d l p : ℕ) (cs fs link : List ℕ) (a : ℕ) : Type 0 where
   pub short : l < p
+  pub narrow : suc p < 256
   pub need-room : suc p < length need
   pub left-room : kids + suc p < length left
   pub cs-room : suc p < length cs
@@ -155,6 +160,7 @@ pub record StartsSay (ps own need left : List ℕ) (kids d e : ℕ) (cs fs : Lis
 pub record StartsRoom (ps own need left : List ℕ) (kids d e : ℕ) (cs fs link : List ℕ) : Type 0 where
   pub sweep-room : SweepRoom ps own need left kids e
   pub long : d < e
+  pub short : e < 256
   pub cs-room : e < length cs
   pub fs-room : e < length fs
   pub link-room : e < length link
@@ -171,6 +177,7 @@ pub record MarkRoom (ps own reach : List ℕ) (base : ℕ) (left : List ℕ) (ki
 -- events that can be followed
 pub record FollowRoom (d e : ℕ) (link cs fs : List ℕ) : Type 0 where
   pub long : d < e
+  pub short : e < 256
   pub cs-room : e < length cs
   pub fs-room : e < length fs
   pub link-room : e < length link

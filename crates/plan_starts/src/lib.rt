@@ -5,17 +5,18 @@
 ghost use mathlib.Core.Path.{_≡_};
 ghost use Prim.Native.Nat.{_+_, _<_};
 ghost use lib.ListN.{length};
+ghost use Rattle.laws.specs.Choice.{firstOf};
 ghost use Rattle.laws.specs.Entries.{at};
 ghost use Rattle.plan_method.specs.Sweep.{seek};
 ghost use Rattle.plan_sweeps.specs.Listed.{row};
 ghost use Rattle.plan_starts.specs.Grounds.{Ground};
-ghost use Rattle.plan_starts.specs.Started.{Marked, endAfter, costAt, frontOr, EventsSay, Followed, StartsSay};
+ghost use Rattle.plan_starts.specs.Started.{Marked, endAfter, EventSays, EventsSay, Followed, StartsSay};
 ghost use Rattle.plan_starts.specs.Started.{MarkRoom, ChildRoom, ChildSays, FollowRoom, StartsRoom};
 
 // Own barriers, and the leftmost barrier.
 pub struct Front {
-    pub c: usize,
-    pub f: usize,
+    pub c: u16,
+    pub f: u16,
 }
 
 // The ends of the lines that start at each gap; 0 at the first gap of a loop inside that holds barriers, which is a
@@ -23,9 +24,9 @@ pub struct Front {
 pub fn mark(
     points: &[u8],
     own: &[usize],
-    reach: &[usize],
+    reach: &[u16],
     base: usize,
-    left: &[usize],
+    left: &[u16],
     kids: usize,
     d: usize,
     e: usize,
@@ -39,9 +40,15 @@ pub fn mark(
     while p < e {
         let q = p + 1;
         if points[p] == paper_nests::DO {
-            need[q] = end_after(own[p], d, p, left[kids + q], reach[base + q]);
+            need[q] = end_after(
+                own[p],
+                d,
+                p,
+                left[kids + q] as usize,
+                reach[base + q] as usize,
+            );
         } else {
-            need[q] = reach[base + q];
+            need[q] = reach[base + q] as usize;
         }
         p = q;
     }
@@ -52,13 +59,13 @@ pub fn follow_all(
     points: &[u8],
     own: &[usize],
     need: &[usize],
-    left: &[usize],
+    left: &[u16],
     kids: usize,
     d: usize,
     e: usize,
-    cs: &mut [usize],
-    fs: &mut [usize],
-    link: &mut [usize],
+    cs: &mut [u16],
+    fs: &mut [u16],
+    link: &mut [u16],
 ) -> usize
     requires { ⌜ StartsRoom (now points) (now own) (now need) (now left) kids d e (now cs) (now fs) (now link) ⌝ }
     requires { ⌜ Ground (now points) (now own) (now left) kids d e ⌝ }
@@ -92,14 +99,14 @@ fn events(
     points: &[u8],
     own: &[usize],
     need: &[usize],
-    left: &[usize],
+    left: &[u16],
     kids: usize,
     d: usize,
     e: usize,
     first: usize,
-    cs: &mut [usize],
-    fs: &mut [usize],
-    link: &mut [usize],
+    cs: &mut [u16],
+    fs: &mut [u16],
+    link: &mut [u16],
 )
     requires { ⌜ StartsRoom (now points) (now own) (now need) (now left) kids d e (now cs) (now fs) (now link) ⌝ }
     requires { ⌜ Ground (now points) (now own) (now left) kids d e ⌝ }
@@ -118,8 +125,8 @@ fn events(
         } else {
             a = plan_sweeps::last_need(need, p, d, plan_sweeps::smaller(a, before));
             cs[p] = 1;
-            fs[p] = p;
-            link[p] = a;
+            fs[p] = p as u16;
+            link[p] = a as u16;
             p = before;
         }
     }
@@ -128,51 +135,52 @@ fn events(
 // Those of the child l with its ENDDO p and of the gap after it.
 fn events_child(
     need: &[usize],
-    left: &[usize],
+    left: &[u16],
     kids: usize,
     d: usize,
     l: usize,
     p: usize,
     last: usize,
-    cs: &mut [usize],
-    fs: &mut [usize],
-    link: &mut [usize],
+    cs: &mut [u16],
+    fs: &mut [u16],
+    link: &mut [u16],
 ) -> usize
     requires { ⌜ ChildRoom (now need) (now left) kids d l p (now cs) (now fs) (now link) last ⌝ }
     ensures { λ r. ⌜ ChildSays (now (need .entry)) (now (left .entry)) kids d l p (now (cs .entry)) (now (fs .entry))
         (now (link .entry)) (now (cs .exit)) (now (fs .exit)) (now (link .exit)) r ⌝ }
 {
-    let outer = plan_sweeps::first_or(left[kids + (l + 1)], p + 1);
-    let mut a = plan_sweeps::smaller(last, l);
-    let mut x = p + 1;
+    let outer = front_or(left[kids + (l + 1)], (p + 1) as u16);
+    let after = p + 1;
+    let mut a = plan_sweeps::last_need(need, after, d, plan_sweeps::smaller(last, l));
+    cs[after] = 1;
+    fs[after] = outer;
+    link[after] = a as u16;
+    let mut x = p;
     while l < x {
-        let v = event(left, kids, p, x, outer);
+        let v = event(left, kids, x, outer);
         a = plan_sweeps::last_need(need, x, d, a);
         cs[x] = v.c;
         fs[x] = v.f;
-        link[x] = a;
+        link[x] = a as u16;
         x -= 1;
     }
     a
 }
 
-// The event at a gap x of a child with its ENDDO p, or after it: the child cuts all, or a barrier after the child.
-fn event(left: &[usize], kids: usize, p: usize, x: usize, outer: usize) -> Front
-    requires { ⌜ kids + p < length (now left) ⌝ }
-    ensures { λ r. ⌜ r .c ≡ costAt (row (now (left .entry)) kids) p x ⌝ }
-    ensures { λ r. ⌜ r .f ≡ frontOr (row (now (left .entry)) kids) p x outer ⌝ }
+// The event at a gap x of a child: the child cuts all, or a barrier after the child.
+fn event(left: &[u16], kids: usize, x: usize, outer: u16) -> Front
+    requires { ⌜ kids + x < length (now left) ⌝ }
+    ensures { λ r. ⌜ EventSays (row (now (left .entry)) kids) x outer (r .c) (r .f) ⌝ }
 {
-    if x <= p {
-        let g = left[kids + x];
-        if 0 < g {
-            return Front { c: 0, f: g };
-        }
+    let g = left[kids + x];
+    if 0 < g {
+        return Front { c: 0, f: g };
     }
     Front { c: 1, f: outer }
 }
 
 // From left to right: what is made from the link of a start on is there already.
-fn follow(d: usize, e: usize, link: &[usize], cs: &mut [usize], fs: &mut [usize])
+fn follow(d: usize, e: usize, link: &[u16], cs: &mut [u16], fs: &mut [u16])
     requires { ⌜ FollowRoom d e (now link) (now cs) (now fs) ⌝ }
     ensures { λ r. ⌜ Followed (now (link .entry)) (now (cs .entry)) (now (fs .entry)) (now (cs .exit))
         (now (fs .exit)) d e e ⌝ }
@@ -181,9 +189,16 @@ fn follow(d: usize, e: usize, link: &[usize], cs: &mut [usize], fs: &mut [usize]
     while p < e {
         let x = p + 1;
         let f = fs[x];
-        let n = link[f];
+        let n = link[f as usize] as usize;
         cs[x] = cs[x] + cs[n];
-        fs[x] = plan_sweeps::first_or(fs[n], f);
+        fs[x] = front_or(fs[n], f);
         p = x;
     }
+}
+
+// The first front, or the second where the first is 0.
+fn front_or(first: u16, other: u16) -> u16
+    ensures { λ r. ⌜ r ≡ firstOf first other ⌝ }
+{
+    if first == 0 { other } else { first }
 }

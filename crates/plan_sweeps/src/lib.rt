@@ -17,7 +17,7 @@ pub struct Step {
 // Over the child l with its ENDDO p and the gap after it.
 pub fn step_child(
     need: &[usize],
-    left: &[usize],
+    left: &[u16],
     kids: usize,
     l: usize,
     p: usize,
@@ -32,7 +32,7 @@ pub fn step_child(
 {
     let b = last_need(need, f, l, p + 1);
     let start = l + 1;
-    let first = left[kids + start];
+    let first = left[kids + start] as usize;
     if b == 0 {
         return Step {
             c: c,
@@ -41,7 +41,7 @@ pub fn step_child(
         };
     }
     if b <= p {
-        let g = left[kids + b];
+        let g = left[kids + b] as usize;
         if 0 < g {
             return Step { c: c, f: g, ask: b };
         }

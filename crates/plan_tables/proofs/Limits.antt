@@ -15,7 +15,7 @@ use Rattle.laws.specs.Choice.{pick}
 use Rattle.laws.specs.Members.{Among}
 use Rattle.laws.specs.Entries.{at}
 use Rattle.laws.proofs.Tests.{never-both, eq-or, le-or, bool-by, false-by, and-true, or-true, or-left, or-right}
-use Rattle.paper_nests.specs.Kinds.{INDEPENDENT}
+use Rattle.paper_nests.specs.Kinds.{INDEPENDENT, POINTS}
 use Rattle.paper_nests.specs.Nests.{Dep}
 use Rattle.paper_nests.specs.Loops.{isDo, endOf}
 use Rattle.paper_nests.proofs.Loops.{end-there, end-after}
@@ -129,12 +129,13 @@ pub record Ended (ps ends heights : List ℕ) : Type 0 where
 -- a loop's row is in the table
 pub row-there :
     {ps ends heights : List ℕ} → Ended ps ends heights → (d : ℕ) → getD ps d 0 ≡ 1 →
-    (d ≤ at ends d) × (cell heights d (at ends d) < TABLE)
+    (d ≤ at ends d) × (at ends d < POINTS) × (cell heights d (at ends d) < TABLE)
 row-there {ps} {ends} w d k =
     let h = eq-eqb (getD ps d 0) 1 k in
     let points = w .tall .points in
     let l = end-there ps (points .shape) d h in (
       omega (arith, w .stops d h, end-after ps (points .shape) d h),
+      omega (arith, w .stops d h, points .few),
       cell-fits (w .tall) d (at ends d) h (omega (arith, w .stops d h, points .few)),
     )
 

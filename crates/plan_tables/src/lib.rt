@@ -23,8 +23,8 @@ pub fn prepare(
     own: &mut [usize],
     ends: &mut [usize],
     heights: &mut [usize],
-    reach: &mut [usize],
-    limit: &mut [usize],
+    reach: &mut [u16],
+    limit: &mut [u16],
     has: &mut [usize],
 )
     requires { ⌜ IsCounted nest ⌝ }
@@ -80,8 +80,8 @@ fn collect(
     own: &[usize],
     ends: &[usize],
     heights: &[usize],
-    reach: &mut [usize],
-    back: &mut [usize],
+    reach: &mut [u16],
+    back: &mut [u16],
     has: &mut [usize],
 )
     requires { ⌜ Points (now points) ⌝ }
@@ -108,8 +108,8 @@ fn enter(
     own: &[usize],
     ends: &[usize],
     heights: &[usize],
-    reach: &mut [usize],
-    back: &mut [usize],
+    reach: &mut [u16],
+    back: &mut [u16],
     has: &mut [usize],
     e: Dependence,
 )
@@ -126,12 +126,12 @@ fn enter(
     let t = e.t as usize;
     if e.kind == paper_nests::INDEPENDENT {
         let home = home_of(points, own, ends, s, t);
-        lower(reach, heights[home] * ROW + (s + 1), t);
+        lower(reach, heights[home] * ROW + (s + 1), t as u16);
         has[home] = 1;
         return;
     }
     let d = e.d as usize;
-    lower(back, heights[d] * ROW + s, t);
+    lower(back, heights[d] * ROW + s, t as u16);
     has[d] = 1;
 }
 
@@ -157,7 +157,7 @@ fn home_of(points: &[u8], own: &[usize], ends: &[usize], s: usize, t: usize) -> 
 }
 
 // From what goes back in each loop's row, its limits.
-fn narrow(points: &[u8], ends: &[usize], heights: &[usize], limit: &mut [usize])
+fn narrow(points: &[u8], ends: &[usize], heights: &[usize], limit: &mut [u16])
     requires { ⌜ Points (now points) ⌝ }
     requires { ⌜ EndsAre (now points) (now ends) ⌝ }
     requires { ⌜ HeightsAre (now points) (now heights) ⌝ }
@@ -176,12 +176,13 @@ fn narrow(points: &[u8], ends: &[usize], heights: &[usize], limit: &mut [usize])
 }
 
 // In one loop's row, from right to left: at each place the least from there to the ENDDO e, and at most e.
-fn narrow_row(xs: &mut [usize], base: usize, d: usize, e: usize)
+fn narrow_row(xs: &mut [u16], base: usize, d: usize, e: usize)
     requires { ⌜ d ≤ e ⌝ }
+    requires { ⌜ e < POINTS ⌝ }
     requires { ⌜ base + e < length (now xs) ⌝ }
     ensures { λ r. ⌜ Narrowed (now (xs .entry)) base d e (now (xs .exit)) ⌝ }
 {
-    let mut m = e;
+    let mut m = e as u16;
     let mut q = e;
     while d < q {
         let place = base + q;
@@ -197,7 +198,7 @@ fn narrow_row(xs: &mut [usize], base: usize, d: usize, e: usize)
 }
 
 // The entry at the place is t, if it was more.
-fn lower(xs: &mut [usize], place: usize, t: usize)
+fn lower(xs: &mut [u16], place: usize, t: u16)
     requires { ⌜ place < length (now xs) ⌝ }
     ensures { λ r. ⌜ now (xs .exit) ≡ set (now (xs .entry)) place (min t (at (now (xs .entry)) place)) ⌝ }
 {

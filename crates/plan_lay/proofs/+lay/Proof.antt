@@ -2,7 +2,7 @@
 -- sweep has laid so far (`Laying`). At its end that is what the loop lays (`done`).
 use mathlib.Core.Path.{_≡_, refl, _∙_, ap}
 use mathlib.Core.List.{List}
-use Prim.Native.Nat.{ℕ, _-_, _*_, _≤_, _<_}
+use Prim.Native.Nat.{ℕ, _+_, _-_, _*_, _≤_, _<_}
 use native.Mathlib.Omega.{arith}
 use lib.ListN.{length, set, length-set}
 use borrow.Author.Needs.{needs}
@@ -129,7 +129,7 @@ module _ (t : ℕ) where
     lowered =
         record {
           copy = copy;
-          copied = c .before .before .before .before .copy-row .ensures .0;
+          copied = λ a i j. c .before .before .before .before .copy-row .ensures .0 a (omega arith) j;
           size = omega (arith, sized, start .pre .1 .0);
           need-is = ap (λ (v : ℕ). set copy (last start) v) (c .smaller .ensures);
         }
@@ -171,11 +171,16 @@ module _ (t : ℕ) where
   shared-slice-read-last : lts.Need-shared-slice-read-last (callees t) (lay-at t) lay.Post Inv-loop μ-loop
   shared-slice-read-last c = let a = call (front (c .before .before)) in omega arith
 
+  cast-last : lts.Need-cast-last (callees t) (lay-at t) lay.Post Inv-loop μ-loop
+  cast-last c =
+      let i = front (c .before .before) .args in
+      omega (arith, c .shared-slice-known10 .given (i .h * 256 + i .q))
+
   copy-row-requires : lts.Need-copy-row-requires (callees t) (lay-at t) lay.Post Inv-loop μ-loop
   copy-row-requires c κs =
       let b = front (c .before .before .before) in
       let a = call b in
-      (omega arith, (omega (arith, b .pre .1 .0, a .short, a .charts .few), a .long))
+      (omega arith, (omega (arith, b .pre .1 .0, a .short, a .charts .few), omega (arith, a .long)))
 
   mul-smaller : lts.Need-mul-smaller (callees t) (lay-at t) lay.Post Inv-loop μ-loop
   mul-smaller c =
@@ -322,6 +327,11 @@ module _ (t : ℕ) where
       let x = chosen (ready (c .before .before .before)) in
       omega arith
 
+  cast-put-where : lts.Need-cast-put-where (callees t) (lay-at t) lay.Post Inv-loop μ-loop
+  cast-put-where c =
+      let b = front (ready (c .before .before .before)) in
+      omega (arith, c .shared-slice-known13 .given (b .args .h * 256 + last b))
+
   add-put-where-2 : lts.Need-add-put-where-2 (callees t) (lay-at t) lay.Post Inv-loop μ-loop
   add-put-where-2 c = let a = call (turn (c .before .before)) in omega arith
 
@@ -352,11 +362,11 @@ pub +lay-spec : {M : Type 1} → statement M
 +lay-spec = close μ-lay λ t. lts.spec (callees t)
     (lay-at t) lay.Post Inv-loop μ-loop (mul-base t) (add-if1 t) (mul-if1 t)
     (shared-slice-read-if1 t) (returns t) (mul-e t) (shared-slice-read-e t) (add-last t)
-    (mul-last t) (shared-slice-read-last t) (copy-row-requires t)
+    (mul-last t) (shared-slice-read-last t) (cast-last t) (copy-row-requires t)
     (mul-smaller t) (slice-read-smaller t) (smaller-requires t) (mul-need t) (slice-write-need t)
     (add-f t) (loop-holds t) (sub-before t) (shared-slice-read-if2 t) (mul-l t)
     (shared-slice-read-l t) (sub-step-child t) (step-child-requires t)
     (put-where-requires t) (sub-lay t) (lay-requires t) (loop-less t) (loop-again t)
     (mul-if3 t) (slice-read-if3 t) (put-requires t) (add-c t) (loop-less-2 t) (loop-again-2 t)
     (loop-less-3 t) (loop-again-3 t) (add-put-where t) (mul-put-where t)
-    (shared-slice-read-put-where t) (add-put-where-2 t) (put-where-requires-2 t) (same-length t) (returns-2 t)
+    (shared-slice-read-put-where t) (cast-put-where t) (add-put-where-2 t) (put-where-requires-2 t) (same-length t) (returns-2 t)

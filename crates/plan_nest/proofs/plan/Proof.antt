@@ -21,6 +21,11 @@ prepared c = c .before .before .before .before .before .before .before .before .
 abbrev settled : tie.After-lay → tie.After-settle
 settled c = c .before .before .before .before .before .before .before .before .before .before .before .before .before .before .before .before
 
+cast-high : tie.Need-cast-high
+cast-high c =
+    let n = c .args .nest in
+    omega (arith, c .pre .0 .count-is, points-of (nestIn n) (c .pre .1) .few)
+
 slice-aggregate-prepare : tie.Need-slice-aggregate-prepare
 slice-aggregate-prepare c = search needs
 
@@ -238,6 +243,7 @@ pub plan-spec : {M : Type 1} → statement M
 plan-spec =
     tie.close
     (tie.spec
+    cast-high
     slice-aggregate-prepare
     slice-aggregate-prepare-2
     slice-aggregate-prepare-3

@@ -16,8 +16,11 @@ returns c = search needs
 add-result-2 : tie.Need-add-result-2
 add-result-2 c = search needs
 
+cast-result : tie.Need-cast-result
+cast-result c = search needs
+
 returns-2 : tie.Need-returns-2
 returns-2 c = search needs
 
 pub ceiling-spec : {M : Type 1} → statement M
-ceiling-spec = tie.close (tie.spec add-if1 add-result returns add-result-2 returns-2)
+ceiling-spec = tie.close (tie.spec add-if1 add-result returns add-result-2 cast-result returns-2)

@@ -18,6 +18,11 @@ called c = c .before .before .before .before
 loop-holds : tie.Need-loop-holds Inv-loop μ-loop
 loop-holds c = choosing-none (omega (arith, called c .pre))
 
+cast-better : tie.Need-cast-better Inv-loop μ-loop
+cast-better c =
+    let l = c .before in
+    omega (arith, l .loop .inv .high, called (l .before) .pre .1 .1 .1 .1 .1)
+
 mul-better : tie.Need-mul-better Inv-loop μ-loop
 mul-better c = omega arith
 
@@ -81,6 +86,7 @@ choose-spec =
     Inv-loop
     μ-loop
     loop-holds
+    cast-better
     mul-better
     shared-slice-read-better
     mul-better-2

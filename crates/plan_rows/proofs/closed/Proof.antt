@@ -16,10 +16,13 @@ add-t6 c = search needs
 add-t7 : tie.Need-add-t7
 add-t7 c = search needs
 
+cast-t8 : tie.Need-cast-t8
+cast-t8 c = search needs
+
 returns-2 : tie.Need-returns-2
 returns-2 c =
     let i = c .before .args in
     close-high (i .d) (i .limit) (i .c) (i .f) (omega (arith, c .if1 .left))
 
 pub closed-spec : {M : Type 1} → statement M
-closed-spec = tie.close (tie.spec returns add-t6 add-t7 returns-2)
+closed-spec = tie.close (tie.spec returns add-t6 add-t7 cast-t8 returns-2)

@@ -1,5 +1,5 @@
 -- `copy_row` meets its contract. The invariant: the entries up to p are copied.
-use Prim.Native.Nat.{_-_}
+use Prim.Native.Nat.{_+_, _-_}
 use native.Mathlib.Omega.{arith}
 use Rattle.plan_rows.proofs.Copying.{Copying, copied-none, copied-more}
 use Rattle.plan_rows.proofs.copy_row.Statement.{statement}
@@ -25,6 +25,11 @@ mul-xs c = omega arith
 
 shared-slice-read-xs : tie.Need-shared-slice-read-xs Inv-loop μ-loop
 shared-slice-read-xs c = omega arith
+
+cast-xs : tie.Need-cast-xs Inv-loop μ-loop
+cast-xs c =
+    let l = c .before .before in
+    omega (arith, c .shared-slice-known .given (l .before .args .base + (l .loop .p + 1)))
 
 mul-xs-2 : tie.Need-mul-xs-2 Inv-loop μ-loop
 mul-xs-2 c = omega arith
@@ -58,6 +63,7 @@ copy-row-spec =
     add-xs
     mul-xs
     shared-slice-read-xs
+    cast-xs
     mul-xs-2
     slice-write-xs
     loop-less

@@ -72,7 +72,7 @@ choose-requires c κs =
       omega (arith, p .0 .short, p .1 .cs-room, v .values .kept, s .follow-all .kept),
       (
         omega (arith, p .0 .short, p .1 .fs-room, v .values .kept, s .follow-all .kept),
-        (p .0 .left-room, (p .0 .choice-room, p .0 .long)),
+        (p .0 .left-room, (p .0 .choice-room, (p .0 .long, p .0 .short))),
       ),
     )
 

@@ -2,7 +2,7 @@
 -- start on, and the rest is untouched (`Valuing`). In the first the least is that of `first` or one more
 -- (`EarlyValuing`); in the second no start with a line in the loop lies after p + 1 (`LateValuing`).
 use mathlib.Core.Path.{_∙_}
-use Prim.Native.Nat.{_-_}
+use Prim.Native.Nat.{_+_, _-_}
 use native.Mathlib.Omega.{arith}
 use borrow.Author.Needs.{needs}
 use Rattle.plan_rows.proofs.Valuing.{EarlyValuing, first-small, early-none, early-low, early-high}
@@ -98,6 +98,9 @@ slice-write-cs-2 c = omega arith
 add-fs : tie.Need-add-fs Inv-loop μ-loop Inv-loop2 μ-loop2
 add-fs c = omega arith
 
+cast-fs : tie.Need-cast-fs Inv-loop μ-loop Inv-loop2 μ-loop2
+cast-fs c = omega (arith, called (c .before .before .before) .pre .long, called (c .before .before .before) .pre .short)
+
 mul-fs-2 : tie.Need-mul-fs-2 Inv-loop μ-loop Inv-loop2 μ-loop2
 mul-fs-2 c = omega arith
 
@@ -161,8 +164,8 @@ mul-fs-3 c = omega arith
 slice-write-fs-3 : tie.Need-slice-write-fs-3 Inv-loop μ-loop Inv-loop2 μ-loop2
 slice-write-fs-3 c = omega arith
 
-smaller-requires : tie.Need-smaller-requires Inv-loop μ-loop Inv-loop2 μ-loop2
-smaller-requires c κs = search needs
+fewer-requires : tie.Need-fewer-requires Inv-loop μ-loop Inv-loop2 μ-loop2
+fewer-requires c κs = search needs
 
 loop2-less : tie.Need-loop2-less Inv-loop μ-loop Inv-loop2 μ-loop2
 loop2-less c = omega arith
@@ -171,7 +174,7 @@ loop2-again : tie.Need-loop2-again Inv-loop μ-loop Inv-loop2 μ-loop2
 loop2-again c =
     let n = c .before .before .before .before .before in
     late-more (n .before .loop2 .inv) (omega (arith, n .loop2-test)) (c .before .closed .ensures)
-    (omega (arith, c .smaller .ensures))
+    (omega (arith, c .fewer .ensures))
 
 same-length : tie.Need-same-length Inv-loop μ-loop Inv-loop2 μ-loop2
 same-length c = c .before .loop2 .inv .cs-length ∙ earlier (c .before) .loop .inv .valuing .cs-length
@@ -214,6 +217,7 @@ values-spec =
     mul-cs-2
     slice-write-cs-2
     add-fs
+    cast-fs
     mul-fs-2
     slice-write-fs-2
     loop-less-2
@@ -232,7 +236,7 @@ values-spec =
     slice-write-cs-3
     mul-fs-3
     slice-write-fs-3
-    smaller-requires
+    fewer-requires
     loop2-less
     loop2-again
     same-length

@@ -1,7 +1,7 @@
 -- `settle` meets its contract; the height falls at each call. The invariant of its loop: the loops inside d that lie
 -- before i are settled (`Settling`). At its end the loop's own row is made (`done`).
 use mathlib.Core.Path.{_∙_}
-use Prim.Native.Nat.{ℕ, _-_, _<_}
+use Prim.Native.Nat.{ℕ, _+_, _-_, _*_, _<_}
 use native.Mathlib.Omega.{arith}
 use borrow.Author.Needs.{needs}
 use Rattle.plan_rows.specs.Made.{ListsRoom}
@@ -161,6 +161,11 @@ module _ (t : ℕ) where
       let a = call (turn l) in
       omega (arith, k .settle .kept .1 .1 .1 .1 .1 .1 .0, l .loop .inv .0 .left-length)
 
+  cast-first : lts.Need-cast-first (callees t) (settle-at t) settle.Post Inv-loop μ-loop
+  cast-first c =
+      let l = inside (settled (c .before .before .before .before .before .before .before .before .before .before .before .before .before)) in
+      omega (arith, c .slice-known13 .given (turn l .args .h * 256 - 256 + (l .loop .i + 1)))
+
   first-or-requires : lts.Need-first-or-requires (callees t) (settle-at t) settle.Post Inv-loop μ-loop
   first-or-requires c κs = search needs
 
@@ -276,7 +281,7 @@ pub +settle-spec : {M : Type 1} → statement M
     (add-first-2 t)
     (mul-first t)
     (slice-read-first t)
-    (first-or-requires t)
+    (cast-first t) (first-or-requires t)
     (mul-i t)
     (shared-slice-read-i t)
     (add-i-2 t)

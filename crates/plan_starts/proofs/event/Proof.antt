@@ -1,5 +1,6 @@
 -- `event` meets its contract: the loop inside cuts all, or a barrier stands after it (Happenings).
 use borrow.Author.Needs.{needs}
+use Prim.Native.Nat.{_+_}
 use native.Mathlib.Omega.{arith}
 use mathlib.Core.Path.{sym}
 use Rattle.plan_sweeps.specs.Listed.{row}
@@ -17,28 +18,20 @@ shared-slice-read-g : tie.Need-shared-slice-read-g
 shared-slice-read-g c = search needs
 
 returns : tie.Need-returns
-returns c =
-    let i = c .before .before .before .args in
+returns c p h =
+    let i = c .before .before .args in
     let left = row (i .left .now) (i .kids) in (
-      sym (cost-inner left 0 (i .p) (i .x) (omega arith) (omega arith)),
-      sym (or-inner left 0 (i .p) (i .x) (i .outer) (omega arith) (omega arith)),
+      sym (cost-inner left 0 p (i .x) h (omega arith)),
+      sym (or-inner left 0 p (i .x) (i .outer) h (omega arith)),
     )
 
 returns-2 : tie.Need-returns-2
-returns-2 c =
-    let i = c .before .before .before .args in
+returns-2 c p h =
+    let i = c .before .before .args in
     let left = row (i .left .now) (i .kids) in (
-      sym (cost-outer left 0 (i .p) (i .x) (λ h. omega arith)),
-      sym (or-outer left 0 (i .p) (i .x) (i .outer) (λ h. omega arith)),
-    )
-
-returns-3 : tie.Need-returns-3
-returns-3 c =
-    let i = c .before .args in
-    let left = row (i .left .now) (i .kids) in (
-      sym (cost-outer left 0 (i .p) (i .x) (λ h. absurd (omega arith))),
-      sym (or-outer left 0 (i .p) (i .x) (i .outer) (λ h. absurd (omega arith))),
+      sym (cost-outer left 0 p (i .x) (λ _. omega arith)),
+      sym (or-outer left 0 p (i .x) (i .outer) (λ _. omega arith)),
     )
 
 pub event-spec : {M : Type 1} → statement M
-event-spec = tie.close (tie.spec add-g mul-g shared-slice-read-g returns returns-2 returns-3)
+event-spec = tie.close (tie.spec add-g mul-g shared-slice-read-g returns returns-2)

@@ -3,6 +3,8 @@ use mathlib.Core.Path.{_≡_}
 use Prim.Native.Nat.{_-_}
 use native.Mathlib.Omega.{arith}
 use borrow.Author.Needs.{needs}
+use Rattle.laws.specs.Entries.{at}
+use Rattle.plan_sweeps.proofs.Steps.{seek-high}
 use Rattle.plan_starts.proofs.Eventing.{Eventing, eventing-none, eventing-plain, eventing-child, child-room}
 use Rattle.plan_starts.proofs.events.Statement.{statement}
 use Rattle.plan_starts.proofs.events.Tie as tie
@@ -76,11 +78,23 @@ mul-cs c = omega arith
 slice-write-cs : tie.Need-slice-write-cs Inv-loop μ-loop
 slice-write-cs c = omega arith
 
+cast-fs : tie.Need-cast-fs Inv-loop μ-loop
+cast-fs c =
+    let h = c .before .before .before .before .before in
+    omega (arith, h .loop .inv .bound .high, called h .pre .0 .short)
+
 mul-fs : tie.Need-mul-fs Inv-loop μ-loop
 mul-fs c = omega arith
 
 slice-write-fs : tie.Need-slice-write-fs Inv-loop μ-loop
 slice-write-fs c = omega arith
+
+cast-link : tie.Need-cast-link Inv-loop μ-loop
+cast-link c =
+    let h = c .before .before .before .before .before in
+    let i = called h .args in
+    let low = seek-high (at (i .need .now)) (h .loop .p) (i .d) (c .before .smaller .result) in
+    omega (arith, c .last-need .ensures, c .before .smaller .ensures, h .loop .inv .bound .high, called h .pre .0 .short)
 
 mul-link : tie.Need-mul-link Inv-loop μ-loop
 mul-link c = omega arith
@@ -132,8 +146,10 @@ events-spec =
     last-need-requires
     mul-cs
     slice-write-cs
+    cast-fs
     mul-fs
     slice-write-fs
+    cast-link
     mul-link
     slice-write-link
     loop-less-2

@@ -1,8 +1,9 @@
 -- `follow` meets its contract. The invariant: the starts up to p are followed (`Following`).
-use Prim.Native.Nat.{_-_}
+use Prim.Native.Nat.{_+_, _-_}
 use native.Mathlib.Omega.{arith}
 use borrow.Author.Needs.{needs}
 use mathlib.Core.Path.{_≡_}
+use Rattle.laws.specs.Entries.{at}
 use Rattle.plan_starts.proofs.Following.{Following, Next, following-none, next, following-more}
 use Rattle.plan_starts.proofs.follow.Statement.{statement}
 use Rattle.plan_starts.proofs.follow.Tie as tie
@@ -34,11 +35,19 @@ mul-f c = omega arith
 slice-read-f : tie.Need-slice-read-f Inv-loop μ-loop
 slice-read-f c = omega arith
 
+cast-n : tie.Need-cast-n Inv-loop μ-loop
+cast-n c = omega (arith, c .slice-known3 .given (c .before .before .loop .p + 1))
+
 mul-n : tie.Need-mul-n Inv-loop μ-loop
 mul-n c = let n = numbers (c .before) in omega arith
 
 shared-slice-read-n : tie.Need-shared-slice-read-n Inv-loop μ-loop
 shared-slice-read-n c = let n = numbers (c .before .before) in omega arith
+
+cast-n-2 : tie.Need-cast-n-2 Inv-loop μ-loop
+cast-n-2 c =
+    let l = c .before .before .before .loop in
+    omega (arith, c .shared-slice-known2 .given (at (l .fs) (l .p + 1)))
 
 mul-cs : tie.Need-mul-cs Inv-loop μ-loop
 mul-cs c = omega arith
@@ -53,7 +62,9 @@ slice-read-cs-2 : tie.Need-slice-read-cs-2 Inv-loop μ-loop
 slice-read-cs-2 c = let n = numbers (c .before .before .before .before) in omega arith
 
 add-cs : tie.Need-add-cs Inv-loop μ-loop
-add-cs c = let n = numbers (c .before .before .before .before) in omega arith
+add-cs c =
+    let n = numbers (c .before .before .before .before) in
+    omega (arith, called (c .before .before .before .before .before) .pre .short)
 
 mul-cs-3 : tie.Need-mul-cs-3 Inv-loop μ-loop
 mul-cs-3 c = omega arith
@@ -61,14 +72,14 @@ mul-cs-3 c = omega arith
 slice-write-cs : tie.Need-slice-write-cs Inv-loop μ-loop
 slice-write-cs c = omega arith
 
-mul-first-or : tie.Need-mul-first-or Inv-loop μ-loop
-mul-first-or c = let n = numbers (c .before .before .before .before) in omega arith
+mul-front-or : tie.Need-mul-front-or Inv-loop μ-loop
+mul-front-or c = let n = numbers (c .before .before .before .before) in omega arith
 
-slice-read-first-or : tie.Need-slice-read-first-or Inv-loop μ-loop
-slice-read-first-or c = let n = numbers (c .before .before .before .before .before) in omega arith
+slice-read-front-or : tie.Need-slice-read-front-or Inv-loop μ-loop
+slice-read-front-or c = let n = numbers (c .before .before .before .before .before) in omega arith
 
-first-or-requires : tie.Need-first-or-requires Inv-loop μ-loop
-first-or-requires c κs = search needs
+front-or-requires : tie.Need-front-or-requires Inv-loop μ-loop
+front-or-requires c κs = search needs
 
 mul-fs : tie.Need-mul-fs Inv-loop μ-loop
 mul-fs c = omega arith
@@ -82,7 +93,7 @@ loop-less c = omega arith
 loop-again : tie.Need-loop-again Inv-loop μ-loop
 loop-again c =
     let n = c .before .before .before .before .before .before in
-    following-more (called (n .before) .pre) (n .before .loop .inv) (omega (arith, n .loop-test)) (c .first-or .ensures)
+    following-more (called (n .before) .pre) (n .before .loop .inv) (omega (arith, n .loop-test)) (c .front-or .ensures)
 
 same-length : tie.Need-same-length Inv-loop μ-loop
 same-length c = c .before .loop .inv .cs-length
@@ -106,8 +117,10 @@ follow-spec =
     add-x
     mul-f
     slice-read-f
+    cast-n
     mul-n
     shared-slice-read-n
+    cast-n-2
     mul-cs
     slice-read-cs
     mul-cs-2
@@ -115,9 +128,9 @@ follow-spec =
     add-cs
     mul-cs-3
     slice-write-cs
-    mul-first-or
-    slice-read-first-or
-    first-or-requires
+    mul-front-or
+    slice-read-front-or
+    front-or-requires
     mul-fs
     slice-write-fs
     loop-less

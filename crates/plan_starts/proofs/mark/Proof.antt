@@ -1,5 +1,5 @@
 -- `mark` meets its contract. The invariant: the gaps up to p are marked (`Marking`).
-use Prim.Native.Nat.{_-_}
+use Prim.Native.Nat.{_+_, _-_}
 use native.Mathlib.Omega.{arith}
 use borrow.Author.Needs.{needs}
 use Rattle.plan_starts.proofs.Marking.{Marking, marking-none, marking-do, marking-other, marking-all}
@@ -41,6 +41,11 @@ mul-end-after-2 c = omega arith
 shared-slice-read-end-after-2 : tie.Need-shared-slice-read-end-after-2 Inv-loop μ-loop
 shared-slice-read-end-after-2 c = omega arith
 
+cast-end-after : tie.Need-cast-end-after Inv-loop μ-loop
+cast-end-after c =
+    let l = c .before .before .before .before .before in
+    omega (arith, c .shared-slice-known7 .given (called l .args .kids + (l .loop .p + 1)))
+
 add-end-after-2 : tie.Need-add-end-after-2 Inv-loop μ-loop
 add-end-after-2 c = omega arith
 
@@ -49,6 +54,11 @@ mul-end-after-3 c = omega arith
 
 shared-slice-read-end-after-3 : tie.Need-shared-slice-read-end-after-3 Inv-loop μ-loop
 shared-slice-read-end-after-3 c = omega arith
+
+cast-end-after-2 : tie.Need-cast-end-after-2 Inv-loop μ-loop
+cast-end-after-2 c =
+    let l = c .before .before .before .before .before .before in
+    omega (arith, c .shared-slice-known8 .given (called l .args .base + (l .loop .p + 1)))
 
 end-after-requires : tie.Need-end-after-requires Inv-loop μ-loop
 end-after-requires c κs = search needs
@@ -67,6 +77,11 @@ mul-need-2 c = omega arith
 
 shared-slice-read-need : tie.Need-shared-slice-read-need Inv-loop μ-loop
 shared-slice-read-need c = omega arith
+
+cast-need : tie.Need-cast-need Inv-loop μ-loop
+cast-need c =
+    let l = c .before .before .before .before in
+    omega (arith, c .shared-slice-known9 .given (called l .args .base + (l .loop .p + 1)))
 
 mul-need-3 : tie.Need-mul-need-3 Inv-loop μ-loop
 mul-need-3 c = omega arith
@@ -111,15 +126,18 @@ mark-spec =
     add-end-after
     mul-end-after-2
     shared-slice-read-end-after-2
+    cast-end-after
     add-end-after-2
     mul-end-after-3
     shared-slice-read-end-after-3
+    cast-end-after-2
     end-after-requires
     mul-need
     slice-write-need
     add-need
     mul-need-2
     shared-slice-read-need
+    cast-need
     mul-need-3
     slice-write-need-2
     loop-less

@@ -1,5 +1,5 @@
 -- `step_child` meets its contract, in each of the three cases of a step over a child (Steps).
-use Prim.Native.Nat.{_≤_}
+use Prim.Native.Nat.{_+_, _≤_}
 use native.Mathlib.Omega.{arith}
 use borrow.Author.Needs.{needs}
 use Rattle.plan_sweeps.proofs.Steps.{step-free, step-inner, step-outer}
@@ -24,6 +24,11 @@ mul-first c = search needs
 shared-slice-read-first : tie.Need-shared-slice-read-first
 shared-slice-read-first c = search needs
 
+cast-first : tie.Need-cast-first
+cast-first c =
+    let i = c .before .before .before .before .args in
+    omega (arith, c .shared-slice-known3 .given (i .kids + (i .l + 1)))
+
 first-or-requires : tie.Need-first-or-requires
 first-or-requires c κs = search needs
 
@@ -45,6 +50,9 @@ mul-g c = search needs
 
 shared-slice-read-g : tie.Need-shared-slice-read-g
 shared-slice-read-g c = search needs
+
+cast-g : tie.Need-cast-g
+cast-g c = omega (arith, c .shared-slice-known4 .given (c .before .before .before .before .before .before .before .args .kids + c .before .before .before .before .last-need .result))
 
 returns-2 : tie.Need-returns-2
 returns-2 c =
@@ -108,11 +116,13 @@ step-child-spec =
     add-first
     mul-first
     shared-slice-read-first
+    cast-first
     first-or-requires
     returns
     add-g
     mul-g
     shared-slice-read-g
+    cast-g
     returns-2
     add-t18
     add-first-or

@@ -75,6 +75,9 @@ add-lower c = search needs
 add-lower-2 : tie.Need-add-lower-2
 add-lower-2 c = omega (arith, home-at (c .before .before))
 
+cast-lower : tie.Need-cast-lower
+cast-lower c = search needs
+
 lower-requires : tie.Need-lower-requires
 lower-requires c κs =
     let h = c .before .before in
@@ -119,6 +122,9 @@ mul-lower-4 c = omega (arith, cell-at (c .before .before .before))
 add-lower-3 : tie.Need-add-lower-3
 add-lower-3 c = omega (arith, cell-at (c .before .before .before))
 
+cast-lower-2 : tie.Need-cast-lower-2
+cast-lower-2 c = search needs
+
 lower-requires-2 : tie.Need-lower-requires-2
 lower-requires-2 c κs =
     let k = c .before .before .before in
@@ -157,6 +163,7 @@ enter-spec =
     mul-lower-2
     add-lower
     add-lower-2
+    cast-lower
     lower-requires
     mul-has
     slice-write-has
@@ -168,6 +175,7 @@ enter-spec =
     shared-slice-read-lower-2
     mul-lower-4
     add-lower-3
+    cast-lower-2
     lower-requires-2
     mul-has-2
     slice-write-has-2

@@ -52,7 +52,7 @@ narrow-row-requires : tie.Need-narrow-row-requires Inv-loop μ-loop
 narrow-row-requires c κs =
     let l = c .before .before .before .before .before .before in
     let t = row-there (ended (called l)) (l .loop .d) (c .before .before .before .if1 .taken) in
-    (t .0, omega (arith, called l .pre .1 .1 .1 .1 .1, l .loop .inv .same))
+    (t .0, (t .1, omega (arith, called l .pre .1 .1 .1 .1 .1, l .loop .inv .same)))
 
 add-d : tie.Need-add-d Inv-loop μ-loop
 add-d c = search needs

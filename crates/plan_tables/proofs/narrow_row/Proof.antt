@@ -10,6 +10,9 @@ Inv-loop xs₀ base d e m₀ q₀ xs m q = Narrowing xs₀ base d e m q xs
 abbrev μ-loop : tie.MeasureT-loop
 μ-loop xs₀ base d e m₀ q₀ xs m q = q
 
+cast-m : tie.Need-cast-m Inv-loop μ-loop
+cast-m c = search needs
+
 loop-holds : tie.Need-loop-holds Inv-loop μ-loop
 loop-holds c = narrow-start (c .pre .0)
 
@@ -48,7 +51,7 @@ loop-less-2 c = search needs
 loop-again-2 : tie.Need-loop-again-2 Inv-loop μ-loop
 loop-again-2 c =
     let n = c .before .before in
-    narrow-store (n .before .loop .inv) (n .loop-test .taken) (c .if1 .left) (n .before .before .pre .1)
+    narrow-store (n .before .loop .inv) (n .loop-test .taken) (c .if1 .left) (n .before .before .pre .1 .1)
 
 same-length : tie.Need-same-length Inv-loop μ-loop
 same-length c = search needs
@@ -62,6 +65,7 @@ narrow-row-spec =
     (tie.spec
     Inv-loop
     μ-loop
+    cast-m
     loop-holds
     add-place
     mul-x
