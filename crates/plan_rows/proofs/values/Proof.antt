@@ -2,7 +2,7 @@
 -- start on, and the rest is untouched (`Valuing`). In the first the least is that of `first` or one more
 -- (`EarlyValuing`); in the second no start with a line in the loop lies after p + 1 (`LateValuing`).
 use mathlib.Core.Path.{_∙_}
-use Prim.Native.Nat.{_+_, _-_}
+use Prim.Native.Nat.{_-_}
 use native.Mathlib.Omega.{arith}
 use borrow.Author.Needs.{needs}
 use Rattle.plan_rows.proofs.Valuing.{EarlyValuing, first-small, early-none, early-low, early-high}

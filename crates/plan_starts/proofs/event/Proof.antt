@@ -1,6 +1,5 @@
 -- `event` meets its contract: the loop inside cuts all, or a barrier stands after it (Happenings).
 use borrow.Author.Needs.{needs}
-use Prim.Native.Nat.{_+_}
 use native.Mathlib.Omega.{arith}
 use mathlib.Core.Path.{sym}
 use Rattle.plan_sweeps.specs.Listed.{row}
