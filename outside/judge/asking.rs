@@ -5,12 +5,12 @@ use crate::host::{self, Desk, Placement, PlainDesk, WORDS};
 use crate::improving;
 use crate::joining;
 use crate::runs;
+use crate::shapes;
 use crate::sheets::{self, Sheet};
 use crate::skipping;
 use crate::slips;
 use crate::textbook_rule;
 use crate::texts::shown;
-use crate::told;
 
 /// A call with what is lent to it: a text, a list, a buffer. Over takes the desk's nest as a desk of the kind before
 /// sittings, with a key or not, and other words in the key's place where some are given.
@@ -169,9 +169,9 @@ pub fn play(desk: &mut Desk, call: &Call) -> Reply {
                 *desk = host::desk_go_over(PlainDesk { loaded, nest, planned, key });
                 reply(0, 0, &[])
             }
-            Call::Shape => told::play_shape(*desk),
-            Call::Gaps(dependence) => told::play_gaps(*desk, *dependence),
-            Call::Standing => told::play_standing(*desk),
+            Call::Shape => shapes::play_shape(*desk),
+            Call::Gaps(dependence) => shapes::play_gaps(*desk, *dependence),
+            Call::Standing => shapes::play_standing(*desk),
             Call::Textbook => textbook_rule::play(*desk),
             Call::Slip(examiner, text, out) => slips::play(*desk, *examiner, text, out),
             Call::Compare(a, b) => comparing::play(*desk, a, b),

@@ -9,12 +9,12 @@ use crate::joining;
 use crate::nests::*;
 use crate::order::{first_key, mark, Mark};
 use crate::runs;
+use crate::shapes;
 use crate::sheets;
 use crate::skipping;
 use crate::slips;
 use crate::textbook_rule;
 use crate::texts::{barrier_lines, read_nest, read_placement};
-use crate::told;
 use std::collections::{BTreeSet, VecDeque};
 
 /// A nest may have a key that this reading cannot find: on such a paper the library's own is held to what is known.
@@ -96,9 +96,9 @@ impl Desk {
                 *self = Desk { nest, ..Desk::new() };
                 if *planned { self.plan(); }
             }
-            Call::Shape => (number, values) = told::shape(self),
-            Call::Gaps(dependence) => (number, values) = told::gaps(self, *dependence),
-            Call::Standing => (number, values) = told::standing(self),
+            Call::Shape => (number, values) = shapes::shape(self),
+            Call::Gaps(dependence) => (number, values) = shapes::gaps(self, *dependence),
+            Call::Standing => (number, values) = shapes::standing(self),
             Call::Textbook => (number, values) = textbook_rule::answer(self.nest.as_ref()),
             Call::Slip(examiner, text, out) => return slips::answer(self, *examiner, text, out),
             Call::Compare(a, b) => return comparing::answer(self, a, b),

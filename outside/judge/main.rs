@@ -37,12 +37,12 @@ mod program;
 mod runs;
 mod scripts;
 mod self_check;
+mod shapes;
 mod sheets;
 mod skipping;
 mod slips;
 mod textbook_rule;
 mod texts;
-mod told;
 
 use std::io::Read;
 

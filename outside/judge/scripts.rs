@@ -12,11 +12,11 @@ use crate::order::key_fault;
 use crate::papers::*;
 use crate::program::{finish, THREADS};
 use crate::runs::{every_turns, random_turns};
+use crate::shapes;
 use crate::sheets::{every_sheet, random_sheet};
 use crate::skipping;
 use crate::slips::slip_length;
 use crate::texts::barrier_lines;
-use crate::told;
 use std::collections::BTreeMap;
 use std::sync::atomic::{AtomicUsize, Ordering::SeqCst};
 use std::sync::Mutex;
@@ -132,7 +132,7 @@ fn random_ask(random: &mut Random, desk: &Desk, edges: &[Vec<u8>]) -> Call {
         21 | 22 => Call::PlacementCalls(placement_text(random, desk), random_turns(random, desk.nest.as_ref())),
         23 | 24 => Call::Compare(placement_text(random, desk), placement_text(random, desk)),
         25 => Call::Shape,
-        26 | 27 => Call::Gaps(told::random_dependence(random, desk)),
+        26 | 27 => Call::Gaps(shapes::random_dependence(random, desk)),
         28 | 29 => Call::Standing,
         _ => Call::Mark(placement_text(random, desk)),
     }
@@ -294,7 +294,7 @@ fn fixed_scripts() -> Vec<Vec<Call>> {
     let asked = made.map(|text| vec![Call::Load(text), Call::Plan, Call::MissingRuns]);
     let beside = (2..=SMALLEST).flat_map(every_shape).flat_map(|nest| comparisons(&nest));
     let every = (2..=SMALLEST).flat_map(every_paper).map(|nest| asks_of(&nest));
-    lines.chain(asked).chain(joins()).chain(every_sheet()).chain(beside).chain(told::every_ask()).chain(every).collect()
+    lines.chain(asked).chain(joins()).chain(every_sheet()).chain(beside).chain(shapes::every_ask()).chain(every).collect()
 }
 
 /// What is asked of a small paper: its missing runs; its calls under all turns from 2 to 4, under some if it is not one

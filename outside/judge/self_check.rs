@@ -12,12 +12,12 @@ use crate::order::*;
 use crate::papers::*;
 use crate::program::*;
 use crate::runs::check_runs;
+use crate::shapes::check_shapes;
 use crate::sheets::check_sheets;
 use crate::skipping::check_skipping;
 use crate::slips::check_slips;
 use crate::textbook_rule::check_textbook;
 use crate::texts::*;
-use crate::told::check_told;
 
 pub struct Checks { passed: usize, failed: usize }
 
@@ -39,7 +39,7 @@ pub fn self_check() -> bool {
     check_first(&mut checks);
     check_desk(&mut checks);
     check_barred(&mut checks);
-    check_told(&mut checks);
+    check_shapes(&mut checks);
     check_textbook(&mut checks);
     check_slips(&mut checks);
     check_comparing(&mut checks);

@@ -98,7 +98,7 @@ pub fn every_ask() -> Vec<Vec<Call>> {
 // ---- The self-check
 
 /// P is loop 0 with the loops 1 to 6 and 7 to 12 in it.
-pub fn check_told(checks: &mut Checks) {
+pub fn check_shapes(checks: &mut Checks) {
     let asked = |call: Call| replies(&[load(P), Call::Put(5), Call::Put(13), call], 1)[0].clone();
     let (_, _, shape) = asked(Call::Shape);
     checks.that("P's owners", shape[..15] == [0, 0, 1, 1, 1, 1, 1, 0, 7, 7, 7, 7, 7, 0, 0]);
