@@ -2,6 +2,7 @@
 every mark is made again by the proved calls from the bytes that it has."""
 import argparse
 import contextlib
+import io
 import re
 import sqlite3
 from collections import Counter
@@ -12,6 +13,7 @@ from office.command import REFUSED, Fault, write_out
 from office.keeping import finding_of
 from office.library import Desk
 from office.marks import HEAD, NO_MARK, Finding, Mark, sha256_of
+from office.played import Played
 from office.progress import Progress
 from office.refusal import Refused
 from office.register import Register, opened
@@ -45,7 +47,7 @@ class Audit:
 
     def look(self, head: str | None) -> None:
         """Looks at everything."""
-        for part in (self.file, self.form, self.texts, self.marks, self.certificates):
+        for part in (self.file, self.form, self.texts, self.marks, self.certificates, self.sittings):
             self.note('the file', part)
         if head is not None and not self.has(head):
             self.faults.append(f'no mark has the head {head}: marks were cut off, or written anew')
@@ -152,6 +154,26 @@ class Audit:
         if at < mark.at or later is not None and at > later.at:
             return [f'it was not made while mark {seq} held']
         return []
+
+    def sittings(self) -> list[str]:
+        """Every log of a sitting, and the marks that are from it."""
+        for head, name in self.register.asked('SELECT head, name FROM sitting'):
+            self.note(f'sitting {name}', lambda: self.sitting(head))
+        return []
+
+    def sitting(self, head: str) -> list[str]:
+        (data, *told), = self.register.asked('SELECT log, paper, opened, closed FROM sitting WHERE head = ?', head)
+        try:
+            played = Played('its log', io.BytesIO(data)).to_the_end()
+        except Fault as fault:
+            return [str(fault).partition(';')[0]]
+        if [played.room.paper, played.opened, played.closed] != told or (played.head, played.read.length) != (
+                head, len(data)):
+            return ['its log has another head, another end, another paper or other times']
+        ends = {who: text if text is None else sha256_of(text) for who, text in played.ends().items()}
+        return [f'its log does not have what mark {mark.seq}, {mark.candidate}, is of'
+                for mark in self.register.marks('mark WHERE sitting = ? AND seq <= ?', head, self.end[0])
+                if mark.paper != played.room.paper or ends.get(mark.candidate, '') != mark.answer]
 
     def report(self, head: str | None) -> list[str]:
         """What was found, a line each."""

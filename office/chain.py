@@ -42,6 +42,7 @@ class Event(NamedTuple):
 
 
 def now() -> str:
+    """The time as logs and registers write it."""
     return datetime.datetime.now(datetime.timezone.utc).isoformat(timespec='milliseconds')
 
 

@@ -5,7 +5,7 @@ from office.header import DECLARED
 
 DO, ENDDO, STATEMENT, INDEPENDENT, CARRIED, BARRED = (
     DECLARED.numbers[f'DESK_{kind}'] for kind in ('DO', 'ENDDO', 'STATEMENT', 'INDEPENDENT', 'CARRIED', 'BARRED'))
-FLAGGED, BARRIER, COUNT, REFUSAL = 0x04, 0x21, 0x22, 0x2F
+FLAGGED, BARRIER, COUNT, FIRST_UNCUT, VERDICT, CUT, REFUSAL = 0x04, 0x21, 0x22, 0x23, 0x24, 0x25, 0x2F
 # In a line 23 of a slip: no dependence is uncut.
 NONE = 0xFFFF
 

@@ -1,11 +1,11 @@
 """Answers marked by the proved calls, and which of their marks the register takes."""
 import contextlib
-import datetime
 import os
 import pwd
 from collections.abc import Iterator
 from dataclasses import dataclass
 
+from office.chain import now
 from office.command import INTERRUPTED, Fault
 from office.library import Desk
 from office.marks import NO_MARK, Finding, Mark, sha256_of
@@ -73,11 +73,6 @@ def marker(reason: str | None = None, sitting: str | None = None) -> Marker:
     except KeyError:
         who = str(os.getuid())
     return Marker(who, desk_version(), library_sha256(), reason, sitting)
-
-
-def now() -> str:
-    """The time as the register writes it."""
-    return datetime.datetime.now(datetime.timezone.utc).isoformat(timespec='milliseconds')
 
 
 def keep(register: Register, paper: PaperText, answers: list[Answer], by: Marker) -> list[Outcome]:

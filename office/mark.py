@@ -16,7 +16,7 @@ from office.progress import Progress
 from office.refusal import Refusal
 from office.register import Register, to_write
 from office.rows import FIRST, as_csv, first_cells
-from office.slip_files import Slips
+from office.slip_files import Slips, slips_of
 from office.words import ABSENT, UNREAD, VERDICTS, counted
 from office.words import REFUSED as REFUSED_WORD
 
@@ -77,12 +77,10 @@ class Marking:
         return [(outcome.answer, outcome.why) for outcome in keep(self.register, self.paper, answers, self.by)]
 
     def hand_out(self, slips: Slips, answer: Answer, text: bytes) -> None:
-        """Writes both slips of an answer. One that was refused has none, and loses those of a time before."""
-        if answer.finding.verdict == REFUSED_WORD:
-            faults = slips.take_away(answer.candidate, self.paper)
-        else:
-            faults = slips.write(self.desk, answer.candidate, self.paper, text)
-        for fault in faults:
+        """Writes both slips of an answer. One that was refused has none, and loses those of a time before; so does
+        every answer its pages, which ./desk export makes."""
+        made = {} if answer.finding.verdict == REFUSED_WORD else slips_of(self.desk, text)
+        for fault in slips.hand_out(answer.candidate, self.paper, made):
             self.say(fault, FAILED)
 
     def say(self, why: str, status: int) -> None:

@@ -7,22 +7,18 @@ from dataclasses import dataclass
 from office.command import printable
 from office.paper import Paper, Placed
 from office.picture import Picture
+from office.printed import STYLE, TOP
 
 NARROW = 700
-# By this a page is known as one.
-BEGINS = b'<!DOCTYPE html>'
+# By this a page is known as one; it names no kind, as those of before do not.
+BEGINS = f'{TOP}<title>'.encode()
 SIGN = ('Each loop stands under the one around it, by the point of its DO, with the count of its own barriers. A loop '
         'marked &lt; decides. Gaps, points and counts are decimal on this page, hexadecimal in texts.')
-STYLE = """
-@page { size: A4; margin: 15mm }
-body { font: 11pt/1.4 Helvetica, Arial, sans-serif; color: #17202a; max-width: 180mm; margin: 0 auto }
-h1 { font-size: 15pt }
+OF_PICTURES = """
 .two { display: grid; grid-template-columns: 1fr 1fr; gap: 8mm }
-.small { font-size: 9pt }
 figure { margin: 0 0 5mm 0; break-inside: avoid }
 figcaption { font-weight: bold; margin-bottom: 2mm }
 img { max-width: 100%; height: auto }
-pre { font: 9pt/1.3 "DejaVu Sans Mono", monospace; margin: 0; white-space: pre-wrap }
 """
 
 
@@ -50,6 +46,6 @@ def page(file: str, paper: Paper, shown: list[Shown], told: list[str]) -> str:
     pictures = ''.join(figure(drawing, side.title) for drawing, side in zip(drawings, shown))
     trees = ''.join('<pre>{}</pre>\n'.format(html.escape('\n'.join([side.title, '', *side.tree]))) for side in shown)
     reasons = ''.join(f'<p>{html.escape(words)}</p>\n' for words in told)
-    return (f'{BEGINS.decode()}\n<html lang="en">\n<head>\n<meta charset="utf-8">\n<title>{title}</title>\n'
-            f'<style>{STYLE}</style>\n</head>\n<body>\n<h1>{title}</h1>\n{reasons}<div class="two">\n{trees}</div>\n'
-            f'<p class="small">{SIGN}</p>\n<div class="{columns}">\n{pictures}</div>\n</body>\n</html>\n')
+    return (f'{BEGINS.decode()}{title}</title>\n<style>{STYLE}{OF_PICTURES}</style>\n</head>\n<body>\n'
+            f'<h1>{title}</h1>\n{reasons}<div class="two">\n{trees}</div>\n<p class="small">{SIGN}</p>\n'
+            f'<div class="{columns}">\n{pictures}</div>\n</body>\n</html>\n')

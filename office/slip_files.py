@@ -1,12 +1,15 @@
 """Files of slips: both of an answer, each reader's in a folder of its own. The examiner's is for its owner alone."""
+import itertools
 import os
 import re
 from collections.abc import Callable
 from dataclasses import dataclass
 
-from office.command import Fault, printable, take_away, write_over
+from office.command import Fault, begins_with, printable, take_away, write_over
 from office.keeping import PaperText
 from office.library import Desk
+from office.printed import begins
+from office.slip_words import CANDIDATE, EXAMINER
 
 
 @dataclass(frozen=True)
@@ -21,15 +24,23 @@ class Reader:
         return 0o600 if self.alone else 0o666
 
 
-READERS = {'candidate': Reader(Desk.candidate_slip, False), 'examiner': Reader(Desk.examiner_slip, True)}
-# Every slip begins with the line that tells the first uncut dependence.
-BEGINS = b'23'
+READERS = {CANDIDATE: Reader(Desk.candidate_slip, False), EXAMINER: Reader(Desk.examiner_slip, True)}
+SLIP, PAGE = 'hex', 'html'
+# How files begin. Every slip begins with the line that tells the first uncut dependence.
+KINDS = {SLIP: b'23', PAGE: begins('slip')}
+# What there is for a reader, by the kind of file.
+Made = dict[tuple[str, str], bytes]
 
 
-def slip_name(candidate: str, paper: PaperText, reader: str, kind: str = 'hex') -> str:
+def slip_name(candidate: str, paper: PaperText, reader: str, kind: str = SLIP) -> str:
     """What the file of a slip is called. The paper's part has no dot, so that no two slips have one name."""
     name = re.sub('[^A-Za-z0-9_-]', '_', paper.name)
     return f'{candidate}.{name}-{paper.sha256[:8]}.{reader}.{kind}'
+
+
+def slips_of(desk: Desk, text: bytes) -> Made:
+    """Both slips of an answer."""
+    return {(name, SLIP): reader.slip(desk, text) for name, reader in READERS.items()}
 
 
 @dataclass(frozen=True)
@@ -48,20 +59,22 @@ class Slips:
         except OSError as fault:
             raise Fault(f'cannot write in {printable(self.folder)}: {fault.strerror}') from fault
 
-    def write(self, desk: Desk, candidate: str, paper: PaperText, text: bytes) -> list[str]:
-        """Writes both slips of an answer; gives why one was not written."""
-        return self.each(candidate, paper, lambda file, reader: write_over(
-            file, reader.slip(desk, text), begins=BEGINS, mode=reader.mode))
-
-    def take_away(self, candidate: str, paper: PaperText) -> list[str]:
-        """Takes away the slips that a candidate had on this paper; gives why one was not."""
-        return self.each(candidate, paper, lambda file, _: take_away(file))
-
-    def each(self, candidate: str, paper: PaperText, act: Callable[[str, Reader], None]) -> list[str]:
+    def hand_out(self, candidate: str, paper: PaperText, made: Made) -> list[str]:
+        """Writes what was made for the readers of a candidate's answer on a paper, and takes away what they had before
+        where nothing takes its place; gives why something was not done."""
         faults = []
-        for name, reader in READERS.items():
+        for name, kind in itertools.product(READERS, KINDS):
+            file = os.path.join(self.folder, name, slip_name(candidate, paper, name, kind))
             try:
-                act(os.path.join(self.folder, name, slip_name(candidate, paper, name)), reader)
+                put(file, made.get((name, kind)), KINDS[kind], READERS[name].mode)
             except Fault as fault:
                 faults.append(str(fault))
         return faults
+
+
+def put(file: str, data: bytes | None, beginning: bytes, mode: int) -> None:
+    """Writes a file, or takes it away for None. One that does not begin as it should is not ours, and stays."""
+    if data is not None:
+        write_over(file, data, begins=beginning, mode=mode)
+    elif not os.path.isfile(file) or begins_with(file, beginning):
+        take_away(file)

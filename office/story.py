@@ -6,10 +6,10 @@ from collections.abc import Iterator
 
 from office import oldlog
 from office.candidates import folded
-from office.chain import OFFICE, Event, Reader, receipt_of
+from office.chain import OFFICE, Event, receipt_of
 from office.command import REFUSED, Fault, printable, write_out
 from office.logbook import LOG
-from office.refusal import Refused
+from office.played import Played
 from office.sittings import COLLECTED, ENTER, HAND_IN, LEAVE, MOVE, Sitting, Sittings, told_gaps
 from office.words import counted
 
@@ -42,15 +42,11 @@ def played(answers: str) -> Iterator[tuple[Event, Sittings]]:
         raise Fault(f'{printable(file)} is of an older form: ./desk sit takes it down anew')
     try:
         with open(file, 'rb') as opened:
-            read = Reader(file, opened)
-            room = Sittings(read.paper)
-            for event in read:
-                room.make(event)
-                yield event, room
+            log = Played(file, opened)
+            for event in log:
+                yield event, log.room
     except OSError as fault:
         raise Fault(f'cannot read {printable(file)}: {fault.strerror}') from fault
-    except (LookupError, ValueError, Refused) as fault:
-        raise Fault(f'{printable(file)}: line {read.chain.seq + 1} is no act that can be made') from fault
 
 
 def when(event: Event) -> str:

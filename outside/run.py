@@ -55,6 +55,8 @@ def parts(scripts: int = SCRIPTS, programs: int = PROGRAMS) -> dict[str, Part]:
         'workday': module('./desk: a day in the office', 'tests.workday'),
         'trouble': module('./desk: what can go wrong', 'tests.trouble'),
         'book': module('./desk: the register', 'tests.book'),
+        'slips': module('./desk: slips, notes and certificates for people', 'tests.slips'),
+        'collecting': module('./desk: sittings taken into the register', 'tests.collecting'),
         'log': module('the hall: its log, disks, kills and starts', 'hall.log'),
         'server': module('the hall: its server', 'hall.server'),
         'sitting': module('the hall: its page in a browser', 'hall.sitting'),

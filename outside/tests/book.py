@@ -19,8 +19,8 @@ import time
 
 from office import register as registers
 from office.audit import Audit
+from office.chain import now
 from office.command import Fault
-from office.keeping import now
 from office.marks import Mark, certificate_in
 from office.schema import APPLICATION
 from outside.measure.whole_day import day, marks_in

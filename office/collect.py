@@ -1,0 +1,133 @@
+"""./desk collect: a sitting that has ended is taken into the register, with its log and a mark for each candidate."""
+import argparse
+import contextlib
+import fcntl
+import os
+import pathlib
+from collections.abc import Iterator
+from dataclasses import dataclass
+
+from office import oldlog
+from office.audit import planned
+from office.candidates import folded
+from office.command import FAILED, REFUSED, Fault, printable, tell, write_out
+from office.keeping import EVERY, Answer, Marker, PaperText, finding_of, keep, marker, telling
+from office.logbook import LOG
+from office.mark import paper_name, summary
+from office.marks import Finding
+from office.played import Played
+from office.register import Register, to_write
+from office.words import ABSENT, counted
+
+HELP = 'takes a sitting that has ended into the register, with its log, and marks what was handed in'
+MORE = """Every line of the log is held against its chain, and every move is made once more by the library. Who never
+entered is marked Absent. Who entered and has neither handed in nor been collected is told and not marked, and the
+status is then 1: the same command takes them in when the log has their end.
+
+  ./desk collect answers --register register.db --paper p
+  ./desk collect answers --register register.db --new
+"""
+
+
+@dataclass(frozen=True)
+class Ended:
+    """A sitting that has ended: its log, the bytes of it, and what it is called."""
+    log: Played
+    data: bytes
+    name: str
+    paper: PaperText
+
+    def answers(self) -> list[Answer]:
+        """What came from each candidate whose sitting is over, marked. Who never entered has no answer."""
+        desk = planned(self.paper.text)
+        if desk is None:
+            raise Fault('the paper of this sitting has no key: nothing can be marked')
+        return [Answer(who, text, Finding(ABSENT) if text is None else finding_of(desk, text))
+                for who, text in self.log.ends().items()]
+
+    def add_to(self, register: Register) -> None:
+        """Adds the sitting, if it is not there yet, and the names of its candidates."""
+        log, paper = self.log, self.paper
+        with register.adding():
+            register.add_paper(paper.sha256, paper.name, paper.text)
+            for sitting in log.room.by_identity.values():
+                register.add_name(folded(sitting.candidate), sitting.name)
+            if not register.asked('SELECT 1 FROM sitting WHERE head = ?', log.head):
+                register.add('sitting', head=log.head, paper=paper.sha256, name=self.name, opened=log.opened,
+                             closed=log.closed, log=self.data)
+
+
+@contextlib.contextmanager
+def at_rest(folder: str) -> Iterator[None]:
+    """Holds the folder of a sitting, which no desk may serve meanwhile."""
+    try:
+        held = os.open(folder, os.O_RDONLY | os.O_DIRECTORY)
+    except OSError as fault:
+        raise Fault(f'cannot read {printable(folder)}: {fault.strerror}') from fault
+    try:
+        try:
+            fcntl.flock(held, fcntl.LOCK_EX | fcntl.LOCK_NB)
+        except BlockingIOError as fault:
+            raise Fault(f'{printable(folder)} is in use: the sitting has not ended yet') from fault
+        yield
+    finally:
+        os.close(held)
+
+
+def ended_in(folder: str, name: str | None) -> Ended:
+    """The sitting in a folder."""
+    file = os.path.join(folder, LOG)
+    if oldlog.is_old(file):
+        raise Fault(f'{printable(file)} is of an older form: ./desk sit takes it down anew')
+    try:
+        with open(file, 'rb') as opened:
+            log = Played(file, opened).to_the_end()
+            opened.seek(0)
+            data = opened.read(log.read.length)
+    except OSError as fault:
+        raise Fault(f'cannot read {printable(file)}: {fault.strerror}') from fault
+    if not log.opened:
+        raise Fault(f'{printable(file)} is of a sitting that never began')
+    paper = PaperText(log.room.paper, paper_name(name or '-'), log.room.text)
+    return Ended(log, data, printable(pathlib.Path(os.path.abspath(folder)).name), paper)
+
+
+def keep_all(register: Register, ended: Ended, by: Marker) -> tuple[list[Answer], list[str]]:
+    """Keeps the sitting and its marks as it goes; the answers that were taken, and why others were not."""
+    answers, taken, wrong = ended.answers(), [], []
+    with telling(register, len(answers)):
+        ended.add_to(register)
+        for first in range(0, len(answers), EVERY):
+            for outcome in keep(register, ended.paper, answers[first:first + EVERY], by):
+                if not outcome.why:
+                    taken.append(outcome.answer)
+                elif outcome.answer.text is not None:  # who is absent here has an answer from elsewhere
+                    wrong.append(f'{outcome.answer.candidate}: {outcome.why}')
+    return taken, wrong
+
+
+def arguments(parser: argparse.ArgumentParser) -> None:
+    parser.add_argument('answers', metavar='DIR', help='the folder of the answers, with the log')
+    parser.add_argument('--register', metavar='FILE', required=True, help='the file of the register')
+    parser.add_argument('--new', action='store_true', help='makes the register, where no file is yet')
+    parser.add_argument('--paper', metavar='NAME', help='what the paper is called, where it is new in the register')
+    parser.add_argument('--replace', metavar='REASON', help='puts answers in the place of others that were marked')
+
+
+def main(asked: argparse.Namespace) -> None:
+    if asked.replace is not None and not asked.replace.strip():
+        raise Fault('--replace wants the reason')
+    with at_rest(asked.answers):
+        ended = ended_in(asked.answers, asked.paper)
+    with to_write(asked.register, asked.new) as register:
+        by = marker(asked.replace and printable(asked.replace), ended.log.head)
+        taken, wrong = keep_all(register, ended, by)
+        added = f'{counted(register.kept, "mark")} added, head {register.head()}'
+        write_out(f'{summary(taken)}\n{printable(asked.register)}: {added}\n'.encode())
+    under_way = ended.log.under_way()
+    for who in under_way:
+        tell('desk', f'{who} entered and has neither handed in nor been collected, and is not marked')
+    for why in wrong:
+        tell('desk', why)
+    if wrong or under_way:
+        raise Fault('', FAILED if wrong else REFUSED)
