@@ -214,7 +214,7 @@ def not_written(tally: Tally, folder: pathlib.Path) -> None:
                          ('an answer', other), ('a candidate', "UPDATE mark SET candidate = 'fay' WHERE seq = 2")]:
         changed, place = folder / 'changed.db', folder / name
         shutil.copy(register, changed)
-        change(changed, script, False)
+        change(changed, script, mend=name == 'a verdict')
         seen = run(DESK, 'export', changed, '--slips', place)
         held = 'mark 2, ' in seen.err and 'not as it was made' in seen.err and seen.status == 2
         tally.check(f'{name} was changed', held and not [*place.glob('*/bert*'), *place.glob('*/fay*')], seen)
