@@ -6,7 +6,7 @@ from office.certificate_page import BEGINS, Office, certificate_page
 from office.chain import now
 from office.command import REFUSED, Fault, printable, read_plain, write_out, write_over
 from office.marks import Mark
-from office.register import Register, opened
+from office.register import Register, opened, readable
 from office.stored import Stored
 from office.view import verdict
 
@@ -68,7 +68,7 @@ def best_of(register: Register, candidate: str, paper: str | None) -> Mark:
 
 def main(asked: argparse.Namespace) -> None:
     office = office_asked(asked)
-    with opened(asked.register, writing=True) as register:
+    with opened(asked.register, writing=True) as register, readable(asked.register):
         stored = Stored(register)
         with register.adding():
             mark = best_of(register, asked.candidate, asked.paper)

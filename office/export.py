@@ -5,7 +5,7 @@ from dataclasses import dataclass
 from office.command import FAILED, Fault, printable, tell, write_out
 from office.marks import Mark
 from office.progress import Progress
-from office.register import Register, opened
+from office.register import Register, opened, readable
 from office.slip_files import PAGE, READERS, SLIP, Made, Slips, slips_of
 from office.slip_pages import note_page, slip_page
 from office.slip_words import slip_in
@@ -71,7 +71,7 @@ def chosen(register: Register, candidate: str | None, after: int) -> list[Mark]:
 
 def main(asked: argparse.Namespace) -> None:
     slips, last = Slips(asked.slips), 0
-    with opened(asked.register) as register:
+    with opened(asked.register) as register, readable(asked.register):
         export = Export(Stored(register), slips)
         slips.make()
         while marks := chosen(register, asked.candidate, last):  # once more, if desks have marked meanwhile

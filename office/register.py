@@ -234,6 +234,15 @@ def opened(file: str, writing: bool = False) -> Register:
         raise Fault(f'{printable(file)} is there and no register, so it is left alone: {fault}') from fault
 
 
+@contextlib.contextmanager
+def readable(file: str) -> Iterator[None]:
+    """What is of another kind than a register has it is a fault of the file."""
+    try:
+        yield
+    except (TypeError, ValueError, AttributeError) as fault:
+        raise Fault(f'{printable(file)} is damaged: ./desk audit tells where') from fault
+
+
 def to_write(file: str, new: bool) -> Register:
     """The register of a file to add to, a new one if that is asked for."""
     return made(file) if new else opened(file, writing=True)

@@ -3,7 +3,7 @@ import argparse
 
 from office.command import REFUSED, Fault, printable, write_out
 from office.marks import certificate_in
-from office.register import Register, opened
+from office.register import Register, opened, readable
 from office.slip_pages import of_whom, when
 from office.stored import Stored, damaged
 from office.view import verdict
@@ -44,7 +44,7 @@ def answer_to(register: Register, typed: str) -> tuple[bool, list[str]]:
 
 
 def main(asked: argparse.Namespace) -> None:
-    with opened(asked.register) as register:
+    with opened(asked.register) as register, readable(asked.register):
         holds, lines = answer_to(register, asked.number)
     write_out('\n'.join([*lines, '']).encode())
     if not holds:

@@ -1,9 +1,9 @@
 """./desk register: what the register says, at the screen, as CSV or as JSON."""
 import argparse
 
-from office.command import Fault, printable, write_out
+from office.command import write_out
 from office.marks import Finding, Mark
-from office.register import Register, opened
+from office.register import Register, opened, readable
 from office.rows import ALL, as_csv, as_json, cells_of
 from office.words import counted
 
@@ -73,9 +73,6 @@ def told(register: Register, asked: argparse.Namespace) -> bytes:
 
 
 def main(asked: argparse.Namespace) -> None:
-    with opened(asked.register) as register:
-        try:
-            out = told(register, asked)
-        except (TypeError, ValueError) as fault:
-            raise Fault(f'{printable(asked.register)} is damaged: ./desk audit tells where') from fault
+    with opened(asked.register) as register, readable(asked.register):
+        out = told(register, asked)
     write_out(out)

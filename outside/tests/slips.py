@@ -250,12 +250,14 @@ def certified(tally: Tally, folder: pathlib.Path) -> None:
     tally.check('audited', run(DESK, 'audit', register).status == 0)
     for name, script in [('the mark', "UPDATE mark SET candidate = 'bert' WHERE seq = 1"),
                          ('the certificate', "UPDATE certificate SET number = 'aaaa-aaaa-aaaa-aaaa'"),
-                         ('its mark', 'UPDATE certificate SET mark = 3')]:
+                         ('its mark', 'UPDATE certificate SET mark = 3'),
+                         ('its hash', f"UPDATE mark SET own = '{'z' * 64}' WHERE seq = 1")]:
         changed = folder / 'changed.db'
         shutil.copy(register, changed)
         change(changed, script, False)
         seen = run(DESK, 'verify', changed, 'aaaa-aaaa-aaaa-aaaa' if name == 'the certificate' else number)
-        tally.check(f'{name} was changed', seen.failed('not as it was made'), seen)
+        word = 'is damaged: ./desk audit' if name == 'its hash' else 'not as it was made'
+        tally.check(f'{name} was changed', seen.failed(word), seen)
 
 
 def no_certificate(tally: Tally, folder: pathlib.Path) -> None:
