@@ -34,7 +34,7 @@ class Nest:
 
 @dataclass(frozen=True)
 class Shape:
-    """The shape of a nest: the loop of each gap by its DO, the ENDDO of each DO, how many loops each point is inside."""
+    """The shape of a nest: the loop of each gap by its DO, the ENDDO of each DO, how many loops a point is inside."""
     owner: dict[int, int]
     end: dict[int, int]
     depth: list[int]

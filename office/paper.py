@@ -1,4 +1,4 @@
-"""A paper as the calls tell of it: its loops, the loop of each gap, the gaps of each dependence; and placements on it."""
+"""A paper as the calls tell of it: its loops, the loop of each gap, the gaps of each dependence; placements on it."""
 from dataclasses import dataclass
 
 from office.frames import INDEPENDENT, NONE, frames_of

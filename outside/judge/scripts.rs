@@ -294,7 +294,8 @@ fn fixed_scripts() -> Vec<Vec<Call>> {
     let asked = made.map(|text| vec![Call::Load(text), Call::Plan, Call::MissingRuns]);
     let beside = (2..=SMALLEST).flat_map(every_shape).flat_map(|nest| comparisons(&nest));
     let every = (2..=SMALLEST).flat_map(every_paper).map(|nest| asks_of(&nest));
-    lines.chain(asked).chain(joins()).chain(every_sheet()).chain(beside).chain(shapes::every_ask()).chain(every).collect()
+    let shapes = shapes::every_ask();
+    lines.chain(asked).chain(joins()).chain(every_sheet()).chain(beside).chain(shapes).chain(every).collect()
 }
 
 /// What is asked of a small paper: its missing runs; its calls under all turns from 2 to 4, under some if it is not one
