@@ -4,6 +4,7 @@ The process must never plan: in it every call that needs a key, or gives a place
 """
 import atexit
 import csv
+import functools
 import http.client
 import json
 import os
@@ -70,7 +71,8 @@ class Hall:
         with open(self.folder / 'said', 'ab') as said:
             self.process = subprocess.Popen(
                 ['bash', '-c', f'{limit} exec "$@"', 'bash', *self.command], stdout=subprocess.PIPE, stderr=said,
-                env={**os.environ, 'PYTHONPATH': str(self.folder), **self.environment}, text=True)
+                env={**os.environ, 'PYTHONPATH': str(self.folder), **self.environment}, text=True,
+                preexec_fn=functools.partial(signal.signal, signal.SIGHUP, signal.SIG_DFL))  # also under nohup
         atexit.register(self.process.kill)
         self.said = self.process.stdout.readline() + self.process.stdout.readline()
         opened = re.match(r'(https?://[^/]*?(?::(\d+))?/) is open', self.said)
