@@ -1,5 +1,5 @@
 """Full-size papers for measuring: papers.py KIND POINTS [SEED] writes a nest text, the same each time, another for
-each SEED.
+each SEED; papers.py KIND alone writes one that was found by climbing and is kept.
 
 KIND: deep (8 loops, one in the other), one (one loop), many (small loops side by side), mixed (a random tree), carried
 (empty loops side by side, 8 deep), tails (deep, with a statement at the end of each loop), pairs (tails 7 deep, with
@@ -7,11 +7,17 @@ empty loops in the innermost), barred (one loop with half as many barred gaps as
 dependences as points, independent and carried in equal parts; in a carried paper the outermost loop carries them all,
 in a barred one each has a gap that is not barred. In tails and pairs all are independent, from the statement at each
 loop's end to its ENDDO and from each empty loop to the next, again and again: each search of the planner goes far.
+
+Found by climbing on the planner's instructions, in the folder found: comb (74 loops, 59 of them 8 deep) and bush (115
+loops, at every depth).
 """
+import pathlib
 import random
 import sys
 
 DO, END, ST = 1, 2, 3
+KINDS = ('deep', 'one', 'many', 'mixed', 'carried', 'tails', 'pairs')
+FOUND = ('comb', 'bush')
 
 
 def points(kind: str, n: int, rng: random.Random) -> list[int]:
@@ -61,7 +67,9 @@ def short_lines(ps: list[int], end: dict[int, int]) -> list[tuple[int, int]]:
 
 
 def text(kind: str, n: int = 256, seed: str = '') -> bytes:
-    """The nest text of a kind with so many points."""
+    """The nest text of a kind with so many points; of one that was found the text that is kept."""
+    if kind in FOUND:
+        return (pathlib.Path(__file__).parent / 'found' / f'{kind}.hex').read_bytes()
     rng = random.Random(kind + str(n) + seed)
     ps = points(kind, n, rng)
     end = ends(ps)
@@ -92,4 +100,4 @@ def text(kind: str, n: int = 256, seed: str = '') -> bytes:
 
 
 if __name__ == '__main__':
-    sys.stdout.buffer.write(text(sys.argv[1], int(sys.argv[2]), ''.join(sys.argv[3:])))
+    sys.stdout.buffer.write(text(sys.argv[1], int(''.join(sys.argv[2:3]) or 256), ''.join(sys.argv[3:])))

@@ -6,18 +6,17 @@ The last line is 'N passed, M failed', and the status is 0 only if nothing faile
 """
 import pathlib
 import re
-import resource
 import subprocess
 import sys
 import tempfile
 
-from outside.measure import papers
+from outside.measure import stack
 from outside.trying import ROOT, Tally
 
 ARCHIVE = ROOT / 'target/staticlib/libhost.a'
 HEADER = ROOT / 'crates/host/desk.h'
 C = ['gcc', '-std=c11', '-Wall', '-Wextra', '-Werror', '-Wno-cast-function-type', '-I', HEADER.parent]
-STACK = 160 * 1024  # what desk.h says
+ROOM = f'a stack of {stack.STACK} KiB has room for every call and for {stack.OWN} KiB of frames of its own'
 PAPERS = {
     'p.hex': (0, '2105\n210b\nUncut 4 0 0\ngap 5 put: 3 uncut\n'),
     'q.hex': (0, '2102\n2106\nUncut 1 0 0\ngap 5 put: 1 uncut\n'),
@@ -92,14 +91,14 @@ def check_examples(tally: Tally, work: pathlib.Path) -> None:
 
 
 def check_stack(tally: Tally, work: pathlib.Path) -> None:
-    """Full-size papers with no more stack than the header asks for."""
-    def narrow() -> None:
-        resource.setrlimit(resource.RLIMIT_STACK, (STACK, STACK))
-
-    for kind in ('deep', 'one', 'pairs', 'barred'):
-        (work / 'paper.hex').write_bytes(papers.text(kind))
-        done = subprocess.run([work / 'desk_c', work / 'paper.hex'], env={}, preexec_fn=narrow, capture_output=True)
-        tally.check(f'{kind} with {STACK} bytes of stack', done.returncode == 0 and done.stdout.startswith(b'21'))
+    """Every call on full-size papers, on a thread with no more stack than the header asks for."""
+    declared = set(re.findall(r'^\w+ (\w+)\([^;]*\);$', HEADER.read_text(), re.M))
+    program, fault = stack.built(work)
+    tally.check('stack.c compiles', not fault, fault)
+    tally.check(f'desk.h says: {ROOM}', ROOM in ' '.join(HEADER.read_text().split()))
+    for kind, text in stack.PAPERS.items() if not fault else []:
+        taken = stack.depths(program, text)
+        tally.check(f'{kind}: every call, and no other', set(taken) == declared, sorted(declared ^ set(taken)))
 
 
 def main() -> None:
@@ -111,8 +110,7 @@ def main() -> None:
             check_said(tally)
             check_layout(tally, pathlib.Path(name))
             check_examples(tally, pathlib.Path(name))
-            if (pathlib.Path(name) / 'desk_c').exists():
-                check_stack(tally, pathlib.Path(name))
+            check_stack(tally, pathlib.Path(name))
     else:
         tally.check(f'{ARCHIVE} is there: rt staticlib host builds it', False)
     tally.close()
