@@ -2,9 +2,9 @@
 
      stack < PAPER    a line for each call: its name, and the bytes that it took
 
-   Before a call the rest of the stack is painted, and after it the lowest byte without paint tells how far down the call
-   went: with its arguments, which are copied, and with what stands between the reply and where the host keeps it. A
-   call that wants more than is left meets the page below the stack, which may not be touched. */
+   Before a call the rest of the stack is painted, and after it the lowest byte without paint tells how far down the
+   call went: with its arguments, which are copied, and with what stands between the reply and where the host keeps it.
+   A call that wants more than is left meets the page below the stack, which may not be touched. */
 #define _GNU_SOURCE
 #include "desk.h"
 #include <pthread.h>

@@ -55,7 +55,7 @@ def check_said(tally: Tally) -> None:
     said = ' '.join(HEADER.read_text().split())
     for rule in ('No call checks a desk: on one that no call made it may answer anything',
                  'Where the length is 0 the pointer is not read, and may be NULL.',
-                 'A buffer does not overlap a text that it is written from'):
+                 'A buffer does not overlap a text that it is written from', ROOM):
         tally.check(f'the header says: {rule}', rule in said)
 
 
@@ -95,7 +95,6 @@ def check_stack(tally: Tally, work: pathlib.Path) -> None:
     declared = set(re.findall(r'^\w+ (\w+)\([^;]*\);$', HEADER.read_text(), re.M))
     program, fault = stack.built(work)
     tally.check('stack.c compiles', not fault, fault)
-    tally.check(f'desk.h says: {ROOM}', ROOM in ' '.join(HEADER.read_text().split()))
     for kind, text in stack.PAPERS.items() if not fault else []:
         taken = stack.depths(program, text)
         tally.check(f'{kind}: every call, and no other', set(taken) == declared, sorted(declared ^ set(taken)))
