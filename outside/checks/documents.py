@@ -33,7 +33,7 @@ Documents = dict[str, str]
 
 # Words in code type that the repository does not define: the kit's, and those that stand for what a reader fills in.
 KIT = set('''abbrev cc count_ones declared ensures gcc length-set let main omega pub python3 requires rt rustc rw
-    subst usize valgrind where'''.split())
+    subst u16 usize valgrind where'''.split())
 # The headings of PROOFS on what to believe: the pages, and the definitions for those who want more.
 BELIEVED, BEHIND = 'What a reader must believe', 'The definitions behind the contracts'
 STAND_IN = set('CRATE EDIT FUNCTION GAPS LABEL NAME PART SECONDS'.split())
