@@ -1,6 +1,7 @@
-/* Calls for measuring: loads the paper on standard input, plans it, writes the key and marks what was written; holds the
-   text with every gap beside the one without gap 1, and hands the paper's own dependences over as a list; then puts and
-   lifts a gap 20 times, and takes the 40 moves back. outside/measure/instructions counts the instructions inside the calls. */
+/* Calls for measuring: loads the paper on standard input, plans it, writes the key and marks what was written; holds
+   the text with every gap beside the one without gap 1, and hands the paper's own dependences over as a list; then puts
+   and lifts a gap 20 times, and takes the 40 moves back. outside/measure/instructions counts the instructions inside
+   the calls. */
 #include "desk.h"
 #include <stdio.h>
 #include <stdlib.h>

@@ -27,8 +27,8 @@ abbrev pub slice : Ty
 slice = sliceTy (tyRef (named 0) imm (pointee (E.the-row .written)))
 
 -- a turn once its test held, a turn, what comes after the loop, from the call of `begin` on, the whole.
--- The locals: 0 the result, 1 the desk, 2 the slice, 3 the ends, 4 the answer so far, 5 the index, 6 a number, 7 the test,
--- 8 where the record lies, 9 the record
+-- The locals: 0 the result, 1 the desk, 2 the slice, 3 the ends, 4 the answer so far, 5 the index, 6 a number, 7 the
+-- test, 8 where the record lies, 9 the record
 abbrev pub more : Body
 more =
     seq

@@ -1,6 +1,6 @@
 -- The ends of the loops of a desk, in a byte each: on a desk made by calls every loop ends at a point.
--- Main definition: `Shortened`, what a turn keeps. Main statements: `made-ends`; `short-start`, `short-put`, `short-by`,
--- `short-done`.
+-- Main definition: `Shortened`, what a turn keeps. Main statements: `made-ends`; `short-start`, `short-put`,
+-- `short-by`, `short-done`.
 use mathlib.Core.Path.{_≡_, sym, ap, _∙_}
 use mathlib.Core.Bool.{true, false}
 use mathlib.Core.List.{List}

@@ -17,8 +17,8 @@ use paper_nests::INDEPENDENT;
 use paper_nests::Nest;
 use paper_placements::Cut;
 
-// The ENDDO of every DO of a nest, by the DO's point: found once for a list, looked up for each record. A byte each, as the
-// table goes into every step by value.
+// The ENDDO of every DO of a nest, by the DO's point: found once for a list, looked up for each record. A byte each, as
+// the table goes into every step by value.
 pub struct Ends {
     pub of: [u8; Nest::POINTS],
 }

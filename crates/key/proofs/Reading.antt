@@ -94,11 +94,11 @@ pub record Reading (buffer : List ℕ) (r : Reads) (at : ℕ) (b : List ℕ) : T
 pub reading-start : (buffer : List ℕ) → Reading buffer (reads 0 0) 0 buffer
 reading-start buffer = record { run = Run.none; at-is = refl; borne = omega arith; long = refl }
 
-module _ (buffer : List ℕ) (r : Reads) (at : ℕ) (b : List ℕ) (p : Reading buffer r at b) where
+module _ {buffer : List ℕ} {r : Reads} {at : ℕ} {b : List ℕ} (p : Reading buffer r at b) where
   pub reading-within : at ≤ length b
   reading-within = omega (arith, p .at-is, run-within buffer r b (p .run))
 
-  module _ (s : Step) (b′ : List ℕ) (says : StepSays at s b b′) where
+  module _ {s : Step} {b′ : List ℕ} (says : StepSays at s b b′) where
     here : StepSays (r .bytes) s b b′
     here = subst (λ (k : ℕ). StepSays k s b b′) (p .at-is) says
 
@@ -111,7 +111,7 @@ module _ (buffer : List ℕ) (r : Reads) (at : ℕ) (b : List ℕ) (p : Reading 
         go SV.Interrupted q = omega (arith, p .borne)
         go SV.Failed q = tt
 
-    module _ (r′ : Reads) (e : afterStep r s ≡ NV.On r′) where
+    module _ {r′ : Reads} (e : afterStep r s ≡ NV.On r′) where
       on : Ahead r s r′ b b′
       on = ahead r r′ b b′ (run-within buffer r b (p .run)) s here e
 
@@ -128,8 +128,8 @@ module _ (buffer : List ℕ) (r : Reads) (at : ℕ) (b : List ℕ) (p : Reading 
           : (length b′ - r′ .bytes) + (INTERRUPTS - r′ .interrupts) < (length b - at) + (INTERRUPTS - r .interrupts)
       reading-less = omega (arith, on .less (p .borne), p .at-is)
 
-    pub reading-done : (told : Input) → afterStep r s ≡ NV.Done told → IsRead buffer told b′
-    reading-done told e = IsRead.last r s told b b′ (p .run) here e
+    pub reading-done : {told : Input} → afterStep r s ≡ NV.Done told → IsRead buffer told b′
+    reading-done {told} e = IsRead.last r s told b b′ (p .run) here e
 
   pub reading-full : length b ≤ at → IsRead buffer (IV.Whole at) b
   reading-full h =

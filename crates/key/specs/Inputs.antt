@@ -1,5 +1,5 @@
--- What is said of standard input: no contract can say which bytes C's read puts into a buffer, but where they lie, that a
--- later read leaves those of an earlier one, and that what is handed on ends where the last of them ended.
+-- What is said of standard input: no contract can say which bytes C's read puts into a buffer, but where they lie, that
+-- a later read leaves those of an earlier one, and that what is handed on ends where the last of them ended.
 -- Main definitions: `StepSays`, `afterStep`, `Run`, `IsRead`.
 use mathlib.Core.Path.{_≡_}
 use mathlib.Core.List.{List}

@@ -55,7 +55,8 @@ module _
         within = omega (arith, t .there);
         each =
             λ n a b same ca cb.
-            weigh-other n (rw same (t .shape)) a b e latest first second ws (t .kept .each n a b same ca cb) (rw same k);
+            weigh-other n (rw same (t .shape)) a b e latest first second ws (t .kept .each n a b same ca cb)
+            (rw same k);
       }
 
   module _ {d : ℕ} (x : Ending ps e d) where

@@ -1,7 +1,7 @@
 -- The pass over the loops by their ENDDOs. A loop that ends at e has inside it just the loops that ended before e and
 -- begin behind its DO, so the last DO of those with different counts says whether it may decide.
--- Main definitions: `Weighing`, what a turn keeps; `Quiet`, a loop that changes nothing. Main statements: `weigh-start`,
--- `weigh-other`, `weigh-hidden`, `weigh-same`, `weigh-less`, `weigh-more`, `weigh-done`.
+-- Main definitions: `Weighing`, what a turn keeps; `Quiet`, a loop that changes nothing. Main statements:
+-- `weigh-start`, `weigh-other`, `weigh-hidden`, `weigh-same`, `weigh-less`, `weigh-more`, `weigh-done`.
 use mathlib.Core.Path.{_≡_, refl, sym, ap, _∙_}
 use mathlib.Core.Bool.{Bool, true, false, not, _||_}
 use mathlib.Core.List.{List}
@@ -18,8 +18,8 @@ use Rattle.paper_nests.specs.Nests.{Nest}
 use Rattle.paper_nests.specs.Loops.{isDo, isEnd, endOf, ownerOf}
 use Rattle.paper_nests.specs.Valid.{isShape}
 use Rattle.paper_nests.proofs.Levels.{point-in, end-not-first}
-use Rattle.paper_nests.proofs.Loops.{inside-lies, inside-by, end-after, end-there, end-is-end, end-has-do, end-injective}
-use Rattle.paper_nests.proofs.Loops.{owner-is-do}
+use Rattle.paper_nests.proofs.Loops.{inside-lies, inside-by, owner-is-do}
+use Rattle.paper_nests.proofs.Loops.{end-after, end-there, end-is-end, end-has-do, end-injective}
 use Rattle.paper_placements.specs.Placements.{loopCount, loopsOf}
 use Rattle.paper_placements.specs.Words.{GAPS, holds, gapsIn}
 use Rattle.paper_placements.proofs.Inside.{inside-ends}

@@ -20,9 +20,10 @@ pub struct Standing {
     pub deciding: Placement,
 }
 
-// Holds two placements beside each other, in one pass over the loops by their ENDDOs. The loops inside one are those that
-// ended before it and begin behind its DO: `latest` is the last DO of a loop that ended with different counts, so a loop
-// has the same counts in all the loops inside it if its DO is not before that. Where then its own differ, it decides.
+// Holds two placements beside each other, in one pass over the loops by their ENDDOs. The loops inside one are those
+// that ended before it and begin behind its DO: `latest` is the last DO of a loop that ended with different counts, so
+// the counts in all the loops inside one are the same if its DO is not before that. Where then its own differ, it
+// decides.
 pub fn weigh(points: &[u8], a: Placement, b: Placement) -> Standing
     requires { ⌜ (isShape (now points) ≡ true) × (length (now points) ≤ POINTS) ⌝ }
     requires { ⌜ areGapsFrom 0 (length (now points)) (gapsIn (a .words)) ≡ true ⌝ }

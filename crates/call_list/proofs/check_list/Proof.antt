@@ -1,9 +1,8 @@
--- `check_list` meets its contract: a walk of its MIR (proofs/Lowered), by hand, since the borrow checker covers no slice
--- of structs. `ends_on` finds the ends of the loops, `begin` answers before the first record; each turn of the loop copies
--- one record out of the lent slice and passes it to `step`. All that the proof knows of the three is that each meets its
--- contract, and that the answers add up to the list's (proofs/Turns). Desk, ends, answer and record own only facts, so
--- what they own is made anew wherever it is asked. The slice is Copy: of what it owns one copy is kept whole, and the
--- other is opened for the record.
+-- `check_list` meets its contract: a walk of its MIR (proofs/Lowered), by hand, since the borrow checker covers no
+-- slice of structs. `ends_on` finds the loops' ends, `begin` answers before the first record, and each turn copies one
+-- record out of the lent slice for `step`. Of the three the proof knows the contracts alone; their answers make up the
+-- list's (proofs/Turns). Desk, ends, answer and record own only facts, so what they own is made anew wherever it is
+-- asked. The slice is Copy: of what it owns one copy is kept whole, the other is opened for the record.
 -- Main statements: `leaves`, `goes-on` and `turns`, the loop; `body`; `walk`; `check-list-spec`.
 use mathlib.Core.Path.{_≡_, refl, sym}
 use mathlib.Core.Bool.{Bool}
@@ -264,8 +263,8 @@ module _ {M : Type 1} (𝓤 : URA M) (H : Heap 𝓤) (A : Atoms 𝓤) (mem : Mem
 
           -- the ends are found
           module _ (n : Ends) (nv : Val) (isn : IsEnds n nv) (has : Has n) where
-            -- the context from the index's local on; at the head of the loop, which is its invariant; and once the test is
-            -- made, which came out as y. In front stand the token and the slice
+            -- the context from the index's local on; at the head of the loop, which is its invariant; and once the test
+            -- is made, which came out as y. In front stand the token and the slice
             abbrev So-far : State → List (Item 𝓤)
             So-far t = held word l₅ (vint w64 (t .i)) (held R′.mir l₄ (t .v) (held N′.mir l₃ nv Passed))
 
@@ -277,7 +276,8 @@ module _ {M : Type 1} (𝓤 : URA M) (H : Heap 𝓤) (A : Atoms 𝓤) (mem : Mem
             abbrev Tested : State → Bool → List (Item 𝓤)
             Tested t y =
                 ‵ (flft κ q) ∷ ‵ Own ∷
-                free E′.mir l₉ (free tyPtr l₈ (held tyBool l₇ (vbool y) (held word l₆ (vint w64 (length ys)) (So-far t))))
+                free E′.mir l₉ (free tyPtr l₈ (held tyBool l₇ (vbool y)
+                (held word l₆ (vint w64 (length ys)) (So-far t))))
 
             -- a turn ends nearer to the end of the list, or the loop is left and what comes after it runs
             abbrev Turned : State → Out → SProp 𝓤
@@ -292,9 +292,10 @@ module _ {M : Type 1} (𝓤 : URA M) (H : Heap 𝓤) (A : Atoms 𝓤) (mem : Mem
                 returns ! (look ! 20 refl) $
                 forget ! 6 refl $ forget ! 8 refl $ forget ! 10 refl $ forget ! 12 refl $ forget ! 14 refl $
                 forget ! 16 refl $ forget ! 18 refl $ forget ! 20 refl $
-                move ! (20 ∷ 21 ∷ []) $ free1 ! $ move ! (18 ∷ 19 ∷ []) $ free1 ! $ move ! (16 ∷ 17 ∷ []) $ free1 ! $ move ! (14 ∷ 15 ∷ []) $ free1 ! $
-                move ! (12 ∷ 13 ∷ []) $ free1 ! $ move ! (10 ∷ 11 ∷ []) $ free1 ! $ move ! (8 ∷ 9 ∷ []) $ free1 ! $
-                move ! (6 ∷ 7 ∷ []) $ free1 ! $ move ! (4 ∷ 5 ∷ []) $ free1 ! $ move ! (2 ∷ 3 ∷ []) $ free1 ! $ free0 ! $
+                move ! (20 ∷ 21 ∷ []) $ free1 ! $ move ! (18 ∷ 19 ∷ []) $ free1 ! $ move ! (16 ∷ 17 ∷ []) $ free1 ! $
+                move ! (14 ∷ 15 ∷ []) $ free1 ! $ move ! (12 ∷ 13 ∷ []) $ free1 ! $ move ! (10 ∷ 11 ∷ []) $ free1 ! $
+                move ! (8 ∷ 9 ∷ []) $ free1 ! $ move ! (6 ∷ 7 ∷ []) $ free1 ! $ move ! (4 ∷ 5 ∷ []) $ free1 ! $
+                move ! (2 ∷ 3 ∷ []) $ free1 ! $ free0 ! $
                 by ! (exits (t .a) (t .v) (t .is) (taken-all d ys (t .i) (t .a) (t .taken) over))
 
             -- one record more
@@ -362,7 +363,8 @@ module _ {M : Type 1} (𝓤 : URA M) (H : Heap 𝓤) (A : Atoms 𝓤) (mem : Mem
                   (and-then ! (load ! (from ! (stop !)) (look ! 11 refl)) (no-more !)))))) (λ u.
                   use1 W
                   (later (some (λ (r : Answer).
-                  (‵ ftrue ⊛ ‵ (R.the-row .own r (u ∷ []))) ⊛ raw (Stepped n nv (t .a) (t .v) e ev (t .i) r)))) (id⊢ 𝓤 _) $
+                  (‵ ftrue ⊛ ‵ (R.the-row .own r (u ∷ []))) ⊛ raw (Stepped n nv (t .a) (t .v) e ev (t .i) r))))
+                  (id⊢ 𝓤 _) $
                   await ! tt $ pick ! (λ r. split ! $ move ! (1 ∷ []) $
                   use1 W (raw (fact 𝓤 (Told r))) (says-step n nv (t .a) (t .v) e ev (t .i) r) $
                   heard ! (Told r) (λ told. split ! $ drop ! $
@@ -454,7 +456,7 @@ module _ {M : Type 1} (𝓤 : URA M) (H : Heap 𝓤) (A : Atoms 𝓤) (mem : Mem
             alloc1 ! (λ l₆. alloc1 ! (λ l₇. alloc1 ! (λ l₈. alloc1 ! (λ l₉. alloc0 ! $ params1 ! $
             pass1 ! (init ! 16 refl typed) $
             pass1 ! (init ! 14 refl (tt, (tt, (record { fits = room .0 }, tt)))) $ pass0 ! $
-            -- [_9; …; _8; …; _7; …; _6; …; _5; …; _4; …; _3; …; _2; …; _1; …; _0; …; the token; what desk and slice own]
+            -- [_9; …; _8; …; _7; …; _6; …; _5; …; _4; …; _3; …; _2; …; _1; …; _0; …; the token; what the two own]
             move ! (20 ∷ []) $ split ! $ move ! (1 ∷ []) $ drop ! $ move ! (21 ∷ []) $ fsplit ! $ drop ! $
             fsplit ! $ move ! (1 ∷ []) $ drop ! $ move ! (1 ∷ []) $
             body made room 𝓣 known-step l₀ l₁ l₂ l₃ l₄ l₅ l₆ l₇ l₈ l₉ known-ends known-begin))))))))))

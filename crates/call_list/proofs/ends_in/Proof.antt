@@ -37,13 +37,18 @@ called c = c .before .before .before .before .before .before
 in-table : (c : tie.Then1 Inv-loop μ-loop) → c .before .before .before .loop .next < 256
 in-table c = omega (arith, c .before .before .loop-test .taken, called c .pre .0)
 
-is-do : (c : tie.Then1 Inv-loop μ-loop) → isDo (called c .args .points .now) (c .before .before .before .loop .next) ≡ true
-is-do c = eq-eqb (getD (called c .args .points .now) (c .before .before .before .loop .next) 0) DO (c .if1 .taken)
+is-do
+    : (c : tie.Then1 Inv-loop μ-loop)
+    → isDo (called c .args .points .now) (c .before .before .before .loop .next) ≡ true
+is-do c =
+    let kind = getD (called c .args .points .now) (c .before .before .before .loop .next) 0 in
+    eq-eqb kind DO (omega (arith, c .if1 .taken))
 
 -- the loop's end, from the other table
 end-is
     : (c : tie.Then1 Inv-loop μ-loop)
-    → getD (c .before .before .before .before .ends-of .result) (c .before .before .before .loop .next) 0 ≡ endOf (called c .args .points .now) (c .before .before .before .loop .next)
+    → let d = c .before .before .before .loop .next in
+    getD (c .before .before .before .before .ends-of .result) d 0 ≡ endOf (called c .args .points .now) d
 end-is c = c .before .before .before .before .ends-of .ensures (c .before .before .before .loop .next) (is-do c)
 
 mul-of : tie.Need-mul-of Inv-loop μ-loop
@@ -70,7 +75,7 @@ loop-less-2 : tie.Need-loop-less-2 Inv-loop μ-loop
 loop-less-2 c = omega (arith, c .before .before .loop-test .taken)
 
 loop-again-2 : tie.Need-loop-again-2 Inv-loop μ-loop
-loop-again-2 c = short-by (c .before .before .before .loop .inv) (c .if1 .left)
+loop-again-2 c = short-by (c .before .before .before .loop .inv) (λ q. omega (arith, c .if1 .left, q))
 
 returns : tie.Need-returns Inv-loop μ-loop
 returns c = short-done (c .before .loop .inv) (omega (arith, c .loop-test .left))

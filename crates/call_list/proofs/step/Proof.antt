@@ -26,43 +26,54 @@ cast-end : tie.Need-cast-end
 cast-end c = search needs
 
 array-share-prefix-points : tie.Need-array-share-prefix-points
-array-share-prefix-points c = counted-points (c .before .before .before .before .before .before .args .desk .nest) (c .before .before .before .before .before .before .pre .0)
+array-share-prefix-points c =
+    let s = c .before .before .before .before .before .before in
+    counted-points (s .args .desk .nest) (s .pre .0)
 
 slice-aggregate-record-fault : tie.Need-slice-aggregate-record-fault
 slice-aggregate-record-fault c = search needs
 
 record-fault-requires : tie.Need-record-fault-requires
-record-fault-requires c κs carried loop = c .before .before .before .before .before .before .before .pre .1 .0 (c .before .before .before .before .before .before .before .args .e .d) loop
+record-fault-requires c κs carried loop =
+    let s = c .before .before .before .before .before .before .before in
+    s .pre .1 .0 (s .args .e .d) loop
 
 add-t21 : tie.Need-add-t21
 add-t21 c = search needs
 
 returns-2 : tie.Need-returns-2
 returns-2 c =
-    let a = c .before .before .before .before .before .before .before .before .before .args in
-    let f = c .before .record-fault in
-    record-refused (deskIn (a .desk)) (a .found) (depIn (a .e)) (a .i) (c .before .before .before .before .before .before .before .if1 .left) (f .result) (f .ensures)
-    (c .if2 .taken)
+    let f = c .before in
+    let b = f .before .before .before .before .before .before in
+    let a = b .before .before .args in
+    record-refused (deskIn (a .desk)) (a .found) (depIn (a .e)) (a .i) (b .if1 .left) (f .record-fault .result)
+    (f .record-fault .ensures) (c .if2 .taken)
 
 returns-3 : tie.Need-returns-3
 returns-3 c =
-    let a = c .before .before .before .before .before .before .before .before .before .before .before .args in
-    place-kept (deskIn (a .desk)) (a .found) (depIn (a .e)) (a .i) (c .before .before .before .before .before .before .before .before .before .if1 .left)
-    (sym (c .before .before .before .record-fault .ensures) ∙ c .before .before .if2 .left)
-    (c .if3 .taken)
+    let f = c .before .before .before in
+    let b = f .before .before .before .before .before .before in
+    let a = b .before .before .args in
+    place-kept (deskIn (a .desk)) (a .found) (depIn (a .e)) (a .i) (b .if1 .left)
+    (sym (f .record-fault .ensures) ∙ c .before .before .if2 .left) (c .if3 .taken)
 
 cut-in-requires : tie.Need-cut-in-requires
 cut-in-requires c κs = search needs
 
--- the call, from the place after the cut test
+-- from the place after the cut test: where nothing was found to refuse, and the call
+abbrev open-still : tie.After-cut-in → tie.Else1
+open-still c = c .before .before .before .before .before .before .before .before .before .before .before
+
 abbrev called : tie.After-cut-in → tie.Start
-called c = c .before .before .before .before .before .before .before .before .before .before .before .before .before
+called c = open-still c .before .before
 
 -- the record has no fault
 none
     : (c : tie.After-cut-in)
     → recordFault (nestIn (called c .args .desk .nest) .points) (depIn (called c .args .e)) ≡ 0
-none c = sym (c .before .before .before .before .before .record-fault .ensures) ∙ c .before .before .before .before .if2 .left
+none c =
+    let b = c .before .before .before .before in
+    sym (b .before .record-fault .ensures) ∙ b .if2 .left
 
 -- what the cut test says of it: a loop that carries it has its end in the table
 told
@@ -88,15 +99,15 @@ returns-4 : tie.Need-returns-4
 returns-4 c =
     let t = c .before .before in
     let a = called t .args in
-    record-uncut (deskIn (a .desk)) (a .found) (depIn (a .e)) (a .i) (t .before .before .before .before .before .before .before .before .before .before .before .if1 .left) (none t) (t .before .before .if3 .left)
-    (sym (told t .cut) ∙ ap isCut (c .enum-told .given .1))
+    record-uncut (deskIn (a .desk)) (a .found) (depIn (a .e)) (a .i) (open-still t .if1 .left) (none t)
+    (t .before .before .if3 .left) (sym (told t .cut) ∙ ap isCut (c .enum-told .given .1))
 
 returns-5 : tie.Need-returns-5
 returns-5 c =
     let t = c .before .before in
     let a = called t .args in
-    record-cut (deskIn (a .desk)) (a .found) (depIn (a .e)) (a .i) (t .before .before .before .before .before .before .before .before .before .before .before .if1 .left) (none t) (t .before .before .if3 .left)
-    (sym (told t .cut) ∙ ap isCut (c .enum-told2 .given .1))
+    record-cut (deskIn (a .desk)) (a .found) (depIn (a .e)) (a .i) (open-still t .if1 .left) (none t)
+    (t .before .before .if3 .left) (sym (told t .cut) ∙ ap isCut (c .enum-told2 .given .1))
 
 pub step-spec : {M : Type 1} → statement M
 step-spec =

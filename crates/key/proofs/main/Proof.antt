@@ -1,5 +1,5 @@
--- `main` is safe and ends: the bytes that were read lie in the buffer (`read-within`), and the answer lies within its own
--- (`answer-within`).
+-- `main` is safe and ends: the bytes that were read lie in the buffer (`read-within`), and the answer lies within its
+-- own (`answer-within`).
 use mathlib.Core.Path.{sym}
 use lib.Seq.{length-take-le}
 use borrow.Author.Needs.{needs}

@@ -65,7 +65,11 @@ returns : tie.Need-returns
 returns c =
     let b3 = c .before .before .before in
     let b6 = b3 .before .before .before in
-    record { on = (end c .0, omega (arith, end c .1, same-length c)); kept = stay b6 (b3 .read .last .1 .0); long = same-length c }
+    record {
+      on = (end c .0, omega (arith, end c .1, same-length c));
+      kept = stay b6 (b3 .read .last .1 .0);
+      long = same-length c;
+    }
 
 same-length-2 : tie.Need-same-length-2
 same-length-2 c = search needs

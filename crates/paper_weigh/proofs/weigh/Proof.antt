@@ -1,6 +1,6 @@
 -- `weigh` meets its contract. The invariant: what the loops that ended before e tell (`Weighs`). The measure is what is
 -- left of the points.
-use Prim.Native.Nat.{_-_, _<_}
+use Prim.Native.Nat.{ℕ, _-_, _<_}
 use native.Mathlib.Omega.{arith}
 use lib.ListN.{length, getD}
 use Rattle.paper_placements.specs.Words.{gapsIn}
@@ -43,7 +43,8 @@ add-e c = omega (arith, c .loop-test .taken, called c .pre .0 .1)
 turn
     : (c : tie.In-loop Inv-loop μ-loop)
     → let l = c .before .loop in
-    Turn (called c .args .points .now) (c .before .before .before .before .counts-of .result) (c .before .before .before .counts-of2 .result)
+    let b = c .before .before .before in
+    Turn (called c .args .points .now) (b .before .counts-of .result) (b .counts-of2 .result)
     (l .e) (l .latest) (l .first) (l .second) (l .deciding .words)
 turn c =
     let p = called c .pre .0 in
@@ -52,19 +53,24 @@ turn c =
 shared-slice-read-if1 : tie.Need-shared-slice-read-if1 Inv-loop μ-loop
 shared-slice-read-if1 c = c .before .loop-test .taken
 
--- the loop that ends here
+-- the loop that ends here, from the table
+abbrev here : tie.Then1 Inv-loop μ-loop → ℕ
+here c =
+    let l = c .before .before .before in
+    getD (l .before .before .before .before .owners-of .result) (l .loop .e) 0
+
 ending
     : (c : tie.Then1 Inv-loop μ-loop)
-    → let e = c .before .before .before .loop .e in
-    Ending (called (c .before .before) .args .points .now) e (getD (c .before .before .before .before .before .before .before .owners-of .result) e 0)
+    → Ending (called (c .before .before) .args .points .now) (c .before .before .before .loop .e) (here c)
 ending c =
+    let t = c .before .before in
     record {
       ends = omega (arith, c .if1 .taken);
-      owner = c .before .before .before .before .before .before .before .owners-of .ensures (c .before .before .before .loop .e) (c .before .before .loop-test .taken);
+      owner = t .before .before .before .before .before .owners-of .ensures (t .before .loop .e) (t .loop-test .taken);
     }
 
 -- it has an entry in the tables
-entry : (c : tie.Then1 Inv-loop μ-loop) → getD (c .before .before .before .before .before .before .before .owners-of .result) (c .before .before .before .loop .e) 0 < 256
+entry : (c : tie.Then1 Inv-loop μ-loop) → here c < 256
 entry c = in-tables (turn (c .before .before)) (ending c)
 
 mul-d : tie.Need-mul-d Inv-loop μ-loop
@@ -93,8 +99,9 @@ loop-less c = omega (arith, c .before .before .before .before .before .loop-test
 
 loop-again : tie.Need-loop-again Inv-loop μ-loop
 loop-again c =
-    by-less (turn (c .before .before .before .before .before)) (ending (c .before .before .before)) (omega (arith, c .before .before .if2 .taken)) (c .put .result .words) (c .put .ensures)
-    (omega (arith, c .before .if3 .taken))
+    let x = c .before .before .before in
+    by-less (turn (x .before .before)) (ending x) (omega (arith, c .before .before .if2 .taken)) (c .put .result .words)
+    (c .put .ensures) (omega (arith, c .before .if3 .taken))
 
 mul-if4 : tie.Need-mul-if4 Inv-loop μ-loop
 mul-if4 c = omega (arith, entry (c .before .before))
@@ -116,15 +123,17 @@ loop-less-2 c = omega (arith, c .before .before .before .before .before .before 
 
 loop-again-2 : tie.Need-loop-again-2 Inv-loop μ-loop
 loop-again-2 c =
-    by-more (turn (c .before .before .before .before .before .before)) (ending (c .before .before .before .before)) (omega (arith, c .before .before .before .if2 .taken)) (c .put2 .result .words)
-    (c .put2 .ensures) (omega (arith, c .before .if4 .taken))
+    let x = c .before .before .before .before in
+    by-more (turn (x .before .before)) (ending x) (omega (arith, c .before .before .before .if2 .taken))
+    (c .put2 .result .words) (c .put2 .ensures) (omega (arith, c .before .if4 .taken))
 
 loop-less-3 : tie.Need-loop-less-3 Inv-loop μ-loop
 loop-less-3 c = omega (arith, c .before .before .before .before .before .loop-test .taken)
 
 loop-again-3 : tie.Need-loop-again-3 Inv-loop μ-loop
 loop-again-3 c =
-    by-same (turn (c .before .before .before .before .before)) (ending (c .before .before .before)) (omega (arith, c .before .if3 .left, c .if4 .left))
+    let x = c .before .before .before in
+    by-same (turn (x .before .before)) (ending x) (omega (arith, c .before .if3 .left, c .if4 .left))
 
 loop-less-4 : tie.Need-loop-less-4 Inv-loop μ-loop
 loop-less-4 c = omega (arith, c .before .before .before .loop-test .taken)
@@ -141,8 +150,9 @@ loop-again-5 c = by-other (turn (c .before .before)) (λ q. omega (arith, c .if1
 returns : tie.Need-returns Inv-loop μ-loop
 returns c =
     let s = c .before .before .before .before .before .before .before in
+    let b = c .before .before .before in
     by-done _ (gapsIn (s .args .a .words)) (gapsIn (s .args .b .words)) (s .pre .0) (omega (arith, c .loop-test .left))
-    (c .before .loop .inv) (c .before .before .before .before .counts-of .ensures) (c .before .before .before .counts-of2 .ensures)
+    (c .before .loop .inv) (b .before .counts-of .ensures) (b .counts-of2 .ensures)
 
 pub weigh-spec : {M : Type 1} → statement M
 weigh-spec =
