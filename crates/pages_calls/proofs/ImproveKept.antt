@@ -33,10 +33,11 @@ use Rattle.desk.specs.Desks.{deskIn, IsMade, stateFault}
 use Rattle.desk.proofs.Ready.{ready}
 use Rattle.call_runs.specs.Says.{canCount}
 use Rattle.call_runs.proofs.Countable.{countable}
+use Rattle.call_gaps.specs.Says.{gapsHad}
 use Rattle.call_improve.specs.declared.Improved as DI
 use Rattle.call_improve.specs.Tries.{freeOf, takenAway, tryAt}
 use Rattle.call_improve.specs.Rounds.{Outcome, go, improvedOf}
-use Rattle.call_improve.specs.Floor.{gapsHad, cheapest, floorFrom}
+use Rattle.call_improve.specs.Floor.{cheapest, floorFrom}
 use Rattle.call_improve.specs.Says as S
 use Rattle.call_improve.specs.Says.{replyIn, improveFault, foundOf, ImproveSays}
 use Rattle.call_improve.proofs.FloorBelow.{cheapest-least, cheapest-is}
