@@ -1,15 +1,16 @@
 -- The paper 01 03 02 with 12000101 at the screen, worked out by the page alone: with no barrier one dependence remains
--- uncut, with gap 2 none. So the page excludes a Put that tells 0 whatever is put, one that tells how many dependences
--- there are, and a Take back without end.
+-- uncut, with gap 2 none. So the page excludes a Put that tells 0 whatever is put, and one that tells how many
+-- dependences there are; the page of the numbers excludes a Take back without end.
 -- Main statements: `all-remain`, `none-remain`, `sitting-excluded`.
-use mathlib.Core.Path.{_≡_, refl, subst}
-use mathlib.Core.Bool.{true}
+use mathlib.Core.Path.{_≡_, refl}
 use mathlib.Core.List.{List, [], _∷_}
 use Prim.Native.Nat.{ℕ}
 use native.Mathlib.Omega.{arith}
 use lib.ListN.{length}
+use Rattle.desk.specs.declared.Desk.{Desk}
 use Rattle.pages.specs.Demands.{HowMany, GapOf, Paper, Cut}
-use Rattle.pages_requests.specs.Sitting.{Remain, BackNumber}
+use Rattle.pages.specs.Numbers.{BackNumber}
+use Rattle.pages_requests.specs.Sitting.{Remain}
 use Rattle.pages_requests.proofs.TextbookCases.{round, turn}
 use Rattle.pages_requests.proofs.FirstCases.{loop-0}
 
@@ -35,7 +36,7 @@ Keeps f = (p : Paper) (gs : List ℕ) → Remain p gs (f p gs)
 pub record SittingExcluded : Type 0 where
   pub tells-none : (f : Paper → List ℕ → ℕ) → ((p : Paper) (gs : List ℕ) → f p gs ≡ 0) → Keeps f → ⊥
   pub tells-all : (f : Paper → List ℕ → ℕ) → ((p : Paper) (gs : List ℕ) → f p gs ≡ length (p .deps)) → Keeps f → ⊥
-  pub without-end : (f : ℕ → ℕ) → ((k : ℕ) → f k ≡ 0) → ((k : ℕ) → BackNumber true k (f k)) → ⊥
+  pub without-end : (d : Desk) (f : ℕ → ℕ) → ((k : ℕ) → f k ≡ 0) → ((k : ℕ) → BackNumber d k (f k)) → ⊥
 
 pub sitting-excluded : SittingExcluded
 sitting-excluded =
@@ -45,8 +46,10 @@ sitting-excluded =
       tells-all =
           λ f h k.
           omega (arith, h turn (2 ∷ []), one-number (f turn (2 ∷ [])) (2 ∷ []) (k turn (2 ∷ [])) .0 cut-2);
-      without-end = λ f h k. end (subst (λ (n : ℕ). BackNumber true 0 n) (h 0) (k 0));
+      without-end = λ d f h k. end d 0 (f 0) refl (h 0) (k 0);
     }
   where
-    end : BackNumber true 0 0 → ⊥
-    end (BackNumber.none e l) = omega arith
+    end : (d : Desk) (k n : ℕ) → k ≡ 0 → n ≡ 0 → BackNumber d k n → ⊥
+    end d k n e z (BackNumber.no-nest w) = omega arith
+    end d k n e z (BackNumber.no-move w) = omega arith
+    end d k n e z (BackNumber.taken w) = omega arith

@@ -1,6 +1,5 @@
 -- The sitting as a set, its kept counts as fresh ones, and what moves leave.
--- Main statements: `kept-counts`, `kept-uncut`, `put-numbers`, `lift-numbers`, `left`, `put-left`, `lift-left`,
--- `undone-seat`.
+-- Main statements: `kept-counts`, `kept-uncut`, `left`, `put-left`, `lift-left`, `undone-seat`.
 use mathlib.Core.Path.{_≡_, refl, sym, _∙_, ap, subst}
 use mathlib.Core.Bool.{Bool, true, false, _&&_, not}
 use mathlib.Core.List.{List, [], _∷_}
@@ -9,13 +8,13 @@ use Prim.Native.Nat.{ℕ, zero, suc, _+_, _≤_}
 use native.Mathlib.Omega.{arith}
 use lib.Dec.{eqb, ltb}
 use lib.ListN.{length, getD}
-use borrow.Author.Tests.{eq-eqb, ne-eqb, eqb-true, ltb-true, lt-ltb}
+use borrow.Author.Tests.{eq-eqb, ne-eqb, eqb-true}
 use Rattle.laws.specs.Bits.{one}
-use Rattle.laws.specs.Choice.{pick, when, firstOf, isIn}
+use Rattle.laws.specs.Choice.{pick, isIn}
 use Rattle.laws.proofs.Tests.{never, never-both, and-true, and-intro, or-true, or-left, or-right}
 use Rattle.paper_nests.specs.declared.Dependence as DE
 use Rattle.paper_nests.specs.Nests.{Nest}
-use Rattle.paper_nests.specs.Gaps.{isGap, hasGap}
+use Rattle.paper_nests.specs.Gaps.{hasGap}
 use Rattle.paper_nests.specs.Valid.{isValid}
 use Rattle.paper_nests.specs.Stored.{nestIn, depIn}
 use Rattle.paper_nests.proofs.Deps.{Fits}
@@ -39,7 +38,7 @@ use Rattle.call_moves.specs.Runs as R
 use Rattle.call_moves.proofs.Made.{made-put, made-lift, made-back}
 use Rattle.call_moves.proofs.Runs.{taken-back, none-refused}
 use Rattle.pages.specs.Demands.{At, In, HowMany, GapOf, Paper, paperIn, Cut, SetIn, KeyOn}
-use Rattle.pages_requests.specs.Sitting.{Seat, Remain, IsGap, PutNumber, LiftNumber, Left, Undone}
+use Rattle.pages_requests.specs.Sitting.{Seat, Remain, Left, Undone}
 use Rattle.pages.proofs.Lists.{in-is, is-in}
 use Rattle.pages.proofs.Placements.{mapped, nestOf, nest-of-paper, gap-is, is-gap, cut-is, is-cut}
 use Rattle.pages.proofs.Keys.{shaped, fit}
@@ -170,48 +169,6 @@ module _ (d : DD.Desk) (m : IsMade d) where
           none : (xs : List DE.Dependence) → xs ≡ [] → At xs i x → ⊥
           none [] e b = b
           none (y ∷ ys) e b = let z : _≡_ {A = ℕ} 0 1 = cc e in absurd (omega arith)
-
-  gap-here : (g : ℕ) → isGap (nestIn (d .nest) .points) g ≡ true → IsGap d g
-  gap-here g h =
-      let z = and-true (ltb 0 g) (ltb g (length (page .points))) h in
-      (ltb-true 0 g (z .0), ltb-true g (length (page .points)) (z .1))
-
-  here-gap : (g : ℕ) → IsGap d g → isGap (nestIn (d .nest) .points) g ≡ true
-  here-gap g h = and-intro (lt-ltb 0 g (h .0)) (lt-ltb g (length (page .points)) (h .1))
-
-  not-in : (g : ℕ) (xs : List ℕ) → isIn g xs ≡ false → In g xs → ⊥
-  not-in g xs h i = never-both (in-is g xs (i .0) (i .1)) h
-
-  pub put-numbers : (gs : List ℕ) (g n : ℕ) → Seat d gs → n ≡ putFault (deskIn d) g → PutNumber d gs g n
-  put-numbers gs g n s e =
-      let q = seat-is d gs m s in
-      subst (λ (k : ℕ). PutNumber d gs g k) (sym e)
-      (go (d .loaded) (isGap (page .points) g) (isIn g (barriers (d .sitting))) (isIn g (page .barred)) refl refl
-      (ap (isIn g) q) refl)
-    where
-      go
-          : (a b c f : Bool) → d .loaded ≡ a → isGap (page .points) g ≡ b → isIn g gs ≡ c → isIn g (page .barred) ≡ f
-          → PutNumber d gs g
-          (firstOf (firstOf (firstOf (when (not a) 10) 0) (when (not b) 8)) (firstOf (when c 12) (when f 16)))
-      go false b c f w x y z = PutNumber.no-nest w
-      go true false c f w x y z = PutNumber.no-gap w (λ i. never-both (here-gap g i) x)
-      go true true true f w x y z = PutNumber.there w (gap-here g x) (is-in g gs y)
-      go true true false true w x y z = PutNumber.barred w (gap-here g x) (not-in g gs y) (is-in g (page .barred) z)
-      go true true false false w x y z = PutNumber.none w (gap-here g x) (not-in g gs y) (not-in g (page .barred) z)
-
-  pub lift-numbers : (gs : List ℕ) (g n : ℕ) → Seat d gs → n ≡ liftFault (deskIn d) g → LiftNumber d gs g n
-  lift-numbers gs g n s e =
-      let q = seat-is d gs m s in
-      subst (λ (k : ℕ). LiftNumber d gs g k) (sym e)
-      (go (d .loaded) (isGap (page .points) g) (isIn g (barriers (d .sitting))) refl refl (ap (isIn g) q))
-    where
-      go
-          : (a b c : Bool) → d .loaded ≡ a → isGap (page .points) g ≡ b → isIn g gs ≡ c
-          → LiftNumber d gs g (firstOf (firstOf (firstOf (when (not a) 10) 0) (when (not b) 8)) (when (not c) 12))
-      go false b c w x y = LiftNumber.no-nest w
-      go true false c w x y = LiftNumber.no-gap w (λ i. never-both (here-gap g i) x)
-      go true true true w x y = LiftNumber.none w (gap-here g x) (is-in g gs y)
-      go true true false w x y = LiftNumber.not-there w (gap-here g x) (not-in g gs y)
 
 -- ---- a move that is made
 
