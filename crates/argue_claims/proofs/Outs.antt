@@ -1,4 +1,5 @@
--- What is out is out: by a barred gap, a count of 0, a fact, or a claim that holds of a loop inside.
+-- A gap that is out is no gap of the placement, or it is out by a fact: barred gaps by correctness, those of loops with
+-- count 0 and those that a claim speaks of because the placement has the key's counts in all loops inside.
 -- Main definitions: `Said`, `AllSaid`. Main statement: `out-told`.
 use mathlib.Core.Path.{_≡_, refl, sym, ap}
 use mathlib.Core.Bool.{Bool, true, false, _&&_, _||_, not}
@@ -125,14 +126,15 @@ module _ (n : Nest) (key gs : List ℕ) where
         (or-true (inLoop (n .points) d (k .loop) && (isAround (n .points) g (k .loop) && says n key k g))
         (knownOut n key d ks g) e)
       where
-        here : (inLoop (n .points) d (k .loop) ≡ true) × ((isAround (n .points) g (k .loop) && says n key k g) ≡ true) → ⊥
+        here : (inLoop (n .points) d (k .loop) ≡ true) ×
+            ((isAround (n .points) g (k .loop) && says n key k g) ≡ true) → ⊥
         here z =
             let y = and-true (isAround (n .points) g (k .loop)) (says n key k g) (z .1) in
             said-out k (all k (inl refl)) (z .0) g pos h (y .0) (y .1)
 
     -- a gap of the placement that is out is out by a fact
-    pub out-told : isCorrect n gs ≡ true → (ks : List Known) → AllSaid ks → (fs : List Fact) (g : ℕ) → isIn g gs ≡ true →
-        0 < g → g < length (n .points) → d < g → g ≤ endOf (n .points) d → isOut n key d ks fs g ≡ true →
+    pub out-told : isCorrect n gs ≡ true → (ks : List Known) → AllSaid ks → (fs : List Fact) (g : ℕ) →
+        isIn g gs ≡ true → 0 < g → g < length (n .points) → d < g → g ≤ endOf (n .points) d → isOut n key d ks fs g ≡ true →
         factOut n key fs g ≡ true
     out-told ok ks all fs g h pos len lo hi e =
         ⊎-elim barred (λ (z : (empty-own || (factOut n key fs g || knownOut n key d ks g)) ≡ true). ⊎-elim none last
@@ -154,7 +156,8 @@ module _ (n : Nest) (key gs : List ℕ) where
             (and-true (not (eqb (ownerOf (n .points) g) d)) (eqb (loopCount n key (ownerOf (n .points) g)) 0) z)
           where
             go : (eqb (ownerOf (n .points) g) d ≡ true) ⊎ (eqb (ownerOf (n .points) g) d ≡ false) →
-                (not (eqb (ownerOf (n .points) g) d) ≡ true) × (eqb (loopCount n key (ownerOf (n .points) g)) 0 ≡ true) →
+                (not (eqb (ownerOf (n .points) g) d) ≡ true) ×
+                (eqb (loopCount n key (ownerOf (n .points) g)) 0 ≡ true) →
                 factOut n key fs g ≡ true
             go (inl p) y = never (rw p at (y .0))
             go (inr p) y =

@@ -4,8 +4,7 @@ use mathlib.Core.Path.{_≡_, refl}
 use mathlib.Core.Bool.{true, false}
 use mathlib.Core.List.{List, [], _∷_}
 use Rattle.paper_nests.proofs.Cases.{paper-P, paper-Q, paper-R}
-use Rattle.argue_claims.specs.Weights.{lots}
-use Rattle.argue_claims.specs.Arguments.{Claim, claim, st, holds}
+use Rattle.argue_claims.specs.Arguments.{Claim, claim, st, lots, holds}
 
 abbrev for-P : List Claim
 for-P = claim 1 0 0 (st 2 0 ∷ []) ∷ claim 7 0 0 (st 4 0 ∷ []) ∷ []

@@ -1,5 +1,6 @@
--- The steps of a claim, one after the other, and what the claim then says of a correct placement.
--- Main statements: `run-good`, `claim-said`.
+-- The steps of a claim, one after the other, and what the claim then says of a correct placement: the number of its own
+-- gaps times the most times that a gap was named is at least what was counted.
+-- Main definitions: `Supposed`, `Good`. Main statements: `step-good`, `run-good`, `low-end`, `more-end`, `stand-end`.
 use mathlib.Core.Path.{_≡_, refl, ap}
 use mathlib.Core.Bool.{Bool, true, false, _&&_, _||_, not}
 use mathlib.Core.List.{List, [], _∷_}
@@ -8,78 +9,29 @@ use Prim.Native.Nat.{ℕ, zero, suc, _+_, _≤_, _<_}
 use native.Mathlib.Omega.{arith}
 use lib.Dec.{eqb, ltb, leb}
 use lib.ListN.{length}
-use borrow.Author.Tests.{eq-eqb, leb-true, leb-false, le-leb, ltb-true, lt-ltb}
-use Rattle.laws.specs.Choice.{pick, when, isIn}
-use Rattle.laws.specs.Members.{Among}
-use Rattle.laws.proofs.Tests.{test, never, never-both, or-true, and-true, and-intro, eq-or, lt-by, le-by, false-by}
+use borrow.Author.Tests.{eq-eqb, leb-true, le-leb, ltb-true}
+use Rattle.laws.specs.Choice.{when, isIn}
+use Rattle.laws.proofs.Tests.{test, never, never-both, or-true, and-true, and-intro, lt-by, le-by, false-by}
 use Rattle.laws.proofs.Implies.{implied}
-use Rattle.paper_nests.specs.Nests.{Nest, Dep}
+use Rattle.paper_nests.specs.Nests.{Nest}
 use Rattle.paper_nests.specs.Valid.{isShape}
 use Rattle.paper_nests.specs.Loops.{isDo, endOf, ownerOf, isAround, inLoop}
 use Rattle.paper_placements.specs.Placements.{isCorrect, loopCount}
 use Rattle.paper_placements.proofs.Cuts.{correct-gaps, correct-cuts, cut-has-gap, CutBy}
 use Rattle.paper_placements.proofs.Rising.{rising-in}
 use Rattle.paper_order.proofs.LoopOrder.{SameInside}
-use Rattle.argue_claims.specs.Weights.{weigh, named, lots}
-use Rattle.argue_claims.specs.Arguments.{Step, Claim, Known, Count, every, greatest, knownAt, depAt}
-use Rattle.argue_claims.specs.Arguments.{factOut, isOut, inSet, isSet, isLed, leads, counted, factsAfter, step}
-use Rattle.argue_claims.specs.Arguments.{run, isLow, ended, begun}
-use Rattle.argue_claims.proofs.Steps.{Holds, Has, Fair, counting, leading, weigh-most, weigh-exact}
+use Rattle.argue_claims.specs.Arguments.{Step, Claim, Known, Count, st, every, greatest, knownAt, depAt, named}
+use Rattle.argue_claims.specs.Arguments.{lots, factOut, isOut, inSet, isSet, isLed, leads, isLeft, counted}
+use Rattle.argue_claims.specs.Arguments.{factsAfter, step, run, isLow, ended, begun}
+use Rattle.argue_claims.proofs.Lots.{lots-suc, lots-more, greatest-at, every-at}
+use Rattle.argue_claims.proofs.Listed.{dep-among, known-among, run-fine}
+use Rattle.argue_claims.proofs.Weights.{Fair, weigh-most, weigh-exact}
+use Rattle.argue_claims.proofs.Steps.{Holds, Has, counting, leading}
 use Rattle.argue_claims.proofs.Outs.{AllSaid, fromOn, upTo, same-within, out-told}
 
-every-at : (f : ℕ → Bool) (n g : ℕ) → every f n ≡ true → 0 < g → g ≤ n → f g ≡ true
-every-at f zero g h p q = absurd (omega arith)
-every-at f (suc n) g h p q = go (and-true (f (suc n)) (every f n) h) (eq-or g (suc n)) (every-at f n g)
-  where
-    go : (f (suc n) ≡ true) × (every f n ≡ true) → (g ≡ suc n) ⊎ ((g ≡ suc n) → ⊥) →
-        (every f n ≡ true → 0 < g → g ≤ n → f g ≡ true) → f g ≡ true
-    go z (inl e) r = rw e (z .0)
-    go z (inr e) r = r (z .1) p (omega (arith, e))
-
-greatest-at : (t : ℕ → ℕ) (n g : ℕ) → 0 < g → g ≤ n → t g ≤ greatest t n
-greatest-at t zero g p q = absurd (omega arith)
-greatest-at t (suc n) g p q = go (leb (greatest t n) (t (suc n))) refl (eq-or g (suc n)) (greatest-at t n g p)
-  where
-    go : (b : Bool) → leb (greatest t n) (t (suc n)) ≡ b → (g ≡ suc n) ⊎ ((g ≡ suc n) → ⊥) →
-        (g ≤ n → t g ≤ greatest t n) → t g ≤ pick b (t (suc n)) (greatest t n)
-    go true e (inl z) r =
-        let y : t g ≡ t (suc n) = ap t z in
-        omega (arith, y)
-    go true e (inr z) r = omega (arith, r (omega (arith, z)), leb-true (greatest t n) (t (suc n)) e)
-    go false e (inl z) r =
-        let y : t g ≡ t (suc n) = ap t z in
-        omega (arith, y, leb-false (greatest t n) (t (suc n)) e)
-    go false e (inr z) r = r (omega (arith, z))
-
-lots-more : (m a b : ℕ) → a ≤ b → lots m a ≤ lots m b
-unfolding lots
-lots-more m zero b h = omega arith
-lots-more m (suc a) zero h = absurd (omega arith)
-lots-more m (suc a) (suc b) h = omega (arith, lots-more m a b (omega (arith, h)))
-
-lots-one : (m a : ℕ) → lots m (suc a) ≡ m + lots m a
-unfolding lots
-lots-one m a = refl
-
-dep-among : (es : List Dep) (m : ℕ) → ltb m (length es) ≡ true → Among (depAt es m) es
-dep-among [] m h = absurd (omega (arith, ltb-true m 0 h))
-dep-among (e ∷ es) zero h = inl refl
-dep-among (e ∷ es) (suc m) h =
-    let z : suc m < length (e ∷ es) = ltb-true (suc m) (length (e ∷ es)) h in
-    inr (dep-among es m (lt-ltb m (length es) (omega (arith, z))))
-
-known-among : (ks : List Known) (m : ℕ) → ltb m (length ks) ≡ true → Among (knownAt ks m) ks
-known-among [] m h = absurd (omega (arith, ltb-true m 0 h))
-known-among (k ∷ ks) zero h = inl refl
-known-among (k ∷ ks) (suc m) h =
-    let z : suc m < length (k ∷ ks) = ltb-true (suc m) (length (k ∷ ks)) h in
-    inr (known-among ks m (lt-ltb m (length ks) (omega (arith, z))))
-
+-- facts that follow from others
 tell : (gs : List ℕ) (c : ℕ) (t : ℕ → ℕ) (A B : ℕ → Type 0) → ((g : ℕ) → B g → A g) → Holds gs c t A → Holds gs c t B
 tell gs c t A B f h = record { enough = h .enough; told = λ e g z. h .told e g (f g z) }
-
-weigh-none : (gs : List ℕ) → 0 ≤ weigh gs (λ g. 0)
-weigh-none gs = omega arith
 
 module _ (n : Nest) (key gs : List ℕ) (shape : isShape (n .points) ≡ true) (ok : isCorrect n gs ≡ true) where
   bounds : (g : ℕ) → isIn g gs ≡ true → (0 < g) × (g < length (n .points))
@@ -92,6 +44,7 @@ module _ (n : Nest) (key gs : List ℕ) (shape : isShape (n .points) ≡ true) (
     pub from : 0 < k .from → Has gs (fromOn n (k .loop) (k .from))
     pub upto : 0 < k .upto → Has gs (upTo n (k .loop) (k .upto))
 
+  -- the placement has a gap in every set
   set-has : (k : Claim) → Supposed k → (s : ℕ) → isSet n key k s ≡ true → Has gs (inSet n key k s)
   set-has k u zero h = go (u .from (ltb-true 0 (k .from) h))
     where
@@ -111,8 +64,9 @@ module _ (n : Nest) (key gs : List ℕ) (shape : isShape (n .points) ≡ true) (
             has = i .has;
             inside = and-intro (le-leb (suc (k .loop)) (i .gap) (ltb-true (k .loop) (i .gap) (b .0))) (a .1);
           }
-  set-has k u (suc (suc m)) h = go (cut-has-gap (n .points) (depAt (n .deps) m) gs
-      (correct-cuts n gs ok (depAt (n .deps) m) (dep-among (n .deps) m h)))
+  set-has k u (suc (suc m)) h =
+      go (cut-has-gap (n .points) (depAt (n .deps) m) gs (correct-cuts n gs ok (depAt (n .deps) m)
+      (dep-among (n .deps) m (ltb-true m (length (n .deps)) h))))
     where
       go : CutBy (n .points) (depAt (n .deps) m) gs → Has gs (inSet n key k (suc (suc m)))
       go c = record { gap = c .gap; has = c .placed; inside = c .its }
@@ -125,30 +79,31 @@ module _ (n : Nest) (key gs : List ℕ) (shape : isShape (n .points) ≡ true) (
 
   module _ (k : Claim) (u : Supposed k) (ks : List Known) (all : AllSaid n key gs ks) where
     module _ (s : Step) (x : Count) (good : Good k x) where
-      left : ℕ → ℕ → Bool
-      left v g = inSet n key k (s .set) g && (not (isOut n key (k .loop) ks (x .facts) g) && not (leads n key ks v g))
+      abbrev told : ℕ → Type 0
+      told g = factOut n key (x .facts) g ≡ true
 
-      -- what the test of a step says of each gap
+      -- what is left by claim v - 1, or by none, and what the test of a step says of each gap
+      abbrev left : ℕ → ℕ → Bool
+      left v = isLeft n key k ks (x .facts) (st (s .set) v)
+
       abbrev fits : ℕ → ℕ → Bool
       fits v g =
           (not (inSet n key k (s .set) g) || isAround (n .points) g (k .loop)) &&
-          (not (inSet n key k (s .set) g && (not (isOut n key (k .loop) ks (x .facts) g) && not (leads n key ks v g))) ||
-          eqb (ownerOf (n .points) g) (k .loop))
+          (not (left v g) || eqb (ownerOf (n .points) g) (k .loop))
 
       -- a gap of the placement in the set is left, led, or out by a fact
       split : (v g : ℕ) → fits v g ≡ true → isIn g gs ≡ true → inSet n key k (s .set) g ≡ true →
-          ((inSet n key k (s .set) g && (not (isOut n key (k .loop) ks (x .facts) g) && not (leads n key ks v g))) ≡ true) ⊎
-          ((leads n key ks v g ≡ true) ⊎ (factOut n key (x .facts) g ≡ true))
+          (left v g ≡ true) ⊎ ((leads n key ks v g ≡ true) ⊎ told g)
       split v g f h i = go (test (isOut n key (k .loop) ks (x .facts) g)) (test (leads n key ks v g))
         where
           around : isAround (n .points) g (k .loop) ≡ true
-          around = implied (inSet n key k (s .set) g) (isAround (n .points) g (k .loop))
+          around =
+              implied (inSet n key k (s .set) g) (isAround (n .points) g (k .loop))
               (and-true (not (inSet n key k (s .set) g) || isAround (n .points) g (k .loop)) _ f .0) i
 
           go : (isOut n key (k .loop) ks (x .facts) g ≡ true) ⊎ (isOut n key (k .loop) ks (x .facts) g ≡ false) →
               (leads n key ks v g ≡ true) ⊎ (leads n key ks v g ≡ false) →
-              ((inSet n key k (s .set) g && (not (isOut n key (k .loop) ks (x .facts) g) && not (leads n key ks v g))) ≡ true) ⊎
-              ((leads n key ks v g ≡ true) ⊎ (factOut n key (x .facts) g ≡ true))
+              (left v g ≡ true) ⊎ ((leads n key ks v g ≡ true) ⊎ told g)
           go (inl z) w =
               let b = bounds g h in
               let a = and-true (ltb (k .loop) g) (leb g (endOf (n .points) (k .loop))) around in
@@ -157,62 +112,59 @@ module _ (n : Nest) (key gs : List ℕ) (shape : isShape (n .points) ≡ true) (
           go (inr z) (inl w) = inr (inl w)
           go (inr z) (inr w) = inl (rw (i, z, w))
 
+      split-in : (v : ℕ) → every (fits v) (length (n .points)) ≡ true → (g : ℕ) → isIn g gs ≡ true →
+          inSet n key k (s .set) g ≡ true → (left v g ≡ true) ⊎ ((leads n key ks v g ≡ true) ⊎ told g)
+      split-in v e g h i =
+          let b = bounds g h in
+          split v g (every-at (fits v) (length (n .points)) g e (b .0) (omega (arith, b .1))) h i
+
       step-holds : (v : ℕ) → isSet n key k (s .set) ≡ true → isLed n key (k .loop) ks v ≡ true →
           every (fits v) (length (n .points)) ≡ true →
-          Holds gs (counted n key v (x .c))
-          (named (λ g. inSet n key k (s .set) g && (not (isOut n key (k .loop) ks (x .facts) g) && not (leads n key ks v g)))
-          (x .times)) (λ g. factOut n key (factsAfter n key ks v (x .facts)) g ≡ true)
+          Holds gs (counted v (x .c)) (named (left v) (x .times))
+          (λ g. factOut n key (factsAfter ks v (x .facts)) g ≡ true)
       step-holds zero p q e =
           tell gs (suc (x .c)) _ (λ g. ⊥) (λ g. factOut n key [] g ≡ true) (λ g z. never z)
-          (counting gs (x .c) (x .times) (λ g. factOut n key (x .facts) g ≡ true) (good .holds) _ (inSet n key k (s .set))
-          (set-has k u (s .set) p) by)
+          (counting gs (x .c) (x .times) told (good .holds) _ (inSet n key k (s .set)) (set-has k u (s .set) p) by)
         where
           by : (g : ℕ) → isIn g gs ≡ true → inSet n key k (s .set) g ≡ true →
-              ((inSet n key k (s .set) g && (not (isOut n key (k .loop) ks (x .facts) g) && not (leads n key ks 0 g))) ≡ true) ⊎
-              (factOut n key (x .facts) g ≡ true)
+              (left 0 g ≡ true) ⊎ (factOut n key (x .facts) g ≡ true)
           by g h i =
-              let b = bounds g h in
-              ⊎-elim (λ z. inl z) (λ (z : (leads n key ks 0 g ≡ true) ⊎ (factOut n key (x .facts) g ≡ true)).
+              ⊎-elim (λ (z : left 0 g ≡ true). inl z)
+              (λ (z : (leads n key ks 0 g ≡ true) ⊎ (factOut n key (x .facts) g ≡ true)).
               ⊎-elim (λ (w : leads n key ks 0 g ≡ true). never w) (λ (w : factOut n key (x .facts) g ≡ true). inr w) z)
-              (split 0 g (every-at (fits 0) (length (n .points)) g e (b .0) (omega (arith, b .1))) h i)
+              (split-in 0 e g h i)
       step-holds (suc m) p q e =
-          tell gs (x .c) _ (λ g. (upTo n (knownAt ks m .loop) (knownAt ks m .upto) g ≡ true) ⊎ (factOut n key (x .facts) g ≡ true))
-          (λ g. factOut n key (factsAfter n key ks (suc m) (x .facts)) g ≡ true)
-          (λ g z. or-true (upTo n (knownAt ks m .loop) (knownAt ks m .upto) g) (factOut n key (x .facts) g) z)
-          (leading gs (x .c) (x .times) (λ g. factOut n key (x .facts) g ≡ true) (good .holds) _ (inSet n key k (s .set))
-          (set-has k u (s .set) p) (λ g. leads n key ks (suc m) g ≡ true)
-          (λ g. upTo n (knownAt ks m .loop) (knownAt ks m .upto) g ≡ true) by claim)
+          tell gs (x .c) _ (λ g. (upTo n (known .loop) (known .upto) g ≡ true) ⊎ (factOut n key (x .facts) g ≡ true))
+          (λ g. factOut n key (factsAfter ks (suc m) (x .facts)) g ≡ true)
+          (λ g z. or-true (upTo n (known .loop) (known .upto) g) (factOut n key (x .facts) g) z)
+          (leading gs (x .c) (x .times) told (good .holds) _ (inSet n key k (s .set)) (set-has k u (s .set) p)
+          (λ g. leads n key ks (suc m) g ≡ true) (λ g. upTo n (known .loop) (known .upto) g ≡ true) (split-in (suc m) e)
+          both)
         where
-          by : (g : ℕ) → isIn g gs ≡ true → inSet n key k (s .set) g ≡ true →
-              ((inSet n key k (s .set) g && (not (isOut n key (k .loop) ks (x .facts) g) && not (leads n key ks (suc m) g))) ≡ true) ⊎
-              ((leads n key ks (suc m) g ≡ true) ⊎ (factOut n key (x .facts) g ≡ true))
-          by g h i =
-              let b = bounds g h in
-              split (suc m) g (every-at (fits (suc m)) (length (n .points)) g e (b .0) (omega (arith, b .1))) h i
+          known : Known
+          known = knownAt ks m
 
-          claim : (g j : ℕ) → isIn g gs ≡ true → leads n key ks (suc m) g ≡ true →
+          -- the claim led to: not both
+          both : (g j : ℕ) → isIn g gs ≡ true → leads n key ks (suc m) g ≡ true →
               upTo n (knownAt ks m .loop) (knownAt ks m .upto) j ≡ true → isIn j gs ≡ false
-          claim g j h l t = false-by (λ (w : isIn j gs ≡ true).
+          both g j h l t = false-by (λ (w : isIn j gs ≡ true).
               (let a = and-true (ltb m (length ks)) _ q in
               let b = and-true (inLoop (n .points) (k .loop) (knownAt ks m .loop)) _ (a .1) in
               let c = and-true (ltb 0 (knownAt ks m .from)) (ltb 0 (knownAt ks m .upto)) (b .1) in
-              let said = all (knownAt ks m) (known-among ks m (a .0)) in
+              let said = all (knownAt ks m) (known-among ks m (ltb-true m (length ks) (a .0))) in
               let f : 0 < knownAt ks m .from = ltb-true 0 (knownAt ks m .from) (c .0) in
               omega (
                 arith,
                 u .same (knownAt ks m .loop) (said .is-do) (b .0),
-                said .more (same-within n key gs shape (k .loop) (u .is-do) (u .same) (knownAt ks m .loop) (said .is-do) (b .0))
-                    (omega (arith, f)) (λ z. record { gap = g; has = h; inside = l })
+                said .more (same-within n key gs shape (k .loop) (u .is-do) (u .same) (knownAt ks m .loop) (said .is-do)
+                    (b .0)) (omega (arith, f)) (λ z. record { gap = g; has = h; inside = l })
                     (λ z. record { gap = j; has = w; inside = t }),
               )))
 
       step-owned : (v : ℕ) → every (fits v) (length (n .points)) ≡ true → (g : ℕ) → 0 < g → g ≤ length (n .points) →
-          eqb (ownerOf (n .points) g) (k .loop) ≡ false →
-          named (λ j. inSet n key k (s .set) j && (not (isOut n key (k .loop) ks (x .facts) j) && not (leads n key ks v j)))
-          (x .times) g ≡ 0
+          eqb (ownerOf (n .points) g) (k .loop) ≡ false → named (left v) (x .times) g ≡ 0
       step-owned v e g p q o =
-          go (inSet n key k (s .set) g && (not (isOut n key (k .loop) ks (x .facts) g) && not (leads n key ks v g)))
-          (and-true (not (inSet n key k (s .set) g) || isAround (n .points) g (k .loop)) _
+          go (left v g) (and-true (not (inSet n key k (s .set) g) || isAround (n .points) g (k .loop)) _
           (every-at (fits v) (length (n .points)) g e p q) .1)
         where
           go : (b : Bool) → (not b || eqb (ownerOf (n .points) g) (k .loop)) ≡ true → when b 1 + x .times g ≡ 0
@@ -224,75 +176,72 @@ module _ (n : Nest) (key gs : List ℕ) (shape : isShape (n .points) ≡ true) (
           let a = and-true (x .fine) _ f in
           let b = and-true (isSet n key k (s .set)) _ (a .1) in
           let c = and-true (isLed n key (k .loop) ks (s .via)) _ (b .1) in
-          record {
-            holds = step-holds (s .via) (b .0) (c .0) (c .1);
-            owned = step-owned (s .via) (c .1);
-          }
+          record { holds = step-holds (s .via) (b .0) (c .0) (c .1); owned = step-owned (s .via) (c .1) }
 
-    run-fine : (ss : List Step) (x : Count) → run n key k ks ss x .fine ≡ true → x .fine ≡ true
-    run-fine [] x f = f
-    run-fine (s ∷ ss) x f = and-true (x .fine) _ (run-fine ss (step n key k ks s x) f) .0
-
-    pub run-good : (ss : List Step) (x : Count) → Good k x → run n key k ks ss x .fine ≡ true → Good k (run n key k ks ss x)
+    pub run-good : (ss : List Step) (x : Count) → Good k x → run n key k ks ss x .fine ≡ true →
+        Good k (run n key k ks ss x)
     run-good [] x good f = good
     run-good (s ∷ ss) x good f =
-        run-good ss (step n key k ks s x) (step-good s x good (run-fine ss (step n key k ks s x) f)) f
+        let fine : step n key k ks s x .fine ≡ true = run-fine n key k ks ss (step n key k ks s x) f in
+        run-good ss (step n key k ks s x) (step-good s x good fine) f
 
-    begun-good : Good k (begun n key)
+    begun-good : Good k begun
     begun-good =
-        record {
-          holds = record { enough = weigh-none gs; told = λ e g z. never z };
-          owned = λ g p q o. refl;
-        }
+        record { holds = record { enough = omega arith; told = λ e g z. never z }; owned = λ g p q o. refl }
 
     -- the end of a claim that holds, for a placement that does what it supposes
-    module _ (h : ended n key k (run n key k ks (k .steps) (begun n key)) ≡ true) where
+    module _ (h : ended n key k (run n key k ks (k .steps) begun) ≡ true) where
       abbrev last : Count
-      last = run n key k ks (k .steps) (begun n key)
+      last = run n key k ks (k .steps) begun
 
-      abbrev most : ℕ
-      most = greatest (last .times) (length (n .points))
-
-      fine : last .fine ≡ true
-      fine = and-true (last .fine) _ h .0
+      abbrev lastMost : ℕ
+      lastMost = greatest (last .times) (length (n .points))
 
       good : Good k last
-      good = run-good (k .steps) (begun n key) begun-good fine
+      good = run-good (k .steps) begun begun-good (and-true (last .fine) _ h .0)
 
-      fair : Fair n (k .loop) most (last .times) gs
+      fair : Fair n (k .loop) lastMost (last .times) gs
       fair =
           record {
-            most = λ g i. (let b = bounds g i in greatest-at (last .times) (length (n .points)) g (b .0) (omega (arith, b .1)));
+            most = λ g i. (let b = bounds g i in
+                greatest-at (last .times) (length (n .points)) g (b .0) (omega (arith, b .1)));
             owned = λ g i o. (let b = bounds g i in good .owned g (b .0) (omega (arith, b .1)) o);
           }
 
-      reached : last .c ≤ lots most (loopCount n gs (k .loop))
-      reached = omega (arith, good .holds .enough, weigh-most n (k .loop) most (last .times) gs fair)
+      reached : last .c ≤ lots lastMost (loopCount n gs (k .loop))
+      reached = omega (arith, good .holds .enough, weigh-most n (k .loop) lastMost (last .times) gs fair)
 
-      counts : lots most (loopCount n key (k .loop)) < last .c + when (isLow n key k) most
+      counts : lots lastMost (loopCount n key (k .loop)) < last .c + when (isLow k) lastMost
       counts = ltb-true _ _ (and-true (isDo (n .points) (k .loop)) _ (and-true (last .fine) _ h .1) .1)
 
-      pub low-end : isLow n key k ≡ true → loopCount n key (k .loop) ≤ loopCount n gs (k .loop)
+      pub low-end : isLow k ≡ true → loopCount n key (k .loop) ≤ loopCount n gs (k .loop)
       low-end e = le-by (λ (z : loopCount n gs (k .loop) < loopCount n key (k .loop)).
-          (let w : when (isLow n key k) most ≡ most = rw e in
+          (let w : when (isLow k) lastMost ≡ lastMost = rw e in
           omega (
             arith,
             counts,
             reached,
             w,
-            lots-one most (loopCount n gs (k .loop)),
-            lots-more most (suc (loopCount n gs (k .loop))) (loopCount n key (k .loop)) z,
+            lots-suc lastMost (loopCount n gs (k .loop)),
+            lots-more lastMost (suc (loopCount n gs (k .loop))) (loopCount n key (k .loop)) z,
           )))
 
-      pub more-end : isLow n key k ≡ false → loopCount n key (k .loop) < loopCount n gs (k .loop)
+      pub more-end : isLow k ≡ false → loopCount n key (k .loop) < loopCount n gs (k .loop)
       more-end e = lt-by (λ (z : loopCount n gs (k .loop) ≤ loopCount n key (k .loop)).
-          (let w : when (isLow n key k) most ≡ 0 = rw e in
-          omega (arith, counts, reached, w, lots-more most (loopCount n gs (k .loop)) (loopCount n key (k .loop)) z)))
+          (let w : when (isLow k) lastMost ≡ 0 = rw e in
+          omega (
+            arith,
+            counts,
+            reached,
+            w,
+            lots-more lastMost (loopCount n gs (k .loop)) (loopCount n key (k .loop)) z,
+          )))
 
-      pub stand-end : last .c ≡ lots most (loopCount n key (k .loop)) →
+      pub stand-end : last .c ≡ lots lastMost (loopCount n key (k .loop)) →
           loopCount n gs (k .loop) ≡ loopCount n key (k .loop) → (g : ℕ) → isIn g gs ≡ true →
-          ownerOf (n .points) g ≡ k .loop → last .times g ≡ most
+          ownerOf (n .points) g ≡ k .loop → last .times g ≡ lastMost
       stand-end e c g i o =
-          let z : lots most (loopCount n gs (k .loop)) ≡ lots most (loopCount n key (k .loop)) = ap (lots most) c in
-          weigh-exact n (k .loop) most (last .times) gs fair (omega (arith, e, z, good .holds .enough)) g i
+          let z : lots lastMost (loopCount n gs (k .loop)) ≡ lots lastMost (loopCount n key (k .loop)) =
+          ap (lots lastMost) c in
+          weigh-exact n (k .loop) lastMost (last .times) gs fair (omega (arith, e, z, good .holds .enough)) g i
           (eq-eqb (ownerOf (n .points) g) (k .loop) o)

@@ -2,7 +2,7 @@
 -- Main statement: `argued-key`.
 use mathlib.Core.Path.{_≡_, refl, sym}
 use mathlib.Core.Bool.{true, _&&_, _||_, not}
-use mathlib.Core.List.{List, [], _∷_, _++_}
+use mathlib.Core.List.{List, [], _∷_}
 use mathlib.Core.Logic.{_⊎_, inl, inr, ⊎-elim}
 use Prim.Native.Nat.{ℕ, zero, suc, _≤_, _<_}
 use native.Mathlib.Omega.{arith}
@@ -20,24 +20,17 @@ use Rattle.paper_nests.proofs.Levels.{point-in}
 use Rattle.paper_placements.specs.Placements.{isCorrect, loopCount}
 use Rattle.paper_order.specs.Keys.{IsKey}
 use Rattle.paper_order.proofs.LoopOrder.{SameInside, asGood-intro}
-use Rattle.argue_claims.specs.Weights.{lots}
-use Rattle.argue_claims.specs.Arguments.{Claim, Known, Count, greatest, run, isLow, ended, knownOf, begun}
+use Rattle.argue_claims.specs.Arguments.{Claim, Known, Count, run, isLow, ended, knownOf, begun, most, keyLots}
 use Rattle.argue_claims.specs.Arguments.{hasLow, allLow, allHold, holds}
+use Rattle.argue_claims.proofs.Listed.{among-or}
 use Rattle.argue_claims.proofs.Outs.{Said, AllSaid}
 use Rattle.argue_claims.proofs.Runs.{Supposed, low-end, more-end, stand-end}
 
-among-end : (ks : List Known) (a k : Known) → Among k (ks ++ (a ∷ [])) → (k ≡ a) ⊎ Among k ks
-among-end [] a k (inl z) = inl z
-among-end [] a k (inr z) = absurd z
-among-end (j ∷ ks) a k (inl z) = inr (inl z)
-among-end (j ∷ ks) a k (inr z) =
-    ⊎-elim (λ (w : k ≡ a). inl w) (λ (w : Among k ks). inr (inr w)) (among-end ks a k z)
-
 module _ (n : Nest) (key gs : List ℕ) (shape : isShape (n .points) ≡ true) (ok : isCorrect n gs ≡ true) where
   module _ (ks : List Known) (all : AllSaid n key gs ks) (k : Claim)
-      (h : ended n key k (run n key k ks (k .steps) (begun n key)) ≡ true) where
+      (h : ended n key k (run n key k ks (k .steps) begun) ≡ true) where
     abbrev last : Count
-    last = run n key k ks (k .steps) (begun n key)
+    last = run n key k ks (k .steps) begun
 
     loop : isDo (n .points) (k .loop) ≡ true
     loop = and-true (isDo (n .points) (k .loop)) _ (and-true (last .fine) _ h .1) .0
@@ -52,10 +45,10 @@ module _ (n : Nest) (key gs : List ℕ) (shape : isShape (n .points) ≡ true) (
           upto = λ p. absurd (omega (arith, p, b));
         }
 
-    is-low : k .from ≡ 0 → k .upto ≡ 0 → isLow n key k ≡ true
+    is-low : k .from ≡ 0 → k .upto ≡ 0 → isLow k ≡ true
     is-low a b = and-intro (eq-eqb (k .from) 0 a) (eq-eqb (k .upto) 0 b)
 
-    low-is : isLow n key k ≡ true → (k .from ≡ 0) × (k .upto ≡ 0)
+    low-is : isLow k ≡ true → (k .from ≡ 0) × (k .upto ≡ 0)
     low-is e =
         let z = and-true (eqb (k .from) 0) (eqb (k .upto) 0) e in
         (eqb-true (k .from) 0 (z .0), eqb-true (k .upto) 0 (z .1))
@@ -69,25 +62,25 @@ module _ (n : Nest) (key gs : List ℕ) (shape : isShape (n .points) ≡ true) (
           stand = stand;
           more = λ s p f t. more-end n key gs shape ok k
               record { is-do = loop; same = s; from = f; upto = t } ks all h
-              (false-by (λ (e : isLow n key k ≡ true). (let z = low-is e in omega (arith, z .0, z .1, p))));
+              (false-by (λ (e : isLow k ≡ true). (let z = low-is e in omega (arith, z .0, z .1, p))));
         }
       where
         stand : SameInside n gs key (k .loop) → loopCount n gs (k .loop) ≡ loopCount n key (k .loop) → (g : ℕ) →
             isIn g gs ≡ true → ownerOf (n .points) g ≡ k .loop → knownOf n key k last .places g ≡ true
         stand s c g i o =
-            implies-by (isLow n key k && eqb (last .c) (lots (greatest (last .times) (length (n .points))) (loopCount n key (k .loop))))
-            (eqb (last .times g) (greatest (last .times) (length (n .points))))
-            (λ e. (let z = and-true (isLow n key k) _ e in
+            implies-by (isLow k && eqb (last .c) (keyLots n key k last))
+            (eqb (last .times g) (most n key last))
+            (λ e. (let z = and-true (isLow k) _ e in
             let l = low-is (z .0) in
-            eq-eqb (last .times g) (greatest (last .times) (length (n .points)))
+            eq-eqb (last .times g) (most n key last)
             (stand-end n key gs shape ok k (free (l .0) (l .1) s) ks all h (eqb-true _ _ (z .1)) c g i o)))
 
-  has-low : (ks : List Known) → AllSaid n key gs ks → (d : ℕ) → hasLow n key ks d ≡ true → SameInside n gs key d →
+  has-low : (ks : List Known) → AllSaid n key gs ks → (d : ℕ) → hasLow ks d ≡ true → SameInside n gs key d →
       loopCount n key d ≤ loopCount n gs d
   has-low [] all d e s = never e
   has-low (k ∷ ks) all d e s =
-      ⊎-elim here (λ (z : hasLow n key ks d ≡ true). has-low ks (λ j m. all j (inr m)) d z s)
-      (or-true (eqb (k .loop) d && (eqb (k .from) 0 && eqb (k .upto) 0)) (hasLow n key ks d) e)
+      ⊎-elim here (λ (z : hasLow ks d ≡ true). has-low ks (λ j m. all j (inr m)) d z s)
+      (or-true (eqb (k .loop) d && (eqb (k .from) 0 && eqb (k .upto) 0)) (hasLow ks d) e)
     where
       here : (eqb (k .loop) d && (eqb (k .from) 0 && eqb (k .upto) 0)) ≡ true → loopCount n key d ≤ loopCount n gs d
       here z =
@@ -100,30 +93,33 @@ module _ (n : Nest) (key gs : List ℕ) (shape : isShape (n .points) ≡ true) (
       isDo (n .points) d ≡ true → SameInside n gs key d → loopCount n key d ≤ loopCount n gs d
   all-low ks all zero d e p h s = absurd (omega arith)
   all-low ks all (suc m) d e p h s =
-      go (and-true (not (isDo (n .points) m) || (eqb (loopCount n key m) 0 || hasLow n key ks m)) (allLow n key ks m) e)
+      go (and-true (not (isDo (n .points) m) || (eqb (loopCount n key m) 0 || hasLow ks m)) (allLow n key ks m) e)
       (eq-or d m) (λ z. all-low ks all m d z)
     where
-      at : (eqb (loopCount n key d) 0 ≡ true) ⊎ (hasLow n key ks d ≡ true) → loopCount n key d ≤ loopCount n gs d
+      at : (eqb (loopCount n key d) 0 ≡ true) ⊎ (hasLow ks d ≡ true) → loopCount n key d ≤ loopCount n gs d
       at (inl z) = omega (arith, eqb-true (loopCount n key d) 0 z)
       at (inr z) = has-low ks all d z s
 
-      go : ((not (isDo (n .points) m) || (eqb (loopCount n key m) 0 || hasLow n key ks m)) ≡ true) ×
+      go : ((not (isDo (n .points) m) || (eqb (loopCount n key m) 0 || hasLow ks m)) ≡ true) ×
           (allLow n key ks m ≡ true) → (d ≡ m) ⊎ ((d ≡ m) → ⊥) →
           (allLow n key ks m ≡ true → d < m → isDo (n .points) d ≡ true → SameInside n gs key d →
           loopCount n key d ≤ loopCount n gs d) → loopCount n key d ≤ loopCount n gs d
       go z (inl w) r =
-          at (or-true (eqb (loopCount n key d) 0) (hasLow n key ks d)
-          (implied (isDo (n .points) d) (eqb (loopCount n key d) 0 || hasLow n key ks d) (rw w (z .0)) h))
+          at (or-true (eqb (loopCount n key d) 0) (hasLow ks d)
+          (implied (isDo (n .points) d) (eqb (loopCount n key d) 0 || hasLow ks d) (rw w (z .0)) h))
       go z (inr w) r = r (z .1) (omega (arith, w, p)) h s
 
   all-hold : (cs : List Claim) (ks : List Known) → AllSaid n key gs ks → allHold n key ks cs ≡ true → (d : ℕ) →
       isDo (n .points) d ≡ true → SameInside n gs key d → loopCount n key d ≤ loopCount n gs d
   all-hold [] ks all e d h s = all-low ks all (length (n .points)) d e (point-in (n .points) d 0 h) h s
   all-hold (k ∷ cs) ks all e d h s =
-      let z = and-true (ended n key k (run n key k ks (k .steps) (begun n key))) _ e in
+      let z = and-true (ended n key k (run n key k ks (k .steps) begun)) _ e in
       all-hold cs _ (λ j m. ⊎-elim
-      (λ (w : j ≡ knownOf n key k (run n key k ks (k .steps) (begun n key))). rw w (claim-said ks all k (z .0)))
-      (λ (w : Among j ks). all j w) (among-end ks _ j m)) (z .1) d h s
+      (λ (w : Among j ks). all j w)
+      (λ (w : Among j (knownOf n key k (run n key k ks (k .steps) begun) ∷ [])). ⊎-elim
+      (λ (v : j ≡ knownOf n key k (run n key k ks (k .steps) begun)). rw v (claim-said ks all k (z .0)))
+      (λ v. absurd v) w)
+      (among-or j ks (knownOf n key k (run n key k ks (k .steps) begun) ∷ []) m)) (z .1) d h s
 
 -- whoever found the placement, and however: with an argument that holds it is a key
 pub argued-key : (n : Nest) → isShape (n .points) ≡ true → (key : List ℕ) (cs : List Claim) → holds n key cs ≡ true →

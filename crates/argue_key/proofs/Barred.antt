@@ -7,12 +7,12 @@ use mathlib.Core.List.{List, [], _∷_, _++_}
 use mathlib.Core.Logic.{_⊎_, inl, inr, ⊎-elim}
 use Prim.Native.Nat.{ℕ, zero, suc, _+_, _-_, _≤_, _<_}
 use native.Mathlib.Omega.{arith}
-use lib.Dec.{eqb, ltb, leb}
+use lib.Dec.{eqb, ltb}
 use lib.ListN.{length}
-use borrow.Author.Tests.{eqb-true, eq-eqb, ltb-true, lt-ltb, leb-true, leb-false, le-leb}
+use borrow.Author.Tests.{eqb-true, eq-eqb, ltb-true, lt-ltb, le-leb}
 use Rattle.laws.specs.Choice.{pick, when, isIn}
 use Rattle.laws.specs.Members.{Among}
-use Rattle.laws.proofs.Tests.{test, never, le-or, eq-or, and-true, and-intro, or-true, or-left, or-right, false-by}
+use Rattle.laws.proofs.Tests.{test, never, le-or, and-true, and-intro, or-true, or-left, or-right, false-by}
 use Rattle.laws.proofs.Implies.{implied, implies-by}
 use Rattle.laws.proofs.Members.{no-members}
 use Rattle.paper_nests.specs.Nests.{Dep, Nest}
@@ -42,53 +42,13 @@ use Rattle.plan_theorem.specs.OneKey.{IsFirstSmallest}
 use Rattle.plan_theorem.proofs.FirstSmallest.{first-smallest}
 use Rattle.plan_theorem.proofs.PlainKey.{plain-is-first}
 use Rattle.plan_theorem.proofs.BarredKey.{barred-first-smallest}
-use Rattle.argue_claims.specs.Weights.{lots}
-use Rattle.argue_claims.specs.Arguments.{Step, Claim, Known, Count, st, claim, greatest, depAt, factOut, isOut, isLed, isLeft}
+use Rattle.argue_claims.specs.Arguments.{Step, Claim, Known, Count, st, claim, greatest, lots, depAt, factOut, isOut, isLed}
+use Rattle.argue_claims.specs.Arguments.{isLeft}
 use Rattle.argue_claims.specs.Arguments.{step, run, ended, begun, hasLow, allLow, allHold, holds}
+use Rattle.argue_claims.proofs.Lots.{lots-zero, lots-suc, lots-more, lots-le, greatest-pos, greatest-at, greatest-in, every-by}
+use Rattle.argue_claims.proofs.Listed.{dep-among, run-fine}
 use Rattle.argue_key.specs.Laps.{Head, head, sideHeads, loopHeads, headsFrom, made, claimFor, plainArgument}
-use Rattle.argue_key.proofs.Traces.{every-by}
-use Rattle.argue_key.proofs.Lapping.{lots-suc, lots-zero}
-use Rattle.argue_key.proofs.Heads.{lots-le}
 use Rattle.argue_key.proofs.Plain.{plain-argued}
-
--- ---- the greatest of some numbers
-
-greatest-pos : (t : ℕ → ℕ) (n : ℕ) → 0 < greatest t n
-greatest-pos t zero = omega arith
-greatest-pos t (suc n) = go (leb (greatest t n) (t (suc n))) refl (greatest-pos t n)
-  where
-    go : (b : Bool) → leb (greatest t n) (t (suc n)) ≡ b → 0 < greatest t n → 0 < pick b (t (suc n)) (greatest t n)
-    go true e r = omega (arith, leb-true (greatest t n) (t (suc n)) e, r)
-    go false e r = r
-
-greatest-at : (t : ℕ → ℕ) (n g : ℕ) → 0 < g → g ≤ n → t g ≤ greatest t n
-greatest-at t zero g p q = absurd (omega arith)
-greatest-at t (suc n) g p q = go (leb (greatest t n) (t (suc n))) refl (eq-or g (suc n)) (greatest-at t n g p)
-  where
-    go : (b : Bool) → leb (greatest t n) (t (suc n)) ≡ b → (g ≡ suc n) ⊎ ((g ≡ suc n) → ⊥) →
-        (g ≤ n → t g ≤ greatest t n) → t g ≤ pick b (t (suc n)) (greatest t n)
-    go true e (inl z) r =
-        let y : t g ≡ t (suc n) = ap t z in
-        omega (arith, y)
-    go true e (inr z) r = omega (arith, r (omega (arith, z)), leb-true (greatest t n) (t (suc n)) e)
-    go false e (inl z) r =
-        let y : t g ≡ t (suc n) = ap t z in
-        omega (arith, y, leb-false (greatest t n) (t (suc n)) e)
-    go false e (inr z) r = r (omega (arith, z))
-
-greatest-in : (t : ℕ → ℕ) (m n : ℕ) → 0 < m → ((g : ℕ) → 0 < g → g ≤ n → t g ≤ m) → greatest t n ≤ m
-greatest-in t m zero p h = p
-greatest-in t m (suc n) p h =
-    go (leb (greatest t n) (t (suc n))) (greatest-in t m n p (λ g a b. h g a (omega (arith, b))))
-  where
-    go : (b : Bool) → greatest t n ≤ m → pick b (t (suc n)) (greatest t n) ≤ m
-    go true r = h (suc n) (omega arith) (omega arith)
-    go false r = r
-
-lots-fewer : (m a b : ℕ) → a ≤ b → lots m a ≤ lots m b
-lots-fewer m zero b h = omega (arith, lots-zero m)
-lots-fewer m (suc a) zero h = absurd (omega arith)
-lots-fewer m (suc a) (suc b) h = omega (arith, lots-suc m a, lots-suc m b, lots-fewer m a b (omega (arith, h)))
 
 -- fewer times, and fewer barriers: a low claim holds all the more
 low-kept : (g m a b c : ℕ) → 0 < g → g ≤ m → a ≤ b → lots m b < c + m → lots g a < c + g
@@ -98,18 +58,13 @@ low-kept g m a zero c p q h k =
     omega (arith, y, lots-zero g, p)
 low-kept g m zero (suc b) c p q h k = omega (arith, lots-zero g, p)
 low-kept g m (suc a) (suc b) c p q h k =
-    omega (arith, k, lots-suc m b, lots-suc g a, lots-le g m a q, lots-fewer m a b (omega (arith, h)))
+    omega (arith, k, lots-suc m b, lots-suc g a, lots-le g m a q, lots-more m a b (omega (arith, h)))
 
 dep-at : (bs : List ℕ) (m : ℕ) (ds : List Dep) (i : ℕ) → i < length ds →
     depAt (reducedDeps bs m ds) i ≡ reducedDep bs m (depAt ds i)
 dep-at bs m [] i h = absurd (omega arith)
 dep-at bs m (e ∷ es) zero h = refl
 dep-at bs m (e ∷ es) (suc i) h = dep-at bs m es i (omega (arith, h))
-
-dep-in : (es : List Dep) (m : ℕ) → m < length es → Among (depAt es m) es
-dep-in [] m h = absurd (omega arith)
-dep-in (e ∷ es) zero h = inl refl
-dep-in (e ∷ es) (suc m) h = inr (dep-in es m (omega (arith, h)))
 
 free-not-in : (bs : List ℕ) (g : ℕ) → isFree bs g ≡ true → isIn g bs ≡ false
 free-not-in bs g h = false-by (λ (z : isIn g bs ≡ true). never (rw z at h))
@@ -120,11 +75,6 @@ unfree-in bs g h = go (isIn g bs) h
     go : (b : Bool) → not b ≡ false → b ≡ true
     go true z = refl
     go false z = never (sym z)
-
-run-fine : (n : Nest) (key : List ℕ) (k : Claim) (ks : List Known) (ss : List Step) (x : Count) →
-    run n key k ks ss x .fine ≡ true → x .fine ≡ true
-run-fine n key k ks [] x f = f
-run-fine n key k ks (s ∷ ss) x f = and-true (x .fine) _ (run-fine n key k ks ss (step n key k ks s x) f) .0
 
 -- ---- one claim, in both nests
 
@@ -193,7 +143,7 @@ module _ (n : Nest) (valid : isValid n ≡ true) (one : oneLoop (n .points) ≡ 
     e = depAt ds m
 
     e-fits : Fits ps e
-    e-fits = fits e (dep-in ds m short)
+    e-fits = fits e (dep-among ds m short)
 
     here : (g : ℕ) → 0 < g → g ≤ last → isFree bs g ≡ true →
         isLeft n key k [] (y .facts) (st (suc (suc m)) 0) g ≡ (hasGap ps e g && true)
@@ -284,7 +234,7 @@ module _ (n : Nest) (valid : isValid n ≡ true) (one : oneLoop (n .points) ≡ 
       all-steps ss (step ring rkey k [] a x) (step n key k [] a y) f
       (any-step (a .set) (a .via) x y (run-fine ring rkey k [] ss (step ring rkey k [] a x) f) s)
 
-  begins : Same (begun ring rkey) (begun n key)
+  begins : Same begun begun
   begins =
       record {
         fine = refl;
@@ -297,13 +247,13 @@ module _ (n : Nest) (valid : isValid n ≡ true) (one : oneLoop (n .points) ≡ 
       }
 
   pub claim-kept : loopCount n key 0 ≤ loopCount ring rkey 0 →
-      ended ring rkey k (run ring rkey k [] (k .steps) (begun ring rkey)) ≡ true →
-      ended n key k (run n key k [] (k .steps) (begun n key)) ≡ true
+      ended ring rkey k (run ring rkey k [] (k .steps) begun) ≡ true →
+      ended n key k (run n key k [] (k .steps) begun) ≡ true
   claim-kept fewer h =
-      let f : run ring rkey k [] (k .steps) (begun ring rkey) .fine ≡ true =
-      and-true (run ring rkey k [] (k .steps) (begun ring rkey) .fine) _ h .0 in
-      go (run ring rkey k [] (k .steps) (begun ring rkey)) (run n key k [] (k .steps) (begun n key))
-      (all-steps (k .steps) (begun ring rkey) (begun n key) f begins) h
+      let f : run ring rkey k [] (k .steps) begun .fine ≡ true =
+      and-true (run ring rkey k [] (k .steps) begun .fine) _ h .0 in
+      go (run ring rkey k [] (k .steps) begun) (run n key k [] (k .steps) begun)
+      (all-steps (k .steps) begun begun f begins) h
     where
       go : (x y : Count) → Same x y → ended ring rkey k x ≡ true → ended n key k y ≡ true
       go x y s h =
@@ -454,14 +404,14 @@ module _ (n : Nest) (valid : isValid n ≡ true) (one : oneLoop (n .points) ≡ 
       sym (one-loop-count ring′ (ring-shape (rank (n .barred) last′)) (ring-one (rank (n .barred) last′)) (plainKey ring′)
       (correct-gaps ring′ (plainKey ring′) (ring-key .correct)))))
 
-  all-low : (ks : List Known) → ((loopCount n (barredKey n) 0 ≡ 0) ⊎ (hasLow n (barredKey n) ks 0 ≡ true)) → (m : ℕ) →
+  all-low : (ks : List Known) → ((loopCount n (barredKey n) 0 ≡ 0) ⊎ (hasLow ks 0 ≡ true)) → (m : ℕ) →
       allLow n (barredKey n) ks m ≡ true
   all-low ks h zero = refl
   all-low ks h (suc d) = and-intro
-      (implies-by (isDo (n .points) d) (eqb (loopCount n (barredKey n) d) 0 || hasLow n (barredKey n) ks d)
+      (implies-by (isDo (n .points) d) (eqb (loopCount n (barredKey n) d) 0 || hasLow ks d)
       (λ i. (let z : d ≡ 0 = one-loop-is-first (n .points) one d i in
       rw z (⊎-elim (λ (y : loopCount n (barredKey n) 0 ≡ 0). or-left _ (eq-eqb (loopCount n (barredKey n) 0) 0 y))
-      (λ (y : hasLow n (barredKey n) ks 0 ≡ true). or-right (eqb (loopCount n (barredKey n) 0) 0) y) h))))
+      (λ (y : hasLow ks 0 ≡ true). or-right (eqb (loopCount n (barredKey n) 0) 0) y) h))))
       (all-low ks h d)
 
   -- the ring's argument, as the planner's theorem gives it
@@ -492,9 +442,9 @@ module _ (n : Nest) (valid : isValid n ≡ true) (one : oneLoop (n .points) ≡ 
       (all-low _ (inr refl) (length (n .points))))
     where
       first : (ss : List Step) → allHold ring′ (plainKey ring′) [] (claim 0 0 0 ss ∷ []) ≡ true →
-          (ended ring′ (plainKey ring′) (claim 0 0 0 ss) (run ring′ (plainKey ring′) (claim 0 0 0 ss) [] ss (begun ring′ (plainKey ring′))) && true) ≡ true
+          (ended ring′ (plainKey ring′) (claim 0 0 0 ss) (run ring′ (plainKey ring′) (claim 0 0 0 ss) [] ss begun) && true) ≡ true
       first ss h = and-intro (and-true (ended ring′ (plainKey ring′) (claim 0 0 0 ss)
-          (run ring′ (plainKey ring′) (claim 0 0 0 ss) [] ss (begun ring′ (plainKey ring′)))) _ h .0) refl
+          (run ring′ (plainKey ring′) (claim 0 0 0 ss) [] ss begun)) _ h .0) refl
 
   pub barred-argued : holds n (barredKey n) (plainArgument (ring′ .points) (ring′ .deps)) ≡ true
   barred-argued = and-intro correct

@@ -5,7 +5,7 @@ use mathlib.Core.Path.{_≡_, refl, sym, ap, _∙_}
 use mathlib.Core.Bool.{Bool, true, false, _&&_}
 use mathlib.Core.List.{List, [], _∷_}
 use mathlib.Core.Logic.{_⊎_, inl, inr, ⊎-elim}
-use Prim.Native.Nat.{ℕ, zero, suc, _≤_, _<_}
+use Prim.Native.Nat.{ℕ, suc, _≤_, _<_}
 use native.Mathlib.Omega.{arith}
 use lib.Dec.{eqb, ltb, leb}
 use lib.ListN.{length}
@@ -23,6 +23,7 @@ use Rattle.plan_method.specs.Home.{homeOf, startsAt, reachOf, linesIn}
 use Rattle.plan_method.proofs.World.{Lawful}
 use Rattle.plan_method.proofs.Instance.{LineAt, BackAt, worldOf, AllFit}
 use Rattle.argue_claims.specs.Arguments.{Claim, depAt, inSet, isSet}
+use Rattle.argue_claims.proofs.Listed.{dep-among}
 use Rattle.argue_key.specs.Laps.{Start, starting, isBack, lastBack, lineNum, suffixOf, lapNeed, lapSet}
 use Rattle.argue_key.proofs.Traces.{Sets}
 
@@ -37,11 +38,6 @@ num-here e es p h = record { short = omega arith; among = inl refl; is = h }
 
 num-later : (e : Dep) (es : List Dep) (p : Dep → Type 0) (m : ℕ) → Numbered es p m → Numbered (e ∷ es) p (suc m)
 num-later e es p m h = record { short = omega (arith, h .short); among = inr (h .among); is = h .is }
-
-dep-among : (es : List Dep) (m : ℕ) → m < length es → Among (depAt es m) es
-dep-among [] m h = absurd (omega arith)
-dep-among (e ∷ es) zero h = inl refl
-dep-among (e ∷ es) (suc m) h = inr (dep-among es m (omega (arith, h)))
 
 abbrev pub isLine : List ℕ → ℕ → ℕ → ℕ → Dep → Bool
 isLine ps d a t e = startsAt ps d a e && eqb (e .t) t

@@ -1,15 +1,15 @@
 -- Every claim of the argument holds, where the claims of the loops inside are known.
 -- Main definitions: `Low`, `Side`. Main statement: `head-holds`.
 use mathlib.Core.Path.{_≡_, refl, sym, ap, _∙_}
-use mathlib.Core.Bool.{Bool, true, false, _&&_}
+use mathlib.Core.Bool.{true, false, _&&_}
 use mathlib.Core.List.{List}
 use mathlib.Core.Logic.{_⊎_, inl, inr, ⊎-elim}
 use Prim.Native.Nat.{ℕ, zero, suc, _+_, _≤_, _<_}
 use native.Mathlib.Omega.{arith}
-use lib.Dec.{eqb, ltb, leb}
+use lib.Dec.{eqb, ltb}
 use lib.ListN.{length}
 use borrow.Author.Tests.{eqb-true, eq-eqb, ltb-true, ltb-false, lt-ltb}
-use Rattle.laws.specs.Choice.{pick, when}
+use Rattle.laws.specs.Choice.{when}
 use Rattle.laws.proofs.Choices.{pick-by}
 use Rattle.laws.proofs.Tests.{le-or, and-true, and-false, and-intro, false-by}
 use Rattle.paper_nests.specs.Nests.{Dep, Nest}
@@ -22,38 +22,14 @@ use Rattle.plan_method.proofs.Walk.{AtChild}
 use Rattle.plan_method.proofs.Claim.{Laid}
 use Rattle.plan_method.proofs.Theorem as PT
 use Rattle.plan_method.proofs.Instance.{worldOf, AllFit}
-use Rattle.argue_claims.specs.Weights.{lots}
-use Rattle.argue_claims.specs.Arguments.{Claim, Known, Count, claim, greatest, isLow, run, ended, begun}
+use Rattle.argue_claims.specs.Arguments.{Claim, Known, Count, claim, greatest, lots, isLow, run, ended, begun}
+use Rattle.argue_claims.proofs.Lots.{lots-zero, lots-suc, lots-le, lots-swap, greatest-in}
 use Rattle.argue_key.specs.Laps.{suffixOf, lapNeed, closeUp, lapSwept, lapEnd, laps, before}
 use Rattle.argue_key.specs.Laps.{Head, fewFor, stepsFor}
 use Rattle.argue_key.proofs.Traces.{KidSays}
-use Rattle.argue_key.proofs.Lapping.{lots-suc, lots-zero, Worse, Enough, laps-enough}
+use Rattle.argue_key.proofs.Lapping.{Worse, Enough, laps-enough}
 use Rattle.argue_key.proofs.Closing as C
 use Rattle.argue_key.proofs.Choosing.{Suffix, suffix-is, lap-sets}
-
-greatest-le : (t : ℕ → ℕ) (m n : ℕ) → 0 < m → ((g : ℕ) → t g ≤ m) → greatest t n ≤ m
-greatest-le t m zero p h = p
-greatest-le t m (suc n) p h = go (leb (greatest t n) (t (suc n))) (greatest-le t m n p h)
-  where
-    go : (b : Bool) → greatest t n ≤ m → pick b (t (suc n)) (greatest t n) ≤ m
-    go true r = h (suc n)
-    go false r = r
-
-pub lots-le : (a b c : ℕ) → a ≤ b → lots a c ≤ lots b c
-lots-le a b zero h = omega (arith, lots-zero a)
-lots-le a b (suc c) h = omega (arith, lots-suc a c, lots-suc b c, lots-le a b c h, h)
-
-lots-more : (a c : ℕ) → lots (suc a) c ≡ c + lots a c
-lots-more a zero = omega (arith, lots-zero a, lots-zero (suc a))
-lots-more a (suc c) = omega (arith, lots-suc a c, lots-suc (suc a) c, lots-more a c)
-
-lots-none : (c : ℕ) → lots 0 c ≡ 0
-lots-none zero = lots-zero 0
-lots-none (suc c) = omega (arith, lots-suc 0 c, lots-none c)
-
-lots-swap : (a b : ℕ) → lots a b ≡ lots b a
-lots-swap a zero = omega (arith, lots-zero a, lots-none a)
-lots-swap a (suc b) = omega (arith, lots-suc a b, lots-more b a, lots-swap a b)
 
 before-is : (m u : ℕ) → u ≡ before m → 0 < m → suc u ≡ m
 before-is zero u h p = absurd (omega arith)
@@ -281,11 +257,11 @@ module _
 
     -- laps from a front right after the DO
     by-laps : ((0 < h .upto) → d < h .upto) → Enough n key k ks (laws .of-loops) T is-do lead few kids
-        (run n key k ks (laps ps ds T lead d (h .from) (h .upto) few (suc (suc e)) (suc d)) (begun n key))
+        (run n key k ks (laps ps ds T lead d (h .from) (h .upto) few (suc (suc e)) (suc d)) begun)
     by-laps proper =
         laps-enough n key k ks (laws .of-loops) T is-do lead few kids
         (λ f u w. lap-sets n key k laws fit is-do from-low from-high f) upto-in (worse proper)
-        (suc (suc e)) 0 (suc d) (begun n key) (omega arith) (omega arith) (omega (arith, long)) (sym (lots-zero few))
+        (suc (suc e)) 0 (suc d) begun (omega arith) (omega arith) (omega (arith, long)) (sym (lots-zero few))
         (record {
           fine = refl;
           outs = λ g a b c o. absurd (omega (arith, a, b));
@@ -294,19 +270,20 @@ module _
         })
 
     all-steps : Enough n key k ks (laws .of-loops) T is-do lead few kids
-        (run n key k ks (stepsFor ps ds T lead h) (begun n key))
+        (run n key k ks (stepsFor ps ds T lead h) begun)
     unfolding stepsFor
     all-steps = by-laps proper
 
-    pub head-holds : ended n key k (run n key k ks (k .steps) (begun n key)) ≡ true
+    pub head-holds : ended n key k (run n key k ks (k .steps) begun) ≡ true
     head-holds =
-        let x : Count = run n key k ks (stepsFor ps ds T lead h) (begun n key) in
-        and-intro (all-steps .fine) (and-intro is-do (lt-ltb _ _ (enough (run n key k ks (stepsFor ps ds T lead h) (begun n key)) all-steps)))
+        let x : Count = run n key k ks (stepsFor ps ds T lead h) begun in
+        and-intro (all-steps .fine) (and-intro is-do (lt-ltb _ _ (enough (run n key k ks (stepsFor ps ds T lead h) begun) all-steps)))
       where
         enough : (x : Count) → Enough n key k ks (laws .of-loops) T is-do lead few kids x →
-            lots (greatest (x .times) (length ps)) (loopCount n key d) < x .c + when (isLow n key k) (greatest (x .times) (length ps))
+            lots (greatest (x .times) (length ps)) (loopCount n key d) < x .c + when (isLow k) (greatest (x .times) (length ps))
         enough x r =
-            let m : greatest (x .times) (length ps) ≤ r .laps = greatest-le (x .times) (r .laps) (length ps) (r .pos) (r .most) in
+            let m : greatest (x .times) (length ps) ≤ r .laps = greatest-in (x .times) (r .laps) (length ps) (r .pos)
+            (λ g p q. r .most g) in
             let u : lots (greatest (x .times) (length ps)) few ≤ lots (r .laps) few =
             lots-le (greatest (x .times) (length ps)) (r .laps) few m in
             let v : lots (r .laps) few ≡ lots few (r .laps) = lots-swap (r .laps) few in
@@ -315,7 +292,7 @@ module _
             let c : loopCount n key d ≡ suc few = costs d is-do ∙ sym (few-low z) in
             let o : lots (greatest (x .times) (length ps)) (loopCount n key d) ≡ lots (greatest (x .times) (length ps)) (suc few) =
             ap (lots (greatest (x .times) (length ps))) c in
-            let w : when (isLow n key k) (greatest (x .times) (length ps)) ≡ greatest (x .times) (length ps) = rw (low-test z) in
+            let w : when (isLow k) (greatest (x .times) (length ps)) ≡ greatest (x .times) (length ps) = rw (low-test z) in
             omega (arith, u, v, r .enough, o, w, lots-suc (greatest (x .times) (length ps)) few)))
             (λ (z : Side h). (
             let c : loopCount n key d ≡ few = costs d is-do ∙ sym (few-side z) in

@@ -12,6 +12,7 @@ use borrow.Author.Tests.{eqb-true, eqb-false, eq-eqb, ne-eqb, ltb-true, ltb-fals
 use Rattle.laws.specs.Choice.{pick, isIn}
 use Rattle.laws.specs.Members.{Among}
 use Rattle.laws.proofs.Tests.{never, never-both, le-or, eq-or, and-true, and-intro, or-left, or-right, or-false}
+use Rattle.laws.proofs.Members.{among-front, among-back}
 use Rattle.laws.proofs.Implies.{implies-by}
 use Rattle.paper_nests.specs.Nests.{Dep, Nest}
 use Rattle.paper_nests.specs.Loops.{isDo, endOf, ownerOf, isAround, inLoop}
@@ -27,27 +28,11 @@ use Rattle.plan_method.proofs.Theorem as PT
 use Rattle.plan_method.proofs.Instance.{worldOf, AllFit}
 use Rattle.argue_claims.specs.Arguments.{Claim, Known, Fact, claim, knownAt, factOut, knownOut, says, isOut}
 use Rattle.argue_claims.specs.Arguments.{run, ended, knownOf, begun, hasLow, allLow, allHold}
+use Rattle.argue_claims.proofs.Listed.{among-or}
 use Rattle.argue_key.specs.Laps.{before, Head, head, findClaim, leadIn, claimFor, made}
 use Rattle.argue_key.specs.Laps.{startsRun, rowHeads, lowHeads, sideHeads, loopHeads, headsFrom}
 use Rattle.argue_key.proofs.Traces.{KidSays}
 use Rattle.argue_key.proofs.Heads.{left-low, left-high, Low, Side, head-holds}
-
--- ---- members
-
-among-left : {A : Type 0} (x : A) (xs ys : List A) → Among x xs → Among x (xs ++ ys)
-among-left x [] ys h = absurd h
-among-left x (a ∷ xs) ys (inl h) = inl h
-among-left x (a ∷ xs) ys (inr h) = inr (among-left x xs ys h)
-
-among-right : {A : Type 0} (x : A) (xs ys : List A) → Among x ys → Among x (xs ++ ys)
-among-right x [] ys h = h
-among-right x (a ∷ xs) ys h = inr (among-right x xs ys h)
-
-among-or : {A : Type 0} (x : A) (xs ys : List A) → Among x (xs ++ ys) → Among x xs ⊎ Among x ys
-among-or x [] ys h = inr h
-among-or x (a ∷ xs) ys (inl h) = inl (inl h)
-among-or x (a ∷ xs) ys (inr h) =
-    ⊎-elim (λ (z : Among x xs). inl (inr z)) (λ (z : Among x ys). inr z) (among-or x xs ys h)
 
 -- ---- claims and what is known of them, place by place
 
@@ -170,11 +155,11 @@ module _
     heads-is = rw (and-intro is-do (lt-ltb 0 (T .left d (suc d)) busy))
 
     low-in : 0 < T .cost d → Among (head d 0 0) (loopHeads ps T d)
-    low-in p = rw heads-is (among-left (head d 0 0) (lowHeads T d) (sideHeads T d (endOf ps d)) (rw (lt-ltb 0 (T .cost d) p) (inl refl)))
+    low-in p = rw heads-is (among-front (head d 0 0) (lowHeads T d) (sideHeads T d (endOf ps d)) (rw (lt-ltb 0 (T .cost d) p) (inl refl)))
 
     side-in : (h : Head) → 0 < d → Among h (upHeads d ++ rowHeads T d (endOf ps d)) →
         Among h (loopHeads ps T d)
-    side-in h p m = rw heads-is (among-right h (lowHeads T d) (sideHeads T d (endOf ps d)) (rw (lt-ltb 0 d p) m))
+    side-in h p m = rw heads-is (among-back h (lowHeads T d) (sideHeads T d (endOf ps d)) (rw (lt-ltb 0 d p) m))
 
   -- the first gap of b's run of equal fronts
   record RowIn (d b e : ℕ) : Type 0 where
@@ -344,7 +329,7 @@ module _
     upto-known : suc l < T .left l (suc l) → Kn ks l 0 (before (T .left l (suc l)))
     upto-known b = inner l (at .child .below) (head l 0 (before (T .left l (suc l))))
         (side-in l loop (omega (arith, b)) (head l 0 (before (T .left l (suc l)))) pos
-        (among-left (head l 0 (before (T .left l (suc l)))) (upHeads l) (rowHeads T l (endOf ps l))
+        (among-front (head l 0 (before (T .left l (suc l)))) (upHeads l) (rowHeads T l (endOf ps l))
         (rw (lt-ltb (suc l) (T .left l (suc l)) b) (inl refl))))
 
     record RowKnown (a : ℕ) : Type 0 where
@@ -366,7 +351,7 @@ module _
           kn =
               inner l (at .child .below) (head l (r .at) (before (T .left l (r .at))))
               (side-in l loop b (head l (r .at) (before (T .left l (r .at)))) pos
-              (among-right (head l (r .at) (before (T .left l (r .at)))) (upHeads l) (rowHeads T l (endOf ps l)) (r .among)));
+              (among-back (head l (r .at) (before (T .left l (r .at)))) (upHeads l) (rowHeads T l (endOf ps l)) (r .among)));
         }
 
     -- a loop with no front has no barriers in and at it
@@ -473,9 +458,9 @@ module _
       new = claimFor ps ds T cs h
 
       abbrev newly : Known
-      newly = knownOf n key new (run n key new ks (new .steps) (begun n key))
+      newly = knownOf n key new (run n key new ks (new .steps) begun)
 
-      one-holds : ended n key new (run n key new ks (new .steps) (begun n key)) ≡ true
+      one-holds : ended n key new (run n key new ks (new .steps) begun) ≡ true
       one-holds =
           head-holds n key laws fit T table costs h (of .is-do) (of .busy) (of .kind) ks (leadIn T cs)
           (λ p l at. kid-says (h .loop) (of .is-do) cs ks match (λ m u. inner m (omega (arith, u, of .loop-is))) p l at)
@@ -485,13 +470,13 @@ module _
 
       one-known : Kn (ks ++ (newly ∷ [])) (h .loop) (h .from) (h .upto)
       one-known =
-          record { known = newly; among = among-right newly ks (newly ∷ []) (inl refl); loop-is = refl; from-is = refl; upto-is = refl }
+          record { known = newly; among = among-back newly ks (newly ∷ []) (inl refl); loop-is = refl; from-is = refl; upto-is = refl }
 
   kn-more : (ks js : List Known) (l a u : ℕ) → Kn ks l a u → Kn (ks ++ js) l a u
   kn-more ks js l a u k =
       record {
         known = k .known;
-        among = among-left (k .known) ks js (k .among);
+        among = among-front (k .known) ks js (k .among);
         loop-is = k .loop-is;
         from-is = k .from-is;
         upto-is = k .upto-is;
@@ -541,7 +526,7 @@ module _
       (eq-or l d))))
 
   has-low : (ks : List Known) (d : ℕ) (k : Known) → Among k ks → k .loop ≡ d → k .from ≡ 0 → k .upto ≡ 0 →
-      hasLow n key ks d ≡ true
+      hasLow ks d ≡ true
   has-low [] d k m x y z = absurd m
   has-low (j ∷ ks) d k (inl m) x y z =
       let w : (eqb (j .loop) d && (eqb (j .from) 0 && eqb (j .upto) 0)) ≡ true =
@@ -553,9 +538,9 @@ module _
   all-low : (ks : List Known) (m : ℕ) → ((l : ℕ) → LoopKnown l ks) → allLow n key ks m ≡ true
   all-low ks zero known = refl
   all-low ks (suc d) known = and-intro
-      (implies-by (isDo ps d) (eqb (loopCount n key d) 0 || hasLow n key ks d) here) (all-low ks d known)
+      (implies-by (isDo ps d) (eqb (loopCount n key d) 0 || hasLow ks d) here) (all-low ks d known)
     where
-      low : (is-do : isDo ps d ≡ true) → 0 < T .cost d → hasLow n key ks d ≡ true
+      low : (is-do : isDo ps d ≡ true) → 0 < T .cost d → hasLow ks d ≡ true
       low is-do p = ⊎-elim
           (λ (z : T .left d (suc d) ≤ 0). absurd (omega (
             arith,
@@ -568,7 +553,7 @@ module _
           has-low ks d (k .known) (k .among) (k .loop-is) (k .from-is) (k .upto-is)))
           (le-or (T .left d (suc d)) 0)
 
-      here : isDo ps d ≡ true → (eqb (loopCount n key d) 0 || hasLow n key ks d) ≡ true
+      here : isDo ps d ≡ true → (eqb (loopCount n key d) 0 || hasLow ks d) ≡ true
       here h = ⊎-elim
           (λ (z : T .cost d ≤ 0). or-left _ (eq-eqb (loopCount n key d) 0 (costs d h ∙ omega (arith, z))))
           (λ (z : 0 < T .cost d). or-right (eqb (loopCount n key d) 0) (low h z))

@@ -17,18 +17,11 @@ use Rattle.plan_method.specs.Sweep.{Loops, Tables, State, put, start, sweep}
 use Rattle.plan_method.specs.Home.{loopsIn}
 use Rattle.plan_method.proofs.World.{LoopLaws}
 use Rattle.plan_method.proofs.Walk.{AtChild}
-use Rattle.argue_claims.specs.Weights.{lots}
-use Rattle.argue_claims.specs.Arguments.{Step, Claim, Known, Count, st, leads, isOut, run}
+use Rattle.argue_claims.specs.Arguments.{Step, Claim, Known, Count, st, leads, isOut, run, lots}
+use Rattle.argue_claims.proofs.Lots.{lots-suc}
+use Rattle.argue_claims.proofs.Listed.{run-joined}
 use Rattle.argue_key.specs.Laps.{trace, lapNeed, lapSet, closeUp, closeStep, lapSwept, lapEnd, lapSteps, laps}
-use Rattle.argue_key.proofs.Traces.{run-more, Sets, KidSays, Traced, traced, step-fine, step-most}
-
-pub lots-zero : (m : ℕ) → lots m 0 ≡ 0
-unfolding lots
-lots-zero m = refl
-
-pub lots-suc : (m a : ℕ) → lots m (suc a) ≡ m + lots m a
-unfolding lots
-lots-suc m a = refl
+use Rattle.argue_key.proofs.Traces.{Sets, KidSays, Traced, traced, step-fine, step-most}
 
 module _
     (n : Nest) (key : List ℕ) (k : Claim) (ks : List Known) (laws : LoopLaws (loopsIn (n .points))) (T : Tables)
@@ -191,7 +184,7 @@ module _
         upto-in i x b w (endAt f) (run n key k ks (stepsAt f) x)
     unfolding lapEnd lapSteps lapSwept
     lap-ended f u w i x b =
-        rw (run-more n key k ks (trace B T (lapNeed (n .points) (n .deps) d (k .from) f)
+        rw (run-joined n key k ks (trace B T (lapNeed (n .points) (n .deps) d (k .from) f)
         (lapSet (n .points) (n .deps) d (k .from) f) lead d e e (start e))
         (closeStep (k .upto) (sweep B T (lapNeed (n .points) (n .deps) d (k .from) f) d .f)) x)
         (close-ended f (lapNeed (n .points) (n .deps) d (k .from) f) (lapSet (n .points) (n .deps) d (k .from) f) (sets f u w)
@@ -222,6 +215,6 @@ module _
             }
         go false z r h =
             let le : endAt f .c ≤ few = ltb-false few (endAt f .c) z in
-            rw (run-more n key k ks (stepsAt f) (allLaps j (endAt f .f)) x)
+            rw (run-joined n key k ks (stepsAt f) (allLaps j (endAt f .f)) x)
             (h (run n key k ks (stepsAt f) x) (omega (arith, fuel, worse f u w .further le)) (r .above) (r .fits)
             (omega (arith, r .c-is, c, lots-suc few i, le, worse f u w .at-least)) (r .between))

@@ -23,19 +23,11 @@ use Rattle.plan_method.specs.Home.{loopsIn}
 use Rattle.plan_method.proofs.World.{LoopLaws}
 use Rattle.plan_method.proofs.Walk.{Sought, seek-is, AtPlain, AtChild, Boundary, stop-bound, after-child, after-plain}
 use Rattle.plan_method.proofs.Walk.{child-bound, plain-bound}
-use Rattle.argue_claims.specs.Arguments.{Step, Claim, Known, Fact, Count, st, every, knownAt, factOut, knownOut, isOut}
+use Rattle.argue_claims.specs.Arguments.{Claim, Known, Fact, Count, st, knownAt, factOut, knownOut, isOut}
 use Rattle.argue_claims.specs.Arguments.{inSet, isSet, isLed, leads, isLeft, step, run}
+use Rattle.argue_claims.proofs.Lots.{every-by}
+use Rattle.argue_claims.proofs.Listed.{run-joined}
 use Rattle.argue_key.specs.Laps.{eventPlain, eventAt, eventChild, event, trace}
-
-pub every-by : (f : ℕ → Bool) (m : ℕ) → ((g : ℕ) → 0 < g → g ≤ m → f g ≡ true) → every f m ≡ true
-every-by f zero h = refl
-every-by f (suc m) h =
-    and-intro (h (suc m) (omega arith) (omega arith)) (every-by f m (λ g p q. h g p (omega (arith, q))))
-
-pub run-more : (n : Nest) (key : List ℕ) (k : Claim) (ks : List Known) (a b : List Step) (x : Count) →
-    run n key k ks (a ++ b) x ≡ run n key k ks b (run n key k ks a x)
-run-more n key k ks [] b x = refl
-run-more n key k ks (s ∷ a) b x = run-more n key k ks a b (step n key k ks s x)
 
 module _ (n : Nest) (key : List ℕ) (d : ℕ) (ks : List Known) where
   -- more facts, more is out
@@ -469,7 +461,7 @@ module _
           rw y at i
       go false z r =
           let m = step-traced p s x (ltb-false p d z) b i in
-          rw (run-more n key k ks (event B T need set lead p (s .f))
+          rw (run-joined n key k ks (event B T need set lead p (s .f))
           (trace B T need set lead d j (next B p) (P.step B T need p s)) x)
           (r (next B p) (P.step B T need p s) (run n key k ks (event B T need set lead p (s .f)) x)
           (omega (arith, m .1)) (m .0) (m .2))
