@@ -3,7 +3,7 @@ import re
 from collections.abc import Callable
 from typing import TypeVar
 
-from office.command import REFUSED, Fault, printable, read_in
+from office.command import REFUSED, Fault, printable, read_in, tell
 from office.frames import DO, placement_text
 from office.library import Desk
 from office.refusal import Refused
@@ -13,6 +13,7 @@ Given = TypeVar('Given')
 TURNS, TURNS_HELP = 16, 'the turns of the loops in the order of their DOs, with commas between, or one number for all'
 GAPS_HELP = "gaps in decimal with commas between, '' for none, or a file with a placement text"
 PAPER_HELP = 'a file with a nest text; - for standard input'
+BLANK_HELP = 'lets an empty text be the paper, which is the blank one'
 
 
 def refused(file: str, refusal: Refused, text: bytes) -> Fault:
@@ -21,9 +22,38 @@ def refused(file: str, refusal: Refused, text: bytes) -> Fault:
     return Fault('\n'.join([f'{printable(file)}: {where}', *rules]), REFUSED)
 
 
-def loaded(file: str) -> tuple[Desk, bytes]:
+def is_paper(text: bytes) -> bool:
+    """Whether the desk accepts a text as a paper."""
+    try:
+        Desk().load(text)
+    except Refused:
+        return False
+    return True
+
+
+def is_placement(text: bytes, desk: Desk) -> bool:
+    """Whether the desk reads a text as a placement on its paper."""
+    try:
+        desk.candidate_slip(text)
+    except Refused:
+        return False
+    return True
+
+
+def paper_text(file: str, blank: bool = True) -> bytes:
+    """The text of a paper. An empty one is what a command that failed may have left: it is never taken silently, and
+    where answers are to be marked by it, only if that is asked for."""
+    text = read_in(file)
+    if not text and not blank:
+        raise Fault(f'{printable(file)} is empty, which is the blank paper: --blank says that it is meant')
+    if not text:
+        tell('desk', f'{printable(file)} is empty: it is taken as the blank paper')
+    return text
+
+
+def loaded(file: str, blank: bool = True) -> tuple[Desk, bytes]:
     """A desk with the paper of a file, and the text."""
-    text, desk = read_in(file), Desk()
+    text, desk = paper_text(file, blank), Desk()
     try:
         desk.load(text)
     except Refused as refusal:
@@ -31,9 +61,9 @@ def loaded(file: str) -> tuple[Desk, bytes]:
     return desk, text
 
 
-def planned(file: str) -> tuple[Desk, bytes]:
+def planned(file: str, blank: bool = True) -> tuple[Desk, bytes]:
     """A desk with the paper of a file and its key, and the text."""
-    desk, text = loaded(file)
+    desk, text = loaded(file, blank)
     try:
         desk.plan()
     except Refused as refusal:

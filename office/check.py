@@ -1,9 +1,10 @@
 """./desk check: whether a paper is accepted, and what is wrong with it in words."""
 import argparse
 
-from office.asked import PAPER_HELP, loaded, refused
-from office.command import write_out
+from office.asked import PAPER_HELP, refused
+from office.command import read_in, write_out
 from office.frames import DO
+from office.library import Desk
 from office.paper import paper_on
 from office.refusal import Refused
 from office.words import counted
@@ -17,7 +18,11 @@ def arguments(parser: argparse.ArgumentParser) -> None:
 
 
 def main(asked: argparse.Namespace) -> None:
-    desk, text = loaded(asked.paper)
+    text, desk = read_in(asked.paper), Desk()
+    try:
+        desk.load(text)
+    except Refused as refusal:
+        raise refused(asked.paper, refusal, text) from refusal
     paper = paper_on(desk)
     parts = [counted(len(paper.points), 'point'), counted(paper.points.count(DO), 'loop'),
              f'{max(paper.depth[d] for d in paper.end) + 1} deep', counted(len(paper.dependences), 'dependence')]

@@ -3,17 +3,19 @@ import argparse
 import pathlib
 
 from office.asked import GAPS_HELP, PAPER_HELP, loaded, placement_asked, planned
-from office.command import Parser, printable, write_out
+from office.command import Parser, printable, write_out, write_over
 from office.library import Desk
 from office.paper import paper_on, placed
 from office.picture import Picture
+from office.result import OUT_HELP
 from office.version import Told
 
 HELP = 'draws a paper as SVG, with the barriers of its key or with those that are named'
-MORE = """  ./desk draw paper.hex > paper.svg               the barriers of the key
-  ./desk draw paper.hex 5,11 > paper.svg          these gaps, in decimal; '' for none
-  ./desk draw paper.hex answer.hex > paper.svg    the gaps of a placement text, lines 21 and a gap
+MORE = """  ./desk draw paper.hex -o paper.svg               the barriers of the key
+  ./desk draw paper.hex 5,11 -o paper.svg          these gaps, in decimal; '' for none
+  ./desk draw paper.hex answer.hex -o paper.svg    the gaps of a placement text, lines 21 and a gap
 """
+BEGINS = b'<svg '
 
 
 def picture(desk: Desk, text: bytes, file: str, missing: list[int]) -> str:
@@ -25,6 +27,7 @@ def picture(desk: Desk, text: bytes, file: str, missing: list[int]) -> str:
 def arguments(parser: argparse.ArgumentParser) -> None:
     parser.add_argument('paper', metavar='PAPER', help=PAPER_HELP)
     parser.add_argument('gaps', metavar='GAPS', nargs='?', help=GAPS_HELP)
+    parser.add_argument('-o', '--output', metavar='FILE', help=OUT_HELP)
 
 
 def main(asked: argparse.Namespace) -> None:
@@ -34,7 +37,11 @@ def main(asked: argparse.Namespace) -> None:
     else:
         desk, _ = loaded(asked.paper)
         text, missing = placement_asked(asked.gaps, desk), []
-    write_out(picture(desk, text, asked.paper, missing).encode())
+    drawn = picture(desk, text, asked.paper, missing).encode()
+    if asked.output in (None, '-'):
+        write_out(drawn)
+    else:
+        write_over(asked.output, drawn, begins=BEGINS)
 
 
 def alone(given: list[str]) -> None:

@@ -1,8 +1,8 @@
 """./desk key: the key of a paper as the program writes it, or in words."""
 import argparse
 
-from office.asked import PAPER_HELP, refused
-from office.command import read_in, write_out
+from office.asked import PAPER_HELP, paper_text, refused
+from office.command import write_out
 from office.frames import COUNT, REFUSAL, text_of
 from office.library import Desk
 from office.paper import paper_on, placed
@@ -38,7 +38,7 @@ def arguments(parser: argparse.ArgumentParser) -> None:
 
 
 def main(asked: argparse.Namespace) -> None:
-    text, desk = read_in(asked.paper), Desk()
+    text, desk = paper_text(asked.paper), Desk()
     try:
         answer = answer_to(text, desk)
     except Refused as refusal:

@@ -6,7 +6,7 @@ import pathlib
 from collections import Counter
 from dataclasses import dataclass, field
 
-from office.asked import PAPER_HELP, planned
+from office.asked import BLANK_HELP, PAPER_HELP, planned
 from office.candidates import IDENTITY, IDENTITY_FORM, Candidate, candidates_in, folded
 from office.command import FAILED, REFUSED, Fault, printable, read_plain, tell, write_out
 from office.keeping import EVERY, Answer, Marker, PaperText, finding_of, keep, marker, telling
@@ -170,14 +170,13 @@ def arguments(parser: argparse.ArgumentParser) -> None:
     parser.add_argument('--candidates', metavar='FILE',
                         help='who should have an answer: a list, or CSV with id and name; the others are Absent')
     parser.add_argument('--slips', metavar='DIR', help='writes both slips of each answer, each reader\'s in a folder')
+    parser.add_argument('--blank', action='store_true', help=BLANK_HELP)
 
 
 def main(asked: argparse.Namespace) -> None:
     listed = None if asked.candidates is None else listed_in(asked.candidates, paper_name(asked.paper))
     files, wrong = files_of(asked.answers, listed)
-    desk, text = planned(asked.paper)
-    if not text:
-        tell('desk', f'{printable(asked.paper)} is empty: it is taken as the blank paper')
+    desk, text = planned(asked.paper, asked.blank)
     paper = PaperText(sha256_of(text), paper_name(asked.paper), text)
     slips = None if asked.slips is None else Slips(asked.slips)
     if slips is not None:

@@ -4,7 +4,7 @@ import os
 import pathlib
 import signal
 
-from office.asked import PAPER_HELP, loaded
+from office.asked import BLANK_HELP, PAPER_HELP, loaded
 from office.board import Board
 from office.called import Called, called_by, is_everywhere, is_here, name_of
 from office.candidates import candidates_in
@@ -43,6 +43,7 @@ def arguments(parser: argparse.ArgumentParser) -> None:
     parser.add_argument('--key', metavar='FILE', help="the certificate's key, in PEM")
     parser.add_argument('--address', metavar='URL', help='what candidates call, where that is something in front of '
                         'the hall: https://hall.example')
+    parser.add_argument('--blank', action='store_true', help=BLANK_HELP)
 
 
 def hold_standard_files() -> None:
@@ -92,7 +93,7 @@ def main(asked: argparse.Namespace) -> None:
     hold_standard_files()
     look_at(asked)
     os.umask(0o077)  # what is kept is nobody else's to read
-    desk, text = loaded(asked.paper)
+    desk, text = loaded(asked.paper, asked.blank)
     paper, name = paper_on(desk), printable(pathlib.Path(asked.paper).stem)
     candidates = candidates_in(asked.candidates, [name])
     tls = tls_with(asked.certificate, asked.key) if asked.certificate else None

@@ -7,10 +7,12 @@ import argparse
 import re
 from dataclasses import dataclass, field
 
-from office.command import REFUSED, Fault, printable, read_in, write_out
+from office.asked import is_paper
+from office.command import REFUSED, Fault, printable, read_in
 from office.frames import BARRED, CARRIED, DO, ENDDO, FLAGGED, INDEPENDENT, STATEMENT, text_of
 from office.library import Desk
 from office.refusal import Refused
+from office.result import hand_over, result_arguments
 from office.typed import Line
 from office.words import RULES
 
@@ -22,6 +24,8 @@ MORE = """a listing, a line each:
   A -> B round LOOP          a dependence that the loop carries
   barred | LINE              bars the gap just before a line; numbers before the bar are not read
   # ...                      a remark
+
+  ./desk spell nest.txt -o paper.hex
 """
 NAME = '[A-Za-z_][A-Za-z_0-9]*'
 END = rf'(?:(DO|ENDDO)\s+)?({NAME})'
@@ -134,7 +138,8 @@ def spelled(text: bytes, file: str) -> bytes:
 
 def arguments(parser: argparse.ArgumentParser) -> None:
     parser.add_argument('listing', metavar='LISTING', help='a file with a listing; - for standard input')
+    result_arguments(parser, 'another paper')
 
 
 def main(asked: argparse.Namespace) -> None:
-    write_out(spelled(read_in(asked.listing), asked.listing))
+    hand_over(asked, spelled(read_in(asked.listing), asked.listing), 'paper', is_paper)

@@ -1,10 +1,11 @@
 """./desk textbook: the placement of the textbook method for a paper of one loop."""
 import argparse
 
-from office.asked import PAPER_HELP, loaded, refused
-from office.command import write_out
+from office.asked import PAPER_HELP, is_placement, loaded, refused
+from office.command import Fault, write_out
 from office.frames import placement_text
 from office.refusal import Refused
+from office.result import hand_over, result_arguments
 from office.words import gaps_named
 
 HELP = 'writes the placement that the textbook method gives for a paper of one loop'
@@ -14,12 +15,18 @@ MORE = 'The result is a placement text, which ./desk mark takes. It has as many 
 def arguments(parser: argparse.ArgumentParser) -> None:
     parser.add_argument('paper', metavar='PAPER', help=PAPER_HELP)
     parser.add_argument('--words', action='store_true', help='in words: gaps in decimal')
+    result_arguments(parser, 'another placement text')
 
 
 def main(asked: argparse.Namespace) -> None:
+    if asked.words and asked.output is not None:
+        raise Fault('-o writes the placement text: --words has no place beside it')
     desk, text = loaded(asked.paper)
     try:
         gaps = desk.textbook()
     except Refused as refusal:
         raise refused(asked.paper, refusal, text) from refusal
-    write_out(f'textbook: {gaps_named(gaps)}\n'.encode() if asked.words else placement_text(gaps))
+    if asked.words:
+        write_out(f'textbook: {gaps_named(gaps)}\n'.encode())
+    else:
+        hand_over(asked, placement_text(gaps), 'placement text', lambda there: is_placement(there, desk))

@@ -52,6 +52,7 @@ def parts(scripts: int = SCRIPTS, programs: int = PROGRAMS) -> dict[str, Part]:
         'pictures': module('./draw', 'tests.pictures'),
         'telling': module('./desk: what it tells', 'tests.telling'),
         'calling': module('./desk: the calls of the change requests', 'tests.calling'),
+        'mistakes': module('./desk: what people get wrong, and what they are told', 'tests.mistakes'),
         'workday': module('./desk: a day in the office', 'tests.workday'),
         'trouble': module('./desk: what can go wrong', 'tests.trouble'),
         'book': module('./desk: the register', 'tests.book'),

@@ -60,8 +60,6 @@ def faults(tally: Tally, folder: pathlib.Path) -> None:
     tally.check('input closed', seen.failed('cannot read -: Bad file descriptor'), seen)
     seen = run(DESK, 'mark', bad, answer, '--register', register)
     tally.check('a refused paper', 'number 4' in seen.err and (seen.out, seen.status) == (b'', 1), seen)
-    seen = run(DESK, 'mark', '/dev/null', answer)
-    tally.check('an empty paper', 'is taken as the blank paper' in seen.err, seen)
     tally.check('nothing changed', register.read_bytes() == old)
     tally.check('nothing is left', not [*folder.glob('**/*.new')], [*folder.glob('**/*.new')])
 
