@@ -6,12 +6,11 @@ from http import HTTPStatus
 
 from office.board import Board
 from office.called import Called
-from office.command import ROOT
+from office.colours import COLOURS, SERVED
 from office.messages import Reply
 from office.paper import Paper
 from office.show import listing_of
 
-SERVED = ROOT / 'office' / 'served'
 HTML, CSS, SCRIPT = 'text/html; charset=utf-8', 'text/css; charset=utf-8', 'text/javascript; charset=utf-8'
 BACK, UNREAD = 'To the sitting', 'The desk could not make sense of what the browser sent. Nothing was changed.'
 REFUSED = {
@@ -41,7 +40,7 @@ class Pages:
             paper=html.escape(name + PRACTICE * board.practice).replace('$', '$$'), board=board.svg(),
             dependences=board.told(), signs=html.escape(' '.join(board.signs())),
             listing=html.escape(listing_of(paper))))
-        self.css = (board.style() + (SERVED / 'hall.css').read_text()).encode()
+        self.css = (COLOURS + board.style() + (SERVED / 'hall.css').read_text()).encode()
         self.script = (SERVED / 'sitting.js').read_bytes()
 
     def of_sitting(self, candidate: str, token: str) -> Reply:

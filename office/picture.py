@@ -7,6 +7,7 @@ and the box of a loop that may not run is dashed.
 import html
 import textwrap
 
+from office.colours import SERVED, in_light
 from office.frames import ENDDO, STATEMENT
 from office.lanes import packed
 from office.paper import Dependence, Paper, Placed
@@ -15,42 +16,12 @@ from office.words import ranges
 ROW, INDENT, MARGIN, LABEL, LEFT = 44, 30, 10, 172, 52
 NARROWEST, CAPTION, TITLE = 560, 460, 1000
 UNCUT = ' u'
-INK, PALE, BLUE, BROWN, RED = '#17202a', '#5b6875', '#00619a', '#a34700', '#b3001e'
-SHADES = ['#f3f6f9', '#e4ebf2', '#d5e0ea', '#c6d5e3', '#b8cadb', '#a9bfd4', '#9bb4cc', '#8da9c5']
 GAP_SIGN = 'Small numbers are gaps, in the column of the loop they belong to.'
 BAR_SIGN = 'A black bar is a barrier; a dot marks each dependence that it cuts. A hollow number: uncut.'
 TURN_SIGN = 'A dashed line goes round to the next turn of the loop.'
 BARRED_SIGN = 'A red band of strokes is a barred gap: no barrier may stand there.'
 FLAGGED_SIGN = 'A dashed box is a loop that may not run.'
-STYLE = f'''
-text {{ font-size: 13px; fill: {INK} }}
-.title {{ font-size: 15px; font-weight: bold }}
-.word {{ font-size: 12px }}
-.pale {{ font-size: 11px; fill: {PALE} }}
-.end {{ text-anchor: end }}
-.middle {{ text-anchor: middle }}
-.bold {{ font-weight: bold }}
-.box {{ stroke: {PALE} }}
-.gap {{ stroke: {PALE}; stroke-dasharray: 1 5 }}
-.bar {{ stroke: {INK}; stroke-width: 5 }}
-.on {{ stroke: {INK}; stroke-dasharray: 2 4 }}
-.dots {{ fill: none; stroke: {INK}; stroke-width: 9; stroke-linecap: round }}
-.white {{ fill: white }}
-.i {{ fill: {BLUE}; stroke: {BLUE} }}
-.c {{ fill: {BROWN}; stroke: {BROWN} }}
-.l {{ fill: none; stroke-width: 2 }}
-.r {{ fill: none; stroke-width: 1.5; stroke-dasharray: 4 3 }}
-.h {{ stroke: none }}
-.b {{ stroke-width: 1.5 }}
-.n {{ fill: white; stroke: none; font-weight: bold; text-anchor: middle }}
-.u .b {{ fill: white }}
-.u .n {{ fill: inherit }}
-'''
-BARRED_STYLE = f'''.barred {{ stroke: {RED}; stroke-width: 8; stroke-dasharray: 3 5 }}
-.red {{ fill: {RED} }}
-'''
-FLAGGED_STYLE = '''.flagged { stroke-width: 2; stroke-dasharray: 7 5 }
-'''
+STYLE = (SERVED / 'drawing.css').read_text().partition('\n')[2]
 
 
 def rows_of(paper: Paper, x: Dependence) -> tuple[int, int]:
@@ -114,9 +85,9 @@ class Picture:
     def loops(self) -> None:
         for d in sorted(self.paper.end):
             left, right = self.edges(d)
-            kind = 'box flagged' if d in self.paper.flagged else 'box'
+            kind = f'box d{self.paper.depth[d] + 1}{" flagged" * (d in self.paper.flagged)}'
             self.add('rect', cls=kind, x=left, y=self.y(d) - 15, width=right - left,
-                     height=ROW * (self.paper.end[d] - d) + 30, rx=6, fill=SHADES[min(self.paper.depth[d], 7)])
+                     height=ROW * (self.paper.end[d] - d) + 30, rx=6)
             self.count(d, right - 8)
 
     def count(self, d: int, x: float) -> None:
@@ -152,7 +123,7 @@ class Picture:
         left, right = self.edges(self.paper.owner[gap])
         y, is_barred = self.gap_y(gap), gap in self.paper.barred
         self.add('path', cls='barred' if is_barred else 'gap', d=f'M{left + INDENT:g} {y:g}H{right - 8:g}')
-        self.label(left + INDENT / 2, y, gap, 'word middle bold red' if is_barred else 'pale middle', 11)
+        self.label(left + INDENT / 2, y, gap, 'number bold red' if is_barred else 'number', 11)
 
     def barrier(self, gap: int) -> None:
         left, right = self.edges(self.paper.owner[gap])
@@ -160,7 +131,7 @@ class Picture:
         cut = self.cut_at(gap)
         self.add('path', cls='on', d=f'M{right:g} {y:g}H{max(cut, default=right):g}')
         self.add('path', cls='bar', d=f'M{left + 4:g} {y:g}H{right - 4:g}')
-        self.add('rect', x=middle - 14, y=y - 9, width=28, height=18, rx=9, fill=INK)
+        self.add('rect', x=middle - 14, y=y - 9, width=28, height=18, rx=9, cls='plate')
         self.label(middle, y, gap, 'word middle bold white', 12)
         if cut:
             self.dots(cut, y)
@@ -265,8 +236,7 @@ class Picture:
             self.badges(number, [(self.x(number), self.level(number, 1)), (self.x(number, 0), self.level(number, 2))])
 
     def style(self) -> str:
-        style = STYLE + BARRED_STYLE * bool(self.paper.barred) + FLAGGED_STYLE * bool(self.paper.flagged)
-        return f'{style}.dots {{ stroke-dasharray: .1 {self.step - 0.1:g} }}\n.n {{ font-size: {self.digits}px }}\n'
+        return f'{STYLE}.dots {{ stroke-dasharray: .1 {self.step - 0.1:g} }}\n.n {{ font-size: {self.digits}px }}\n'
 
     def svg(self) -> str:
         self.top = self.wrapped(LEFT - 32, 18, self.title, min(self.width - 40, TITLE), 'title', 15) + 45
@@ -275,5 +245,5 @@ class Picture:
         size = f'width="{self.width:g}" height="{height:g}" viewBox="0 0 {self.width:g} {height:g}"'
         return '\n'.join([f'<svg xmlns="http://www.w3.org/2000/svg" {size} role="img" '
                           'font-family="Helvetica, Arial, sans-serif">', f'<title>{html.escape(self.title)}</title>',
-                          f'<style>{self.style()}</style>',
+                          f'<style>\n{in_light(self.style())}</style>',
                           '<rect width="100%" height="100%" fill="white"/>', *self.out, '</svg>', ''])

@@ -19,7 +19,7 @@ return {
     empty: places.filter((place) => drawn(place, '.gap, .barred')).map(number),
     pressed: all('button[data-gap][aria-pressed="true"]').map(number),
     hollow: all('g[data-cut]').filter((place) => getComputedStyle(place.querySelector('circle.b')).fill ===
-        'rgb(255, 255, 255)').map(number),
+        getComputedStyle(document.body).backgroundColor).map(number),
     dots: places.some((place) => drawn(place, '.dots')),
     words: all('li[data-cut] span').map((words) => words.textContent),
     counts: all('[data-count]').map((place) => [number(place), place.textContent.trim()]),

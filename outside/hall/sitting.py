@@ -21,6 +21,7 @@ from outside.hall.encrypted import by_itself, in_front
 from outside.hall.entering import entering
 from outside.hall.opened import Candidate, Hall, until_there
 from outside.hall.pages import GAP, SHOWN, Page, complaints
+from outside.hall.readers import readers
 from outside.hall.windows import windows
 from outside.measure import papers
 from outside.trying import DESK, EXAMPLES, ROOT, Tally, run
@@ -157,7 +158,8 @@ def away(tally: Tally, page: Page) -> None:
 
 
 def large(tally: Tally, seen: Browser, folder: pathlib.Path) -> None:
-    """A full-size paper, at 200 percent: every gap can be reached and clicked, and the page fits its window."""
+    """A full-size paper, also at 200 percent, where the whole page scrolls: every gap can be reached and clicked, and
+    the page is no wider than its window."""
     hall = Hall(folder / 'large', papers.text('mixed'), ['gross']).start()
     page = Page(tally, seen, hall, 'gross')
     for zoom in (1, 2):
@@ -174,9 +176,10 @@ def large(tally: Tally, seen: Browser, folder: pathlib.Path) -> None:
         tally.check(f'zoom {zoom}: every gap can be clicked', missed == [], missed)
         fits = seen.script("""
             const page = document.documentElement, at = document.getElementById('hand').getBoundingClientRect();
-            return [page.scrollWidth <= innerWidth, page.scrollHeight <= innerHeight, at.right <= innerWidth,
-                document.querySelector('main').clientHeight > innerHeight / 2];""")
-        tally.check(f'zoom {zoom}: the page fits its window', all(fits), fits)
+            const main = document.querySelector('main');
+            return [page.scrollWidth <= innerWidth, at.right <= innerWidth, page.scrollHeight <= innerHeight &&
+                main.clientHeight > innerHeight / 2];""")
+        tally.check(f'zoom {zoom}: the page fits its window', fits == [True, True, zoom == 1], fits)
         for gap in (1, 128, 255, 128):
             page.turn(gap)
     hall.end()
@@ -264,7 +267,7 @@ def main() -> None:
         two(tally, seen, folder)
         barred(tally, seen[0], folder)
         large(tally, seen[0], folder)
-        for part in (windows, entering):
+        for part in (windows, entering, readers):
             part(tally, Browser(driver), folder)
         by_itself(tally, driver, folder)
         in_front(tally, driver, folder)

@@ -6,6 +6,7 @@ import re
 import tempfile
 import xml.etree.ElementTree as tree
 
+from office.colours import DARK, LIGHT, SERVED
 from office.lanes import packed
 from outside.measure import papers
 from outside.trying import DRAW, EXAMPLES, KEY, ROOT, VERSION, Seen, Tally, run
@@ -13,6 +14,8 @@ from outside.trying import DRAW, EXAMPLES, KEY, ROOT, VERSION, Seen, Tally, run
 MEGABYTE = 1_000_000
 PICTURES = {'p': ['p'], 'q-best': ['q'], 'q-dearer': ['q', '4,7'], 'r': ['r'], 'foundation': ['foundation']}
 SVG = '{http://www.w3.org/2000/svg}'
+# How much of the page the block of a loop covers, behind its lanes.
+BLOCK = 0.6
 
 
 def texts_of(seen: Seen) -> list[tree.Element]:
@@ -70,7 +73,8 @@ def barred(tally: Tally, folder: pathlib.Path) -> None:
     told = 'carried by loop 0, 4 to 1: gaps 1 and 5 to 6; barred 1; cut by 6'
     tally.check('a caption', told in words and 'barred 1 to 2, 4; UNCUT' in ' '.join(words), words)
     seen = run(DRAW, ROOT / 'examples' / 'r.hex')
-    tally.check('no band', b'barred' not in seen.out and seen.status == 0, seen)
+    bars = b'class="barred"' in seen.out or 'barred' in ' '.join(words_of(texts_of(seen)))
+    tally.check('no band', not bars and seen.status == 0, seen)
     blocked, answer = folder / 'blocked.hex', folder / 'answer.hex'
     blocked.write_bytes(b'01\n03\n02\n110001\n1301\n')
     seen = run(DRAW, blocked)
@@ -106,6 +110,47 @@ def full_size(tally: Tally, folder: pathlib.Path) -> None:
     tally.check('a long title wraps', ' '.join(title).endswith('253, 255') and len(title) > 1, title)
     seen = run(DRAW, folder / 'mixed.hex', shell='"$@" | head -c 100; exit ${PIPESTATUS[1]}')
     tally.check('a reader who leaves', (len(seen.out), seen.err, seen.status) == (100, '', 0), seen)
+
+
+def light_of(colour: str) -> float:
+    """The relative luminance of a colour, as WCAG 2.2 has it."""
+    parts = [int(colour[at:at + 2], 16) / 255 for at in (1, 3, 5)]
+    red, green, blue = (part / 12.92 if part <= 0.04045 else ((part + 0.055) / 1.055) ** 2.4 for part in parts)
+    return 0.2126 * red + 0.7152 * green + 0.0722 * blue
+
+
+def contrast(first: str, second: str) -> float:
+    darker, brighter = sorted((light_of(first), light_of(second)))
+    return (brighter + 0.05) / (darker + 0.05)
+
+
+def mixed(colour: str, share: float, under: str) -> str:
+    """A colour that covers a share of what is under it."""
+    parts = (share * int(colour[at:at + 2], 16) + (1 - share) * int(under[at:at + 2], 16) for at in (1, 3, 5))
+    return '#' + ''.join(f'{round(part):02x}' for part in parts)
+
+
+def contrasts(tally: Tally) -> None:
+    """Words stand out by 4.5 and lines by 3 from what they stand on, at every depth, in light and dark colours."""
+    known = contrast('#ffffff', '#000000'), contrast('#5b6875', '#8da9c5')
+    tally.check('contrast is worked out as WCAG does', [round(told, 2) for told in known] == [21, 2.34], known)
+    for name, has in (('light', LIGHT), ('dark', DARK)):
+        shades = [has[f'd{depth}'] for depth in range(1, 9)]
+        blocks = [mixed(shade, BLOCK, has['page']) for shade in shades]
+        red = [has['page'], has['d1']]  # barred gaps stand in papers of one loop
+        for word, under in (('ink', [has['page'], has['panel'], has['lit'], *shades]), ('red', red),
+                            ('pale', [has['page'], has['panel']]), ('blue', [has['page'], has['panel']]),
+                            ('page', [has[over] for over in ('ink', 'blue', 'brown')])):
+            worst = min(contrast(has[word], colour) for colour in under)
+            tally.check(f'{name}: words in {word}', worst >= 4.5, worst)
+        for line, under in (('line', [has['page'], *shades]), ('blue', [has['lit'], *blocks]),
+                            ('brown', [has['lit'], *blocks]), ('soft-blue', [has['page'], *blocks]),
+                            ('soft-brown', [has['page'], *blocks]), ('red', [has['lit']])):
+            worst = min(contrast(has[line], colour) for colour in under)
+            tally.check(f'{name}: lines in {line}', worst >= 3, worst)
+    for sheet in ('drawing.css', 'hall.css'):
+        plain = re.findall('#[0-9a-fA-F]{3,8}\\b(?=[; }])', (SERVED / sheet).read_text())
+        tally.check(f'{sheet} has its colours by name', not plain, plain)
 
 
 def lanes(tally: Tally) -> None:
@@ -157,6 +202,7 @@ def main() -> None:
         barred(tally, folder)
         full_size(tally, folder)
         lanes(tally)
+        contrasts(tally)
         faults(tally, folder)
     tally.close()
 

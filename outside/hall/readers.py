@@ -1,0 +1,129 @@
+"""The page for every reader: contrast of all words as the browser paints them, colours that a reader has chosen, and
+a strong zoom."""
+import pathlib
+
+from outside.hall.browser import Browser
+from outside.hall.opened import Hall
+from outside.hall.pages import GAP, Page
+from outside.measure import papers
+from outside.trying import EXAMPLES, ROOT, Tally
+
+# All words that are seen, with the contrast to what is painted under their middle. Nothing may be hidden from the look.
+WORDS = r"""
+document.styleSheets[0].insertRule('* { pointer-events: auto !important }');
+const told = (text) => {
+    const [r, g, b, a = 1] = text.match(/[\d.]+/g).map(Number);
+    return text.startsWith('color(srgb') ? [r * 255, g * 255, b * 255, a] : [r, g, b, a];
+};
+const painted = (piece) => {
+    const style = getComputedStyle(piece);
+    const shape = piece instanceof SVGGeometryElement;
+    const paint = shape ? style.fill : style.backgroundColor;
+    if (piece instanceof SVGElement && !shape && !(piece instanceof SVGSVGElement) || paint === 'none') {
+        return [0, 0, 0, 0];
+    }
+    const [r, g, b, a] = told(paint);
+    return [r, g, b, a * style.opacity];
+};
+const light = (colour) => {
+    const [r, g, b] = colour.slice(0, 3).map((part) => part / 255).map(
+        (part) => part <= 0.04045 ? part / 12.92 : ((part + 0.055) / 1.055) ** 2.4);
+    return 0.2126 * r + 0.7152 * g + 0.0722 * b;
+};
+const over = (top, under) => top.slice(0, 3).map((part, k) => part * top[3] + under[k] * (1 - top[3]));
+const found = [];
+for (const piece of document.querySelectorAll('body *')) {
+    const words = [...piece.childNodes].filter((node) => node.nodeType === 3).map((node) => node.data).join('').trim();
+    if (!words || !piece.getClientRects().length || piece.closest('script, noscript, dialog:not([open])')) {
+        continue;
+    }
+    piece.scrollIntoView({ block: 'center', inline: 'center' });
+    const box = piece.getClientRects()[0];
+    const stack = document.elementsFromPoint(box.left + box.width / 2, box.top + box.height / 2);
+    let under = told(getComputedStyle(document.body).backgroundColor);
+    for (const layer of stack.filter((layer) => !piece.contains(layer) || layer === piece).reverse()) {
+        under = over(layer === piece && piece instanceof SVGElement ? [0, 0, 0, 0] : painted(layer), under);
+    }
+    const style = getComputedStyle(piece);
+    const ink = over(told(piece instanceof SVGElement ? style.fill : style.color), under);
+    const [a, b] = [light(ink), light(under)].sort((x, y) => y - x);
+    const name = piece.closest('[class]')?.getAttribute('class') ?? '';
+    found.push([Math.round(100 * (a + 0.05) / (b + 0.05)) / 100, piece.tagName, name, words.slice(0, 40)]);
+}
+return found;
+"""
+SEEN = """
+const main = document.querySelector('main'), page = document.documentElement;
+scrollTo(0, 0);
+const top = document.querySelector('.board').getBoundingClientRect().top + scrollY;
+scrollTo(0, top);
+const rows = [...document.querySelectorAll('button[data-gap]')].filter((button) => {
+    const at = button.getBoundingClientRect();
+    return at.top >= 0 && at.bottom <= innerHeight && document.elementFromPoint(
+        at.left + 20, at.top + at.height / 2) === button;
+});
+return { wide: page.scrollWidth <= innerWidth, rows: rows.length };
+"""
+
+
+def media(seen: Browser, **features: str) -> None:
+    """Has the browser prefer something."""
+    seen.ask('/goog/cdp/execute', cmd='Emulation.setEmulatedMedia', params={'features': [
+        {'name': name.replace('_', '-'), 'value': value} for name, value in features.items()]})
+
+
+def words(tally: Tally, page: Page, name: str) -> None:
+    """All words of a page stand out by 4.5 at least."""
+    seen = page.browser
+    for colours in ('light', 'dark'):
+        media(seen, prefers_color_scheme=colours)
+        seen.open(page.hall.address)
+        page.shows(f'{name} {colours}')
+        found = seen.script(WORDS)
+        low = [told for told in found if told[0] < 4.5]
+        tally.check(f'{name}, {colours}: contrast of words', len(found) > 30 and not low, (len(found), low))
+
+
+def chosen(tally: Tally, page: Page) -> None:
+    """In colours that a reader has chosen, all that is drawn has one of them, and the kinds differ by their strokes."""
+    seen = page.browser
+    for colours in ('light', 'dark'):
+        media(seen, forced_colors='active', prefers_color_scheme=colours)
+        seen.open(page.hall.address)
+        page.shows(f'chosen colours, {colours}')
+        found = seen.script(WORDS)
+        low = [told for told in found if told[0] < 4.5]
+        tally.check(f'chosen colours, {colours}', len(found) > 30 and not low, low)
+        strokes = seen.script("""return ['.i .l', '.c .l'].map((kind) => getComputedStyle(
+            document.querySelector(`svg ${kind}`)).strokeDasharray);""")
+        tally.check(f'kinds in chosen colours, {colours}', strokes[0] == 'none' != strokes[1], strokes)
+    media(seen)
+
+
+def near(tally: Tally, page: Page) -> None:
+    """At 400 percent, 320 by 256 points, the paper has the window to itself, and nothing scrolls two ways but it."""
+    seen = page.browser
+    seen.screen(1280, 1024, 4)
+    seen.open(page.hall.address)
+    page.shows('at 400 percent')
+    found = seen.script(SEEN)
+    tally.check('at 400 percent', found['wide'] and found['rows'] >= 4, found)
+    page.turn(5)
+    page.turn(5)
+    seen.screen(1280, 800, 1)
+
+
+def readers(tally: Tally, seen: Browser, folder: pathlib.Path) -> None:
+    for name, paper in (('p', EXAMPLES['p']), ('deep', papers.text('deep', 30)),
+                        ('barred', (ROOT / 'examples' / 'foundation.hex').read_bytes())):
+        hall = Hall(folder / f'readers {name}', paper, ['anna'], more=['--practice']).start()
+        page = Page(tally, seen, hall, 'anna')
+        page.enter()
+        page.shows('nothing put')
+        page.turn(3)
+        words(tally, page, name)
+        if name == 'p':
+            chosen(tally, page)
+            near(tally, page)
+        media(seen)
+        hall.end()
