@@ -3,11 +3,10 @@ import ctypes
 import re
 from typing import TypeAlias
 
-from office.command import ROOT
+from office.places import HEADER
 
 # Any type of C. The name that ctypes has for it is there for hints alone.
 Type: TypeAlias = 'type[ctypes._CData]'
-HEADER = ROOT / 'crates' / 'host' / 'desk.h'
 PLAIN: dict[str, Type] = {
     'bool': ctypes.c_bool, 'size_t': ctypes.c_size_t, 'uint8_t': ctypes.c_uint8, 'uint16_t': ctypes.c_uint16,
     'uint32_t': ctypes.c_uint32, 'uint64_t': ctypes.c_uint64}

@@ -1,23 +1,19 @@
-"""The proved library: built where it is missing or older than its sources, and a desk with its calls.
+"""The proved library, and a desk with its calls. In a clone it is built where it is not of the sources that are there.
 
 Nothing is worked out here. A call takes bytes and numbers and gives what the library replied.
 """
 import ctypes
 import functools
-import os
-import pathlib
-import shutil
-import subprocess
 import sys
-from collections.abc import Callable, Iterable, Iterator
+from collections.abc import Callable
 from dataclasses import dataclass
 
-from office.command import ROOT, Fault
+from office.command import Fault
 from office.frames import DO
 from office.header import DECLARED
+from office.places import CLONE, SHARED
 from office.refusal import Refusal, Refused
 
-ARCHIVE, SHARED = ROOT / 'target' / 'staticlib' / 'libhost.a', ROOT / 'target' / 'libdesk.so'
 TEXT, SLIP = DECLARED.numbers['DESK_TEXT'], DECLARED.numbers['DESK_SLIP']
 UNCUT, DEARER, BEST = (DECLARED.numbers[f'DESK_{verdict}'] for verdict in ('UNCUT', 'DEARER', 'BEST'))
 
@@ -214,44 +210,14 @@ def members(chosen: ctypes.Structure) -> list[int]:
 @functools.cache
 def library() -> ctypes.CDLL:
     """The library with what desk.h declares of each function."""
-    build()
-    found = ctypes.CDLL(str(SHARED))
+    if CLONE:
+        from office.built import build_library
+        build_library()
+    try:
+        found = ctypes.CDLL(str(SHARED))
+    except OSError as fault:
+        raise Fault(f'the library cannot be loaded: {fault}; it is for Linux on x86-64') from fault
     for name, (gives, takes) in DECLARED.functions.items():
         function = getattr(found, name)
         function.restype, function.argtypes = gives, takes
     return found
-
-
-def build() -> None:
-    """Proves and builds the archive unless no source is newer, and links it unless that was done since."""
-    state = 'not built yet' if not ARCHIVE.exists() else 'older than its sources'
-    if not ARCHIVE.exists() or any(newer(sources(), ARCHIVE)):
-        if not shutil.which('rt'):
-            raise Fault(f'the library is {state}, and there is no rt to build it with')
-        print(f'desk: the library is {state}: it is being built, which takes minutes the first time', file=sys.stderr)
-        done('rt', 'staticlib', 'host')
-        os.utime(ARCHIVE)
-    if not SHARED.exists() or any(newer([ARCHIVE], SHARED)):
-        if not shutil.which('gcc'):
-            raise Fault('the library is not linked yet, and there is no gcc to link it with')
-        beside = f'{SHARED}.{os.getpid()}'
-        done('gcc', '-shared', '-o', beside, '-Wl,--whole-archive', str(ARCHIVE), '-Wl,--no-whole-archive')
-        os.replace(beside, SHARED)
-
-
-def sources() -> Iterator[pathlib.Path]:
-    yield ROOT / 'crates.txt'
-    for folder, _, files in os.walk(ROOT / 'crates'):
-        yield from (pathlib.Path(folder, file) for file in files)
-
-
-def newer(files: Iterable[pathlib.Path], than: pathlib.Path) -> Iterator[pathlib.Path]:
-    made = than.stat().st_mtime
-    return (file for file in files if file.stat().st_mtime > made)
-
-
-def done(*command: str) -> None:
-    """Runs a step of the build; what it says goes to standard error."""
-    step = subprocess.run(command, cwd=ROOT, stdin=subprocess.DEVNULL, stdout=sys.stderr.fileno(), check=False)
-    if step.returncode != 0:
-        raise Fault(f'the library could not be built: {" ".join(command[:3])} failed')

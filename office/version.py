@@ -10,7 +10,7 @@ from collections.abc import Sequence
 from typing import Any
 
 from office.command import ROOT, Fault, write_out
-from office.library import SHARED
+from office.places import SHARED
 
 VERSION, COMMIT = ROOT / 'VERSION', ROOT / 'COMMIT'
 UNKNOWN, SHORT = 'unknown', 12

@@ -13,6 +13,8 @@ import subprocess
 import sys
 from dataclasses import dataclass
 
+from office import built as building
+from office.command import Fault
 from outside.trying import PROGRAM, ROOT
 
 JUDGE, ARCHIVE = ROOT / 'target' / 'judge', ROOT / 'target' / 'staticlib' / 'libhost.a'
@@ -86,15 +88,18 @@ def counted(name: str, part: Part) -> tuple[int, int]:
 
 def build() -> bool:
     """The program, the archive and the judge that links it; what is up to date is left."""
-    link = ['-L', str(ARCHIVE.parent), '-l', 'static=host', '-o', str(JUDGE)]
-    for command in (['rt', 'check', 'key'], ['rt', 'staticlib', 'host'],
-                    ['rustc', '-O', '--edition', '2021', 'outside/judge/main.rs', *link]):
-        made = subprocess.run(command, cwd=ROOT, capture_output=True, text=True, check=False)
-        if made.returncode:
-            print(f'{" ".join(command[:3])} failed\n{made.stdout}{made.stderr}')
-            return False
-    PROGRAM.touch()  # it is up to date, and ./key goes by the time
-    return True
+    judge = ['rustc', '-O', '--edition', '2021', 'outside/judge/main.rs', '-L', str(ARCHIVE.parent),
+             '-l', 'static=host', '-o', str(JUDGE)]
+    try:
+        building.build(building.KEY, 'test')
+        building.build_library('test')
+    except Fault as fault:
+        print(fault)
+        return False
+    made = subprocess.run(judge, cwd=ROOT, capture_output=True, text=True, check=False)
+    if made.returncode:
+        print(f'{" ".join(judge[:3])} failed\n{made.stdout}{made.stderr}')
+    return made.returncode == 0
 
 
 def tried(chosen: dict[str, Part]) -> bool:

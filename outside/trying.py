@@ -10,6 +10,8 @@ ROOT = pathlib.Path(__file__).resolve().parent.parent
 PROGRAM, KEY, DRAW, DESK = ROOT / 'target' / 'bin' / 'key', ROOT / 'key', ROOT / 'draw', ROOT / 'desk'
 VERSION = (ROOT / 'VERSION').read_text().strip()
 TIMEOUT, BASH = shutil.which('timeout'), shutil.which('bash')
+# A line of shell that runs a command as one who owns nothing here, where that can be chosen.
+NOBODY = 'setpriv --reuid=65534 --regid=65534 --clear-groups "$@"' if os.geteuid() == 0 else '"$@"'
 EXAMPLES = {name: (ROOT / 'examples' / f'{name}.hex').read_bytes() for name in 'pqr'}
 
 
@@ -31,6 +33,15 @@ def run(*command: object, given: bytes | None = b'', shell: str = '"$@"', **envi
     done = subprocess.run([TIMEOUT, '60', BASH, '-c', line, 'bash', *map(str, command)], input=given,
                           capture_output=True, check=False, env={**os.environ, **environment})
     return Seen(done.stdout, done.stderr.decode('utf-8', 'replace'), done.returncode)
+
+
+def python_for_all() -> str:
+    """A python3 that nobody, too, can run, if there is one: root's own may lie where nobody else may look."""
+    for python in ['/usr/bin/python3', '/usr/local/bin/python3']:
+        if os.path.exists(python) and run(python, '-c', 'import sys; sys.exit(sys.version_info < (3, 10))',
+                                          shell=NOBODY).status == 0:
+            return python
+    return sys.executable
 
 
 def installed(programs: list[str], packages: list[str]) -> bool:

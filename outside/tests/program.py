@@ -7,14 +7,15 @@ import pathlib
 import shutil
 import subprocess
 import tempfile
+from collections.abc import Callable
 
-from outside.trying import EXAMPLES, KEY, PROGRAM, ROOT, VERSION, Tally, run
+from outside.trying import EXAMPLES, KEY, NOBODY, PROGRAM, ROOT, VERSION, Seen, Tally, python_for_all, run
 
 P_ANSWER = b'2105\n210b\n220000\n220101\n220701\n'
 NOT_READ, NOT_WRITTEN = 'key: standard input was not read: ', 'key: the answer was not written'
 FULL = '"$@" > /dev/full'
 NO_OUTPUT = '"$@" >&-'
-TOOLS = ['bash', 'basename', 'cat', 'dirname', 'find', 'head', 'mktemp', 'readlink', 'rm', 'touch']
+TOOLS = ['bash', 'cat', 'chmod', 'cp', 'dirname', 'head', 'mkdir', 'mktemp', 'readlink', 'rm', 'setpriv']
 
 # Slips of the keyboard: the text, the number and the line of the refusal, and words that name the slip.
 SLIPS = [
@@ -125,47 +126,98 @@ def words(tally: Tally) -> None:
 
 
 def other_machines(tally: Tally, folder: pathlib.Path) -> None:
-    """A machine that lacks rt or python3, and a program that is missing, stale or mute."""
+    """A machine that lacks rt or python3, and a program that is missing, of other sources or mute."""
     tools, root = folder / 'tools', folder / 'desk'
     tools.mkdir()
     for tool in TOOLS:
         (tools / tool).symlink_to(shutil.which(tool))
-    for part in ['office', 'docs/changes']:
-        shutil.copytree(ROOT / part, root / part)
-    (root / 'crates').mkdir()
-    (root / 'target' / 'bin').mkdir(parents=True)
-    (root / 'crates.txt').write_text('# nothing\n')
+    shutil.copytree(ROOT / 'office', root / 'office', ignore=shutil.ignore_patterns('__pycache__'))
+    source, program = root / 'crates' / 'key' / 'src' / 'main.rt', root / 'target' / 'bin' / 'key'
+    source.parent.mkdir(parents=True)
+    source.write_text('// one\n')
+    (root / 'crates.txt').write_text('key:\n')
+    (root / 'crates' / 'host').mkdir()
+    shutil.copy(ROOT / 'crates' / 'host' / 'desk.h', root / 'crates' / 'host')
     shutil.copy(KEY, root / 'key')
-    program = root / 'target' / 'bin' / 'key'
 
-    def asked(text: bytes = EXAMPLES['p']):
-        return run(root / 'key', given=text, PATH=str(tools))
+    def asked(text: bytes = EXAMPLES['p'], shell: str = '"$@"') -> Seen:
+        return run(root / 'key', given=text, shell=shell, PATH=str(tools))
 
-    def rt(lines: str) -> None:
-        (tools / 'rt').write_text(f'#!{shutil.which("bash")}\n{lines}\n')
+    def rt(*lines: str) -> None:
+        (tools / 'rt').write_text('\n'.join([f'#!{shutil.which("bash")}', 'echo noise', *lines, '']))
         (tools / 'rt').chmod(0o755)
 
+    builds = ['mkdir -p target/bin', f'cp {PROGRAM} target/bin/key']
+    answered = Seen(P_ANSWER, '', 0)
+    tally.check('no python3', asked().failed('there is no python3'), asked())
+    (tools / 'python3').symlink_to(python_for_all())
+    tally.check('not built, no rt', asked().failed('not built yet, and there is no rt'), asked())
+    rt('exit 1')
     seen = asked()
-    tally.check('not built, no rt', seen.failed('not built yet, and there is no rt'), seen)
-    shutil.copy(PROGRAM, program)
+    tally.check('a build that fails', (seen.out, seen.status) == (b'', 2), seen)
+    tally.check('what it said', '\nnoise\n' in seen.err and 'rt check key failed with status 1' in seen.err, seen)
+    rt(*builds)
     seen = asked()
-    tally.check('built, no rt', (seen.out, seen.err, seen.status) == (P_ANSWER, '', 0), seen)
+    tally.check('a build', (seen.out, seen.status, seen.err.count('\n')) == (P_ANSWER, 0, 1), seen)
+    tally.check('told in one line', 'not built yet: proving and building it' in seen.err and ' s\n' in seen.err, seen)
+    rt('exit 1')
+    tally.check('built once', asked() == answered, asked())
+    source.write_text('// one\n')
+    tally.check('a source that was touched', asked() == answered, asked())
+    before = source.stat().st_mtime_ns
+    source.write_text('// two\n')
+    os.utime(source, ns=(before, before))
+    seen = asked()
+    tally.check('a source that was changed, at the old time', (seen.out, seen.status) == (b'', 2), seen)
+    tally.check('which one', 'crates/key/src/main.rt was changed since' in seen.err, seen)
+    (tools / 'rt').unlink()
+    tally.check('changed, no rt', asked().failed('there is no rt'), asked())
+    rt()
+    seen = asked()
+    tally.check('a build that makes nothing', seen.out == b'' and 'rt made nothing' in seen.err, seen)
+    rt(*builds)
+    tally.check('built again', asked().out == P_ANSWER and asked() == answered, asked())
+    (root / 'crates' / 'key' / 'proofs').mkdir()
+    (root / 'crates' / 'key' / 'proofs' / 'Lib.antt').touch()
+    seen = asked()
+    tally.check('a source that came', seen.out == P_ANSWER and 'proofs/Lib.antt came since' in seen.err, seen)
     seen = asked(b'05\n')
-    tally.check('refused, no python3', (seen.out, seen.status) == (b'2f020001\n', 1) and 'python3' in seen.err, seen)
-    os.utime(program, (1, 1))
+    tally.check('refused', (seen.out, seen.status) == (b'2f020001\n', 1) and 'number 2' in seen.err, seen)
+    rt(*builds, 'echo "// three" > crates/key/src/main.rt')
+    source.write_text('// other\n')
     seen = asked()
-    tally.check('stale, no rt', seen.failed('older than its sources, and there is no rt'), seen)
-    rt('echo noise; exit 1')
-    seen = asked()
-    tally.check('a build that fails', (seen.out, seen.status) == (b'', 2) and 'could not be built' in seen.err, seen)
-    rt('echo noise; cat')
-    seen = asked()
-    tally.check('a build', (seen.out, seen.status) == (P_ANSWER, 0) and 'noise' in seen.err, seen)
-    seen = asked()
-    tally.check('built once', (seen.out, seen.err, seen.status) == (P_ANSWER, '', 0), seen)
+    tally.check('changed while it is built', seen.out == b'' and 'try again' in seen.err and seen.status == 2, seen)
+    rt(*builds)
+    tally.check('built after that', asked().out == P_ANSWER and asked() == answered, asked())
+    not_ours(tally, folder, root, source, asked)
     program.write_text(f'#!{shutil.which("bash")}\n')
     seen = asked()
-    tally.check('a mute program', seen.failed('the program gave no answer'), seen)
+    tally.check('a program that was not built', seen.out == P_ANSWER and 'target/bin/key was changed' in seen.err, seen)
+    rt('mkdir -p target/bin', f'echo "#!{shutil.which("bash")}" > target/bin/key', 'chmod +x target/bin/key')
+    source.write_text('// mute\n')
+    asked()
+    tally.check('a mute program', asked().failed('the program gave no answer'), asked())
+
+
+def not_ours(tally: Tally, folder: pathlib.Path, root: pathlib.Path, source: pathlib.Path,
+             asked: Callable[..., Seen]) -> None:
+    """In a folder that may not be written a program of the sources that are there answers, and no other does."""
+    folder.chmod(0o777)
+    closed = [place for place in [root, *root.rglob('*')] if place.is_dir()]
+    for place in closed:
+        place.chmod(0o555)
+    seen = asked(shell=NOBODY)
+    tally.check('not to be written', seen == Seen(P_ANSWER, '', 0), seen)
+    before = source.read_bytes()
+    source.chmod(0o644)
+    source.write_text('// elsewhere\n')
+    seen = asked(shell=NOBODY)
+    tally.check('not to be written, other sources', seen.failed('cannot be built here: Permission denied'), seen)
+    source.write_bytes(before)
+    seen = asked(shell=NOBODY)
+    tally.check('not to be written, its own sources again', seen == Seen(P_ANSWER, '', 0), seen)
+    for place in closed:
+        place.chmod(0o755)
 
 
 def main() -> None:

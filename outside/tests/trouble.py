@@ -115,38 +115,53 @@ def terminal(tally: Tally, folder: pathlib.Path) -> None:
 
 
 def elsewhere(tally: Tally, folder: pathlib.Path) -> None:
-    """A machine that lacks rt or gcc, and a library that is missing or stale."""
+    """A machine that lacks rt or gcc, and a library that is missing, or of other sources."""
     root, tools = folder / 'copy', folder / 'tools'
     for part in ['office', 'crates/host']:
-        shutil.copytree(ROOT / part, root / part)
+        shutil.copytree(ROOT / part, root / part, ignore=shutil.ignore_patterns('__pycache__'))
     tools.mkdir()
     (tools / 'python3').symlink_to(sys.executable)
-    for file in ['desk', 'crates.txt', 'VERSION']:
+    for file in ['desk', 'VERSION']:
         shutil.copy(ROOT / file, root / file)
-    archive = root / 'target' / 'staticlib' / 'libhost.a'
-    archive.parent.mkdir(parents=True)
+    (root / 'crates.txt').write_text('host:\n')
+    source, built = root / 'crates' / 'host' / 'src' / 'lib.rt', ROOT / 'target' / 'staticlib' / 'libhost.a'
+    answered = Seen(b'2101\n2104\n220002\n', '', 0)
 
     def asked() -> Seen:
         return run(root / 'desk', 'key', '-', given=EXAMPLES['r'], PATH=str(tools), shell='python3 "$@"')
 
+    def rt(*lines: str) -> None:
+        (tools / 'rt').write_text('\n'.join(['#!/bin/sh', 'echo noise', *lines, '']))
+        (tools / 'rt').chmod(0o755)
+
     tally.check('not built, no rt', asked().failed('not built yet, and there is no rt'), asked())
-    shutil.copy(ROOT / 'target' / 'staticlib' / 'libhost.a', archive)
-    tally.check('not linked, no gcc', asked().failed('there is no gcc'), asked())
+    rt('exit 1')
+    seen = asked()
+    tally.check('a build that fails', (seen.out, seen.status) == (b'', 2) and 'could not be built' in seen.err, seen)
+    tally.check('what it said', '\nnoise\n' in seen.err, seen)
+    for tool in ['mkdir', 'cp']:
+        (tools / tool).symlink_to(shutil.which(tool))
+    rt('mkdir -p target/staticlib', f'cp {built} target/staticlib/libhost.a')
+    seen = asked()
+    tally.check('not linked, no gcc', seen.status == 2 and 'there is no gcc' in seen.err, seen)
+    tally.check('built in one line', seen.err.count('\n') == 2 and ' done in ' in seen.err, seen)
     for tool in ['gcc', 'ld', 'as']:
         (tools / tool).symlink_to(shutil.which(tool))
-    tally.check('linked', asked() == Seen(b'2101\n2104\n220002\n', '', 0), asked())
+    tally.check('linked', asked() == answered, asked())
     (root / 'COMMIT').write_text('0123456789abcdef0123\n')
     seen = run(root / 'desk', '--version', PATH=str(tools), shell='python3 "$@"')
     told = seen.out.decode().startswith(f'desk {VERSION}, commit 0123456789ab, library ')
     tally.check('a release knows its commit', told, seen)
-    (tools / 'gcc').unlink()
-    tally.check('linked once', asked() == Seen(b'2101\n2104\n220002\n', '', 0), asked())
-    os.utime(archive, (1, 1))
-    tally.check('stale, no rt', asked().failed('older than its sources, and there is no rt'), asked())
-    (tools / 'rt').write_text('#!/bin/sh\necho noise; exit 1\n')
-    (tools / 'rt').chmod(0o755)
+    for tool in ['gcc', 'rt']:
+        (tools / tool).unlink()
+    tally.check('linked once', asked() == answered, asked())
+    source.write_bytes(source.read_bytes())
+    (root / 'crates' / 'host' / 'desk.h').touch()
+    (root / 'crates' / 'host' / 'must-fail' / 'more.edit').touch()
+    tally.check('touched, no rt', asked() == answered, asked())
+    source.write_bytes(source.read_bytes() + b'// one more\n')
     seen = asked()
-    tally.check('a build that fails', (seen.out, seen.status) == (b'', 2) and 'could not be built' in seen.err, seen)
+    tally.check('changed, no rt', seen.failed('src/lib.rt was changed since, and there is no rt'), seen)
 
 
 def main() -> None:

@@ -1,0 +1,229 @@
+"""What is built in a clone: the library and the program, proved and built anew unless they are of the very sources that
+are there.
+
+  python3 -m office.built    builds the program, if need be, for ./key
+
+A stamp in target/built has the SHA-256 of every file that a thing was made of, and of what was made. Times decide
+nothing: a file whose size and time of change are as noted need not be hashed again, any other is.
+"""
+import contextlib
+import fcntl
+import hashlib
+import os
+import pathlib
+import re
+import shutil
+import subprocess
+import time
+from collections.abc import Callable, Collection, Iterator
+from dataclasses import dataclass
+
+from office.command import ROOT, Fault, run
+from office.places import ARCHIVE, PROGRAM, SHARED, TARGET
+
+STAMPS, LIST = TARGET / 'built', ROOT / 'crates.txt'
+# What of a crate the prover reads, or a program is run on.
+PARTS = ('src', 'specs', 'proofs', 'stdin', 'stdout', 'args', 'data')
+# A file that was changed so shortly before it was noted may be changed again without another time, in nanoseconds.
+SETTLED = 2 * 10 ** 9
+
+
+@dataclass(frozen=True)
+class Noted:
+    """A file in a stamp: its hash, its size, and its time of change, or 0 where that tells nothing yet."""
+    sha256: str
+    size: int
+    changed: int
+
+
+@dataclass(frozen=True)
+class Made:
+    """A thing that is built: what it is, its file, what it is made of, what by, and how."""
+    what: str
+    file: pathlib.Path
+    sources: Callable[[], Iterator[str]]
+    tool: str
+    make: Callable[[], None]
+
+    @property
+    def stamp(self) -> pathlib.Path:
+        return STAMPS / self.file.name
+
+
+def sources_of(crate: str) -> Iterator[str]:
+    """What a crate is proved and built from: the list of crates, its own files, and those of all crates below it."""
+    yield str(LIST)
+    listed = {name: below.split() for name, below in re.findall(r'^(\w+):(.*)$', LIST.read_text(), re.M)}
+    names = [crate]
+    for name in names:
+        names += [below for below in listed.get(name, []) if below in listed and below not in names]
+        yield from files_in(f'{ROOT}/crates/{name}', PARTS)
+
+
+def files_in(folder: str, parts: Collection[str] = ()) -> Iterator[str]:
+    """All files of a folder, or those of some parts of it."""
+    with os.scandir(folder) as entries:
+        for entry in entries:
+            if parts and entry.name not in parts:
+                continue
+            if entry.is_dir():
+                yield from files_in(entry.path)
+            else:
+                yield entry.path
+
+
+def prove_archive() -> None:
+    step('rt', 'staticlib', 'host')
+
+
+def link() -> None:
+    step('gcc', '-shared', '-o', str(SHARED), '-Wl,--whole-archive', str(ARCHIVE), '-Wl,--no-whole-archive')
+
+
+def prove_program() -> None:
+    step('rt', 'check', 'key')
+    if not PROGRAM.exists():
+        # The prover knows that it has built this before, and not that it is gone.
+        (TARGET / 'stamp' / 'key').unlink(missing_ok=True)
+        step('rt', 'check', 'key')
+
+
+LIBRARY = (Made('library', ARCHIVE, lambda: sources_of('host'), 'rt', prove_archive),
+           Made('library', SHARED, lambda: iter([str(ARCHIVE)]), 'gcc', link))
+KEY = Made('program', PROGRAM, lambda: sources_of('key'), 'rt', prove_program)
+
+
+def build_library(name: str = 'desk') -> None:
+    """The archive, and the library that is linked of it."""
+    for made in LIBRARY:
+        build(made, name)
+
+
+def build(made: Made, name: str) -> None:
+    """Makes a thing unless it is of the sources that are there. One of other sources is not left."""
+    reason = ''
+    try:
+        reason = wanting(made)
+        if reason:
+            with alone(name):
+                reason = wanting(made)
+                if reason:
+                    make_anew(made, name, reason)
+    except OSError as fault:
+        state = f'the {made.what} {reason}, and it cannot be built here' if reason else f'the {made.what}: its sources'
+        raise Fault(f'{state}: {fault.strerror}') from fault
+
+
+def wanting(made: Made) -> str:
+    """Why a thing has to be built; nothing if it is of the sources that are there."""
+    noted = noted_of(made)
+    if not noted or not made.file.exists():
+        return 'is not built yet'
+    there = {*made.sources(), str(made.file)}
+    for path in sorted(noted.keys() ^ there):
+        return f'is of other sources: {called(path)} {"came" if path in there else "went"} since'
+    unsure = [path for path in there if not as_noted(path, noted[path])]
+    for path in unsure:
+        if sha256_of(path) != noted[path].sha256:
+            return f'is of other sources: {called(path)} was changed since'
+    if unsure:
+        with contextlib.suppress(OSError):  # the next look takes longer, that is all
+            note(made, noted | {path: noted_now(path, noted[path].sha256) for path in unsure})
+    return ''
+
+
+def make_anew(made: Made, name: str, reason: str) -> None:
+    """Builds a thing and notes what it was built of. The one before goes first: nothing is answered with it."""
+    if not shutil.which(made.tool):
+        raise Fault(f'the {made.what} {reason}, and there is no {made.tool} to build it with')
+    before = {path: noted_now(path, sha256_of(path)) for path in made.sources()}
+    made.stamp.unlink(missing_ok=True)
+    made.file.unlink(missing_ok=True)
+    if made.tool == 'rt':
+        say(f'{name}: the {made.what} {reason}: proving and building it, which takes minutes the first time ...')
+    began = time.monotonic()
+    made.make()
+    if made.tool == 'rt':
+        say(f' done in {time.monotonic() - began:.0f} s\n')
+    if not made.file.exists():
+        raise Fault(f'the {made.what} could not be built: {made.tool} made nothing')
+    if {path: sha256_of(path) for path in made.sources()} != {path: noted.sha256 for path, noted in before.items()}:
+        raise Fault(f'sources of the {made.what} were changed while it was being built: try again')
+    file = str(made.file)
+    note(made, before | {file: noted_now(file, sha256_of(file))})
+
+
+@contextlib.contextmanager
+def alone(name: str) -> Iterator[None]:
+    """While one desk builds, others wait."""
+    STAMPS.mkdir(parents=True, exist_ok=True)
+    lock = os.open(STAMPS / 'lock', os.O_RDWR | os.O_CREAT | os.O_CLOEXEC, 0o666)
+    try:
+        try:
+            fcntl.flock(lock, fcntl.LOCK_EX | fcntl.LOCK_NB)
+        except BlockingIOError:
+            say(f'{name}: another desk is building: waiting for it\n')
+            fcntl.flock(lock, fcntl.LOCK_EX)
+        yield
+    finally:
+        os.close(lock)
+
+
+def noted_of(made: Made) -> dict[str, Noted]:
+    """What a stamp has, by the paths of files; nothing where there is none, or one that was cut off."""
+    try:
+        lines = made.stamp.read_text().splitlines()
+    except (OSError, ValueError):
+        return {}
+    found = [re.fullmatch(r'([0-9a-f]{64}) (\d+) (\d+) (.+)', line) for line in lines]
+    if not all(found):
+        return {}
+    return {f'{ROOT}/{line[4]}': Noted(line[1], int(line[2]), int(line[3])) for line in found if line}
+
+
+def note(made: Made, files: dict[str, Noted]) -> None:
+    """Writes a stamp; at every moment the old one or the new one is there, whole."""
+    beside = STAMPS / f'{made.file.name}.{os.getpid()}'
+    beside.write_text(''.join(f'{noted.sha256} {noted.size} {noted.changed} {called(path)}\n'
+                              for path, noted in sorted(files.items())))
+    os.replace(beside, made.stamp)
+
+
+def called(path: str) -> str:
+    """A file's path in the clone."""
+    return path.removeprefix(f'{ROOT}/')
+
+
+def noted_now(path: str, sha256: str) -> Noted:
+    """A file that has just been hashed."""
+    now = os.stat(path)
+    return Noted(sha256, now.st_size, now.st_ctime_ns if now.st_ctime_ns + SETTLED < time.time_ns() else 0)
+
+
+def as_noted(path: str, noted: Noted) -> bool:
+    now = os.stat(path)
+    return (now.st_size, now.st_ctime_ns) == (noted.size, noted.changed)
+
+
+def sha256_of(path: str) -> str:
+    with open(path, 'rb') as opened:
+        return hashlib.sha256(opened.read()).hexdigest()
+
+
+def step(*command: str) -> None:
+    """A step of a build. What it says is told only if it fails."""
+    done = subprocess.run(command, cwd=ROOT, stdin=subprocess.DEVNULL, stdout=subprocess.PIPE,
+                          stderr=subprocess.STDOUT, check=False)
+    if done.returncode != 0:
+        say('\n' + done.stdout.decode('utf-8', 'replace'))
+        raise Fault(f'it could not be built: {" ".join(command[:3])} failed with status {done.returncode}')
+
+
+def say(words: str) -> None:
+    """To standard error, as far as that takes it."""
+    with contextlib.suppress(OSError):
+        os.write(2, words.encode())
+
+
+if __name__ == '__main__':
+    run('key', lambda _: build(KEY, 'key'))
