@@ -14,6 +14,7 @@ name their candidate first:
   opened                              a start
   candidate ID MINUTES PAPER NAME     a dash where the list has no minutes, and for the paper of the top line
   ticket ID SHA-256                   the only good ticket from now on
+  minutes MINUTES, until TIME         how long all have for whom the list has no minutes: from entering, or until then
   close ID, extra ID MINUTES, message ID TEXT     a dash for all
   reopen ID, collected ID SHA-256     as if not handed in; handed in by the end, with the hash of the text
   enter, leave, put GAP, lift GAP, take back, hand in SHA-256     a candidate's

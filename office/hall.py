@@ -13,15 +13,21 @@ from office import oldlog
 from office.candidates import Candidate, Tickets, folded, identity_of
 from office.candidates import hash_of as ticket_hash
 from office.chain import OFFICE, Event
+from office.clock import BEHIND, SECOND, Wanted, of_day, spelled, time_in, told
 from office.command import Fault, mention, printable, read_in, take_away, write_over
 from office.logbook import LOG, Logbook, NotKnown
 from office.refusal import Refused
-from office.sittings import ENTER, HAND_IN, LEAVE, Sitting, Sittings, State, hash_of, made, told_gaps
+from office.sittings import COLLECTED, ENTER, HAND_IN, LEAVE, Sitting, Sittings, State, hash_of, made, told_gaps
 
 TICKETS, ANSWER = 'tickets.csv', '.hex'
 MACHINE = re.compile('[!-~]{1,64}')
+# Seconds without a line before a start that are told where a clock runs.
+LONG = 10
 OVER = 'You have handed in. Nothing can be changed any more.'
+TAKEN = 'What stood here was collected at the end. Nothing can be changed any more.'
 CLOSED = 'The sitting is closed. Nothing can be changed any more.'
+TIME_OVER = 'Your time is over. What stands here is collected.'
+TOO_LATE = 'The time of this sitting is over. Ask the person in charge.'
 MOVED_ON = 'Not handed in: the sitting was changed in another window. Look at it as it is now, and hand in again.'
 
 
@@ -44,19 +50,20 @@ class Hall:
     """The sittings over one paper, one log and one folder of answers. It is read and looked over when it is made, and
     writes nothing before it is opened."""
 
-    def __init__(self, text: bytes, candidates: list[Candidate], answers: str):
+    def __init__(self, text: bytes, candidates: list[Candidate], answers: str, time: Wanted = Wanted()):
         self.answers, self.paper = answers, hash_of(text)
         self.unkept: list[tuple[Sitting, State]] = []
-        self.unwritten: list[Sitting] = []
-        self.stale: list[str] = []
+        self.unwritten: dict[str, bytes | None] = {}
         self.told: set[str] = set()
-        self.broken = False
+        self.broken = self.uncollected = False
         self.room = Sittings(self.paper)
         self.log = Logbook(answers)
+        self.last, self.opened = '', self.now
         try:
             self.read(text, candidates)
             self.tickets = Tickets(os.path.join(answers, TICKETS), candidates)
             self.seat(candidates)
+            self.set_clock(time)
             self.new_tickets = self.tickets_given()
             self.look_at_answers()
         except BaseException:
@@ -88,6 +95,7 @@ class Hall:
         if self.log.is_there() and not oldlog.is_old(self.log.file):
             for event in self.log.events(self.paper):
                 self.replay(event, event.seq + 1)
+                self.last = max(self.last, event.at)
             return
         self.log.top(self.paper)
         self.note(f'paper {" ".join(text.decode("ascii").split())}'.rstrip())
@@ -131,6 +139,42 @@ class Hall:
                 identity = sitting.candidate if sitting else candidate.identity
                 self.note(f'candidate {identity} {candidate.minutes or OFFICE} {OFFICE} {candidate.name}')
 
+    @property
+    def now(self) -> int:
+        return self.log.clock.now()
+
+    @property
+    def timed(self) -> bool:
+        """Whether there is a clock for anybody."""
+        return any(sitting.timed for sitting in self.sittings.values())
+
+    def set_clock(self, time: Wanted) -> None:
+        """Takes down how long all have, where it is new. As long as nobody has begun, a time of day is the next one; a
+        clock that stands before the log's last line would give everybody time."""
+        allowed, begun = self.room.allowed, any(sitting.begun for sitting in self.sittings.values())
+        if time.minutes and time.minutes != allowed.minutes:
+            self.note(f'minutes {time.minutes}')
+        if time.until and not (allowed.until and begun and time.is_at(allowed.until)):
+            until = time.next(self.now)
+            if until != allowed.until:
+                self.note(f'until {spelled(until)}')
+        last = time_in(self.last) if self.last else 0
+        if self.timed and self.now < last - BEHIND:
+            raise Fault(f"this machine's clock says {told(self.now)}, and the last line of {printable(self.log.file)} "
+                        f'is of {told(last)}: set the clock right, and start again')
+        if self.timed:
+            self.log.clock.go_on_from(last)
+
+    @property
+    def away(self) -> str:
+        """How long nothing was kept before this start, for sittings under way that have a clock."""
+        under_way = any(sitting.timed and sitting.begun and not sitting.ended for sitting in self.sittings.values())
+        last = time_in(self.last) if self.last else self.opened
+        seconds = (self.opened - last) // SECOND
+        if not under_way or seconds < LONG:
+            return ''
+        return f'before this start nothing was kept since {of_day(last)}, for {seconds // 60} min {seconds % 60} s'
+
     def tickets_given(self) -> dict[str, str]:
         """The tickets that candidates get now."""
         given = {}
@@ -155,9 +199,9 @@ class Hall:
             if file and there not in sitting.given:
                 raise Fault(f'{printable(file)} is there, and {who} did not hand it in: move it away')
             if sitting.handed_in and there != hash_of(sitting.desk.sitting()):
-                self.unwritten.append(sitting)
+                self.write_soon(sitting)
             if file and not sitting.handed_in:
-                self.stale.append(file)
+                self.write_soon(sitting)
         for file in files.values():
             raise Fault(f'{printable(file)} is there, and no candidate has this id: move it away')
 
@@ -168,10 +212,9 @@ class Hall:
             self.tickets.write()
             for identity, ticket in self.new_tickets.items():
                 self.note(f'ticket {identity} {ticket_hash(ticket)}')
+            self.opened = self.now
             self.note('opened')
             self.log.keep()
-            for file in self.stale:
-                take_away(file)
         except (OSError, Fault) as fault:
             self.give_up()
             raise self.log.unable(fault) if isinstance(fault, OSError) else fault
@@ -194,58 +237,100 @@ class Hall:
     # ---- What candidates do
 
     def enter(self, sitting: Sitting, machine: str) -> None:
-        sitting.make(self.take_down(sitting, ENTER, machine))
+        """Whose time was over before it began does not enter."""
+        now = self.now
+        if sitting.begun is None and sitting.is_over(now):
+            raise Declined(TOO_LATE)
+        sitting.make(self.take_down(sitting, ENTER, machine, now))
 
     def leave(self, sitting: Sitting, machine: str) -> None:
-        sitting.make(self.take_down(sitting, LEAVE, machine))
+        sitting.make(self.take_down(sitting, LEAVE, machine, self.now))
 
     def move(self, sitting: Sitting, move: str, machine: str) -> str:
         """Makes a move, to be kept, and says what was done."""
-        self.must_be_open(sitting)
+        now = self.must_be_open(sitting)
         before = sitting.state
         try:
             said = made(sitting.desk, move)
         except Refused as refused:
             raise Declined(f'Refused, {refused.refusal.rule}.') from refused
         sitting.moves += 1
-        self.take_down(sitting, move, machine, before)
+        sitting.begin(self.take_down(sitting, move, machine, now, before))
         return said
 
     def hand_in(self, sitting: Sitting, moves: int, gaps: list[int], machine: str) -> str:
         """Hands in the sitting that the candidate saw, after so many moves and with these gaps, and says what was
         done."""
-        self.must_be_open(sitting)
+        now = self.must_be_open(sitting)
         if (moves, gaps) != (sitting.moves, sitting.gaps):
             raise Declined(MOVED_ON)
-        sitting.make(self.take_down(sitting, f'{HAND_IN} {hash_of(sitting.desk.sitting())}', machine))
+        sitting.make(self.take_down(sitting, f'{HAND_IN} {hash_of(sitting.desk.sitting())}', machine, now))
         return f'Handed in: {told_gaps(gaps)}.'
 
-    def must_be_open(self, sitting: Sitting) -> None:
+    def must_be_open(self, sitting: Sitting) -> int:
+        """Declines where nothing more is taken; gives the time at which something is."""
+        now = self.now
         if sitting.handed_in:
-            raise Declined(OVER)
-        if self.room.closed:
-            raise Declined(CLOSED)
+            raise Declined(TAKEN if sitting.collected else OVER)
+        if sitting.is_over(now):
+            raise Declined(CLOSED if sitting.closed else TIME_OVER)
+        return now
 
-    def take_down(self, sitting: Sitting, act: str, machine: str, before: State | None = None) -> Event:
+    def take_down(self, sitting: Sitting, act: str, machine: str, now: int, before: State | None = None) -> Event:
         """Takes an act down, to be kept; the state before it comes back if it cannot be."""
         self.unkept.append((sitting, before or sitting.state))
-        return self.log.add(sitting.candidate, machine if MACHINE.fullmatch(machine) else OFFICE, act)
+        return self.log.add(sitting.candidate, machine if MACHINE.fullmatch(machine) else OFFICE, act, spelled(now))
+
+    # ---- What the desk does
+
+    def do(self, acts: list[str], again: bool = False) -> Kept:
+        """Keeps acts of the desk, and then makes them. Nothing of candidates may be unkept by then."""
+        events = [self.log.add(OFFICE, OFFICE, act) for act in acts]
+        kept = self.keep(again)
+        if kept is Kept.DONE:
+            for event in events:
+                self.room.make(event)
+        return kept
+
+    def run_out(self) -> list[Sitting]:
+        """The sittings whose time is over, and what stands there is not collected yet."""
+        now = self.now
+        return [sitting for sitting in self.sittings.values()
+                if sitting.begun is not None and not sitting.ended and sitting.is_over(now)]
+
+    def collect(self) -> None:
+        """Collects what stands where the time is over. What cannot be kept is tried again; that is told once."""
+        over = self.run_out()
+        acts = [f'{COLLECTED} {sitting.candidate} {hash_of(sitting.desk.sitting())}' for sitting in over]
+        self.uncollected = bool(acts) and self.do(acts, self.uncollected) is not Kept.DONE
+        if not self.uncollected:
+            for sitting in over:
+                self.write_soon(sitting)
+
+    def next_end(self) -> float:
+        """Seconds until the next sitting is over."""
+        now = self.now
+        ends = [sitting.over - now for sitting in self.sittings.values() if sitting.over and not sitting.ended]
+        return min((end for end in ends if end > 0), default=float('inf')) / SECOND
 
     # ---- What is kept
 
-    def keep(self) -> Kept:
+    def keep(self, again: bool = False) -> Kept:
         """Keeps all that was taken down. If that cannot be done, nothing of it was made, and the person in charge hears
-        of it."""
+        of it, unless it is tried again."""
         unkept, self.unkept = self.unkept, []
         try:
             self.log.keep()
         except OSError as fault:
             for sitting, before in reversed(unkept):
                 sitting.go_back(before)
-            mention(str(self.log.unable(fault)))
+            if not again:
+                mention(str(self.log.unable(fault)))
             self.broken = True
             return Kept.NOT_KNOWN if isinstance(fault, NotKnown) else Kept.NOT_DONE
-        self.unwritten += [sitting for sitting, (_, _, ended, _) in unkept if sitting.handed_in and not ended]
+        for sitting, (_, _, ended, _, _) in unkept:
+            if sitting.handed_in and not ended:
+                self.write_soon(sitting)
         return Kept.DONE
 
     def look(self) -> None:
@@ -263,16 +348,24 @@ class Hall:
         """Whether files of answers are to be written."""
         return bool(self.unwritten)
 
+    def write_soon(self, sitting: Sitting) -> None:
+        """Has the file of an answer written; of a sitting that is not over, there is none."""
+        self.unwritten[sitting.candidate] = sitting.desk.sitting() if sitting.handed_in else None
+
     def write_files(self) -> None:
         """Writes files of what was handed in and kept. One that cannot be written is told once, and stays to be
-        written."""
-        for _ in range(len(self.unwritten)):
-            sitting = self.unwritten.pop(0)
-            file = os.path.join(self.answers, f'{sitting.candidate}{ANSWER}')
+        written, unless there is a newer one by then."""
+        for who in [*self.unwritten]:
+            text = self.unwritten.pop(who)
+            file = os.path.join(self.answers, f'{who}{ANSWER}')
             try:
-                write_over(file, sitting.desk.sitting(), lasting=True)
+                if text is None:
+                    take_away(file)
+                else:
+                    write_over(file, text, lasting=True)
             except Fault as fault:
-                self.unwritten.append(sitting)
-                if sitting.candidate not in self.told:
-                    mention(f'{fault}; {sitting.candidate} has handed in, and the file will be written when it can be')
-                self.told.add(sitting.candidate)
+                self.unwritten.setdefault(who, text)
+                if who not in self.told:
+                    mention(f'{fault}; {who} has handed in, and the file will be written when it can be' if text is not
+                            None else f'{fault}; {who} was reopened, and the file will be removed when it can be')
+                self.told.add(who)

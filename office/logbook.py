@@ -11,7 +11,8 @@ import os
 import tempfile
 from collections.abc import Iterable, Iterator
 
-from office.chain import Chain, Event, Reader, now
+from office.chain import Chain, Event, Reader
+from office.clock import Clock, spelled
 from office.command import Fault, mention, printable
 
 LOG = 'sitting.log'
@@ -30,7 +31,7 @@ class Logbook:
         self.folder, self.file = folder, os.path.join(folder, LOG)
         self.missing = missing_of(folder)
         self.lines: list[bytes] = []
-        self.chain = Chain('')
+        self.chain, self.clock = Chain(''), Clock()
         self.kept = self.chain.end
         self.opened, self.length, self.seen, self.copy = -1, 0, 0, Copy()
         self.new, self.old, self.begun, self.clean = False, '', False, True
@@ -67,7 +68,7 @@ class Logbook:
 
     def add(self, who: str, machine: str, act: str, at: str = '') -> Event:
         """Takes an event down. It is not kept yet."""
-        event, line = self.chain.added(at or now(), who, machine, act)
+        event, line = self.chain.added(at or spelled(self.clock.now()), who, machine, act)
         self.lines.append(line)
         return event
 

@@ -6,10 +6,14 @@ from http import HTTPStatus
 
 from office.board import Board
 from office.called import Called
+from office.chain import receipt_of
+from office.clock import time_in, told
 from office.colours import COLOURS, SERVED
 from office.messages import Reply
 from office.paper import Paper
+from office.printed import facts
 from office.show import listing_of
+from office.sittings import Sitting, hash_of, told_gaps
 
 HTML, CSS, SCRIPT = 'text/html; charset=utf-8', 'text/css; charset=utf-8', 'text/javascript; charset=utf-8'
 BACK, UNREAD = 'To the sitting', 'The desk could not make sense of what the browser sent. Nothing was changed.'
@@ -24,6 +28,7 @@ PRACTICE = ', practice'
 ANOTHER = 'This window was of another candidate. In this browser now sits: '
 NOBODY = 'This window was of a candidate who has left this desk in another window.'
 SINCE = ' What was asked for here since then was not done.'
+NO_RECEIPT = 'Nothing is handed in here yet, so there is no receipt.'
 
 
 def template(name: str) -> string.Template:
@@ -35,17 +40,29 @@ class Pages:
 
     def __init__(self, board: Board, paper: Paper, name: str, called: Called):
         self.called = called
-        self.ticket, self.words = template('ticket.html'), template('words.html')
+        self.name = name
+        self.ticket, self.words, self.receipt = map(template, ('ticket.html', 'words.html', 'receipt.html'))
         self.sitting = string.Template(template('sitting.html').safe_substitute(
             paper=html.escape(name + PRACTICE * board.practice).replace('$', '$$'), board=board.svg(),
             dependences=board.told(), signs=html.escape(' '.join(board.signs())),
             listing=html.escape(listing_of(paper))))
-        self.css = (COLOURS + board.style() + (SERVED / 'hall.css').read_text()).encode()
-        self.script = (SERVED / 'sitting.js').read_bytes()
+        styles = ((SERVED / f'{of}.css').read_text() for of in ('hall', 'clock'))
+        self.css = ''.join([COLOURS, board.style(), *styles]).encode()
+        self.script, self.clock = ((SERVED / f'{of}.js').read_bytes() for of in ('sitting', 'clock'))
 
     def of_sitting(self, candidate: str, token: str) -> Reply:
         """The page of a candidate; the token says in each request that it comes from there."""
         page = self.sitting.substitute(candidate=html.escape(candidate), token=token)
+        return Reply(HTTPStatus.OK, HTML, page.encode())
+
+    def of_receipt(self, sitting: Sitting) -> Reply:
+        """The receipt of a sitting that is over, to be printed."""
+        if sitting.ended is None:
+            return self.says(HTTPStatus.OK, html.escape(NO_RECEIPT), '/')
+        rows = {'Candidate': sitting.name, 'Id': sitting.candidate, 'Paper': self.name,
+                'Collected' if sitting.collected else 'Handed in': told(time_in(sitting.ended.at)),
+                'What': told_gaps(sitting.gaps), 'SHA-256 of it': hash_of(sitting.desk.sitting())}
+        page = self.receipt.substitute(facts=facts(rows), code=receipt_of(sitting.ended))
         return Reply(HTTPStatus.OK, HTML, page.encode())
 
     def asks_ticket(self, said: str = '') -> Reply:

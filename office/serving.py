@@ -27,7 +27,7 @@ from office.markup import CSS, SCRIPT, Pages
 from office.messages import Reply, Request, Unfit
 from office.room import most_connections
 from office.sittings import HAND_IN, MOVE, Sitting
-from office.told import sitting_told
+from office.told import running, sitting_told
 
 DATA, HTML = 'application/json', 'text/html; charset=utf-8'
 ASKED = re.compile('(.*) at ([0-9]{1,9})')
@@ -78,16 +78,27 @@ class Server:
             self.loop.remove_signal_handler(number)
         door.close()
         connections.end()
-        if self.made:
-            self.settle()
+        self.settle_all()
         self.loop.run_until_complete(self.loop.shutdown_default_executor())
         self.loop.close()
 
     def look(self) -> None:
-        """Has the hall look after its log and its files, now and again and again."""
+        """Has the hall look after its log, its files and its clock, now and again and again."""
         self.hall.look()
+        self.collect()
         self.write_files()
-        self.loop.call_later(LOOK, self.look)
+        self.loop.call_later(min(LOOK, self.hall.next_end()), self.look)
+
+    def collect(self) -> None:
+        """Collects what stands where the time is over, behind all that was asked for before."""
+        if self.hall.run_out():
+            self.settle_all()
+            self.hall.collect()
+
+    def settle_all(self) -> None:
+        """Keeps and tells what was made, and what those ask for who wait for it."""
+        while self.made:
+            self.settle()
 
     def write_files(self) -> None:
         if self.hall.due:
@@ -122,8 +133,9 @@ class Server:
         return tickets[0] if len(tickets) == 1 else ''
 
     def sitting_of(self, request: Request) -> Sitting | None:
-        """The sitting of the candidate who asks."""
-        return self.hall.sitting_with(self.ticket_of(request))
+        """The sitting of the candidate who asks. Where there is a clock, one has entered before anything is shown."""
+        sitting = self.hall.sitting_with(self.ticket_of(request))
+        return None if sitting and sitting.timed and sitting.begun is None else sitting
 
     def is_page_of(self, request: Request, told: str | None) -> bool:
         """Whether the page that asks is that of the cookie's candidate."""
@@ -170,11 +182,18 @@ class Server:
         sitting = self.sitting_of(connection.request)
         return self.pages.another(sitting.name if sitting else None)
 
+    def receipt(self, connection: Connection) -> Reply:
+        sitting = self.sitting_of(connection.request)
+        return self.pages.asks_ticket() if sitting is None else self.pages.of_receipt(sitting)
+
     def style(self, _: Connection) -> Reply:
         return Reply(HTTPStatus.OK, CSS, self.pages.css)
 
     def script(self, _: Connection) -> Reply:
         return Reply(HTTPStatus.OK, SCRIPT, self.pages.script)
+
+    def clock_script(self, _: Connection) -> Reply:
+        return Reply(HTTPStatus.OK, SCRIPT, self.pages.clock)
 
     def enter(self, connection: Connection) -> Reply | None:
         ticket = ticket_in(field_in(connection.request.body, 'ticket')) or ''
@@ -182,8 +201,11 @@ class Server:
         if sitting is None:
             return self.pages.asks_ticket(NO_TICKET)
 
-        def enter(sitting: Sitting, machine: str) -> Made:
-            self.hall.enter(sitting, machine)
+        def enter(sitting: Sitting, machine: str) -> Made | Reply:
+            try:
+                self.hall.enter(sitting, machine)
+            except Declined as declined:
+                return self.pages.asks_ticket(str(declined))
             return Made(connection, sitting, lambda: self.with_cookie(ticket), self.pages.asks_ticket)
 
         return self.done(connection, sitting, enter)
@@ -204,6 +226,9 @@ class Server:
 
     def now(self, connection: Connection) -> Reply | None:
         return self.asked(connection, lambda sitting, _: self.about(sitting, HTTPStatus.OK, ''))
+
+    def time(self, connection: Connection) -> Reply | None:
+        return self.asked(connection, lambda sitting, _: spelled_out(HTTPStatus.OK, running(sitting, self.hall.now)))
 
     def move(self, connection: Connection) -> Reply | None:
         asked = ASKED.fullmatch(connection.request.body)
@@ -259,8 +284,7 @@ class Server:
 
     def about(self, sitting: Sitting, status: HTTPStatus, said: str) -> Reply:
         """The whole of a sitting that may be told, and what is said."""
-        told = sitting_told(sitting, said, self.practice)
-        return Reply(status, DATA, json.dumps(told, separators=(',', ':')).encode())
+        return spelled_out(status, sitting_told(sitting, said, self.practice, self.hall.now))
 
     def with_cookie(self, value: str) -> Reply:
         """Sends the browser to the page with a ticket, or with none."""
@@ -272,7 +296,12 @@ class Server:
 ROUTES: dict[str, tuple[str, Callable[[Server, Connection], Reply | None]]] = {
     '/': ('GET', Server.page), '/another': ('GET', Server.another), '/hall.css': ('GET', Server.style),
     '/sitting.js': ('GET', Server.script), '/sitting': ('GET', Server.now), '/enter': ('POST', Server.enter),
-    '/leave': ('POST', Server.leave), '/move': ('POST', Server.move), '/hand-in': ('POST', Server.hand_in)}
+    '/leave': ('POST', Server.leave), '/move': ('POST', Server.move), '/hand-in': ('POST', Server.hand_in),
+    '/clock.js': ('GET', Server.clock_script), '/clock': ('GET', Server.time), '/receipt': ('GET', Server.receipt)}
+
+
+def spelled_out(status: HTTPStatus, told: dict[str, object]) -> Reply:
+    return Reply(status, DATA, json.dumps(told, separators=(',', ':')).encode())
 
 
 def token_of(ticket: str) -> str:

@@ -8,6 +8,7 @@ from office.asked import BLANK_HELP, PAPER_HELP, loaded
 from office.board import Board
 from office.called import Called, called_by, is_everywhere, is_here, name_of
 from office.candidates import candidates_in
+from office.clock import wanted
 from office.command import Fault, printable, write_out
 from office.hall import TICKETS, Hall
 from office.paper import paper_on, placed
@@ -18,6 +19,8 @@ MORE = """Each candidate gets a ticket. The answers handed in are files that ./d
 the same command goes on where it was. docs/HALL.md tells the person in charge more.
 
   ./desk sit paper.hex --candidates names.txt --answers answers
+  ./desk sit paper.hex --candidates names.csv --answers answers --minutes 90
+  ./desk sit paper.hex --candidates names.csv --answers answers --until 12:30
   ./desk sit paper.hex --candidates names.txt --answers answers --practice
   ./desk sit paper.hex --candidates names.txt --answers answers --bind 0.0.0.0 --name hall.example \\
       --certificate hall.crt --key hall.key
@@ -31,6 +34,10 @@ def arguments(parser: argparse.ArgumentParser) -> None:
                         help='the candidates: an id a line, or CSV with the columns id, name, minutes, paper')
     parser.add_argument('--answers', metavar='DIR', required=True,
                         help='where answers (DIR/NAME.hex), tickets and the log of moves are kept')
+    parser.add_argument('--minutes', metavar='N', help='how long a candidate has from entering, where the list does not '
+                        'say otherwise; then what stands is collected')
+    parser.add_argument('--until', metavar='HH:MM', help='the time of day at which what stands is collected, for all '
+                        'for whom the list has no minutes')
     parser.add_argument('--practice', action='store_true',
                         help='tells also which dependences are cut; without it only how many are not')
     parser.add_argument('--bind', metavar='ADDRESS', default=HERE,
@@ -80,7 +87,8 @@ def say_so(hall: Hall, address: str) -> None:
     try:
         write_out(f'{address} is open for {counted(len(hall.sittings), "candidate")}, '
                   f'{counted(hall.handed_in, "answer")} handed in\n'
-                  f'tickets: {printable(os.path.join(hall.answers, TICKETS))}; Ctrl-C ends the sitting\n'.encode())
+                  f'tickets: {printable(os.path.join(hall.answers, TICKETS))}; Ctrl-C ends the sitting\n'
+                  f'{hall.away and hall.away + chr(10)}'.encode())
     except Fault:
         hall.give_up()
         raise
@@ -92,12 +100,14 @@ def main(asked: argparse.Namespace) -> None:
     from office.serving import Server
     hold_standard_files()
     look_at(asked)
+    time = wanted(asked.minutes, asked.until)
     os.umask(0o077)  # what is kept is nobody else's to read
     desk, text = loaded(asked.paper, asked.blank)
     paper, name = paper_on(desk), printable(pathlib.Path(asked.paper).stem)
     candidates = candidates_in(asked.candidates, [name])
     tls = tls_with(asked.certificate, asked.key) if asked.certificate else None
-    with listening_at(asked.bind, asked.port) as listening, Hall(text, candidates, asked.answers) as hall:
+    with listening_at(asked.bind, asked.port) as listening, \
+            Hall(text, candidates, asked.answers, time) as hall:
         here = called(asked, listening.getsockname()[1])
         pages = Pages(Board(paper, placed(desk, b''), name, asked.practice), paper, name, here)
         server = Server(listening, tls, here, hall, pages, asked.practice)

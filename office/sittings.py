@@ -8,6 +8,7 @@ import re
 from dataclasses import dataclass, field
 
 from office.chain import OFFICE, Event
+from office.clock import MINUTE, Allowed, time_in
 from office.library import Desk
 from office.words import ranges
 
@@ -40,20 +41,26 @@ def made(desk: Desk, move: str) -> str:
     return 'The latest move is taken back.'
 
 
-State = tuple[ctypes.Structure, int, Event | None, str]
+State = tuple[ctypes.Structure, int, Event | None, str, int | None]
 
 
 @dataclass
 class Sitting:
-    """A candidate's desk, how many moves were made on it, the event that ended it, and the machine where it was entered
-    and not left. The hash of the ticket that opens it, and those of all texts that were handed in."""
+    """A candidate's desk, how many moves were made on it, the event that ended it, the machine where it was entered and
+    not left, and when it was first. The minutes that the list has for the candidate, those that all have, and those
+    that were given since, each with its time; whether it was closed. The hash of the ticket that opens it, and those of
+    all texts that were handed in."""
     candidate: str
     name: str
     minutes: int | None
     desk: Desk
+    allowed: Allowed = field(default_factory=Allowed)
     moves: int = 0
     ended: Event | None = None
     machine: str = ''
+    begun: int | None = None
+    extra: list[tuple[int, int]] = field(default_factory=list)
+    closed: bool = False
     ticket: str = ''
     given: set[str] = field(default_factory=set)
 
@@ -70,14 +77,42 @@ class Sitting:
         return self.desk.standing().gaps
 
     @property
+    def timed(self) -> bool:
+        """Whether there is a clock for it."""
+        return bool(self.minutes or self.allowed.minutes or self.allowed.until)
+
+    @property
+    def over(self) -> int | None:
+        """When its time is over; none where there is no clock, or where it has not begun. More minutes count from
+        there, or from when they were given, if it was over by then."""
+        minutes = self.minutes or self.allowed.minutes
+        end = self.allowed.until
+        if minutes is not None:
+            end = None if self.begun is None else self.begun + minutes * MINUTE
+        if end is not None:
+            for at, more in self.extra:
+                end = max(end, at) + more * MINUTE
+        return end
+
+    def is_over(self, now: int) -> bool:
+        """Whether nothing more is taken."""
+        return self.closed or self.over is not None and self.over <= now
+
+    @property
     def state(self) -> State:
-        return self.desk.held, self.moves, self.ended, self.machine
+        return self.desk.held, self.moves, self.ended, self.machine, self.begun
 
     def go_back(self, to: State) -> None:
-        self.desk.held, self.moves, self.ended, self.machine = to
+        self.desk.held, self.moves, self.ended, self.machine, self.begun = to
+
+    def begin(self, event: Event) -> None:
+        """Its time begins with the first thing that the candidate does."""
+        if self.begun is None:
+            self.begun = time_in(event.at)
 
     def make(self, event: Event) -> None:
         """Makes what the candidate did. What cannot be made is a ValueError, or refused."""
+        self.begin(event)
         if event.act == ENTER:
             self.machine = event.machine
         elif event.act == LEAVE:
@@ -106,6 +141,8 @@ class Sittings:
         self.blank: Desk | None = None
         self.by_identity: dict[str, Sitting] = {}
         self.by_ticket: dict[str, Sitting] = {}
+        self.allowed = Allowed()
+        self.extra: list[tuple[int, int]] = []
         self.closed = False
 
     def make(self, event: Event) -> None:
@@ -135,7 +172,8 @@ class Sittings:
         else:
             desk = Desk()
             desk.held = self.blank.held
-            self.by_identity[identity] = Sitting(identity, name, minutes, desk)
+            extra = [*self.extra] if self.allowed.until and not minutes else []
+            self.by_identity[identity] = Sitting(identity, name, minutes, desk, self.allowed, extra=extra)
 
     def give_ticket(self, _: Event, told: str) -> None:
         identity, ticket = told.split(' ')
@@ -145,19 +183,37 @@ class Sittings:
         self.by_ticket[ticket] = sitting
 
     def reopen(self, event: Event, identity: str) -> None:
-        if not self.by_identity[identity].ended:
+        sitting = self.by_identity[identity]
+        if not sitting.ended and not sitting.closed:
             raise ValueError(event.act)
-        self.by_identity[identity].ended = None
+        sitting.ended, sitting.closed = None, False
 
     def collect(self, event: Event, told: str) -> None:
         identity, text = told.split(' ')
         self.by_identity[identity].end(event, text)
 
     def close(self, _: Event, identity: str) -> None:
-        self.closed |= self.of(identity) is None
+        one = self.of(identity)
+        self.closed |= one is None
+        for sitting in [one] if one else self.by_identity.values():
+            sitting.closed = True
+
+    def set_minutes(self, _: Event, minutes: str) -> None:
+        self.allowed.minutes, self.allowed.until = int(minutes), None
+
+    def set_until(self, _: Event, at: str) -> None:
+        self.allowed.minutes, self.allowed.until = None, time_in(at)
+
+    def give_time(self, event: Event, told: str) -> None:
+        identity, minutes = told.split(' ')
+        one, given = self.of(identity), (time_in(event.at), int(minutes))
+        if one is None:
+            self.extra.append(given)
+        for sitting in [one] if one else self.by_identity.values():
+            sitting.extra.append(given)
 
     def hear(self, _: Event, told: str) -> None:
-        """What changes no sitting: a start, more time, a message. It must be of somebody who is here, or of all."""
+        """What changes no sitting: a start, a message. It must be of somebody who is here, or of all."""
         if told:
             self.of(told.split(' ')[0])
 
@@ -167,5 +223,6 @@ class Sittings:
 
 
 ACTS = {'paper': Sittings.take_paper, 'candidate': Sittings.seat, 'ticket': Sittings.give_ticket,
+        'minutes': Sittings.set_minutes, 'until': Sittings.set_until, 'extra': Sittings.give_time,
         'reopen': Sittings.reopen, COLLECTED: Sittings.collect, 'close': Sittings.close, 'opened': Sittings.hear,
-        'extra': Sittings.hear, 'message': Sittings.hear}
+        'message': Sittings.hear}

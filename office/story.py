@@ -25,8 +25,11 @@ receipt. Times are UTC.
 CODE = re.compile('[0-9a-f]{16,64}')
 # What the desk and the person in charge do, by the first word of the act.
 OFFICE_ACTS = {'paper': 'the paper is laid out', 'opened': 'the hall is opened', 'candidate': 'on the list as {}',
-               'ticket': 'a ticket is made', 'close': 'the sitting is closed', 'extra': 'more minutes: {}',
-               'message': 'told: {}', 'reopen': 'reopened', COLLECTED: 'collected'}
+               'minutes': 'minutes for all: {}', 'until': 'for all until {}', 'ticket': 'a ticket is made',
+               'close': 'the sitting is closed', 'extra': 'more minutes: {}', 'message': 'told: {}',
+               'reopen': 'reopened', COLLECTED: 'collected'}
+# Those of them that are about the hall and name no candidate.
+OF_THE_HALL = ('paper', 'opened', 'minutes', 'until')
 
 
 def arguments(parser: argparse.ArgumentParser) -> None:
@@ -71,16 +74,20 @@ def subject(event: Event) -> tuple[str, str]:
     if event.who != OFFICE:
         return event.who, ''
     word, _, rest = event.act.partition(' ')
-    who, _, more = rest.partition(' ') if word not in ('paper', 'opened') else (OFFICE, '', '')
+    who, _, more = rest.partition(' ') if word not in OF_THE_HALL else (OFFICE, '', rest)
     return who, more.split(' ', 2)[-1] if word == 'candidate' else more
+
+
+def of_office(event: Event) -> str:
+    """What the desk or the person in charge did."""
+    return OFFICE_ACTS[event.act.split(' ')[0]].format(subject(event)[1])
 
 
 def told(event: Event, sitting: Sitting) -> str:
     """An act in words, and the barriers after it where it is a move or an end."""
     if event.who == OFFICE:
-        word = event.act.split(' ')[0]
-        words = OFFICE_ACTS[word].format(subject(event)[1])
-        return f'{words}: {told_gaps(sitting.gaps)}; receipt {receipt_of(event)}' if word == COLLECTED else words
+        end = f': {told_gaps(sitting.gaps)}; receipt {receipt_of(event)}'
+        return of_office(event) + end * event.act.startswith(COLLECTED)
     at = f' at {event.machine}' * (event.machine != OFFICE)
     if event.act in (ENTER, LEAVE):
         return f'{"enters" if event.act == ENTER else "leaves"}{at}'
@@ -131,7 +138,7 @@ def of_code(answers: str, typed: str) -> Iterator[str]:
         if event.own.startswith(code):
             who = room.by_identity.get(subject(event)[0])
             found = event.seq, f'{when(event)}  ' + (
-                f'{called(who)}: {told(event, who)}' if who else OFFICE_ACTS[event.act.split(' ')[0]])
+                f'{called(who)}: {told(event, who)}' if who else of_office(event))
     if found is None:
         raise Fault(f'no line of this log has the code {printable(typed)}: lines are missing, or it is another log\'s',
                     REFUSED)

@@ -1,5 +1,7 @@
 """What a candidate's page is told of a sitting. In an examination that is how many dependences remain uncut; for
 practice also which are cut. What may not be shown is not told."""
+from office.chain import receipt_of
+from office.clock import time_in, told
 from office.sittings import Sitting, told_gaps
 
 AT_ONCE = 'Nothing can be changed afterwards.'
@@ -10,14 +12,34 @@ def state_of(barriers: int, uncut: int, dependences: int) -> str:
     return f'Barriers: {barriers}. Dependences uncut: {uncut} of {dependences}.'
 
 
-def sitting_told(sitting: Sitting, said: str, practice: bool) -> dict[str, object]:
+def how_ended(sitting: Sitting) -> str:
+    """How a sitting ended, for who sat there."""
+    return 'Collected' if sitting.collected else 'Handed in'
+
+
+def receipt_told(sitting: Sitting) -> str:
+    """What a candidate has in hand afterwards: when, with what, and the code of the line in the log."""
+    if sitting.ended is None:
+        return ''
+    at = told(time_in(sitting.ended.at))
+    return f'{how_ended(sitting)} {at}: {told_gaps(sitting.gaps)}. Receipt {receipt_of(sitting.ended)}.'
+
+
+def running(sitting: Sitting, now: int) -> dict[str, object]:
+    """What may change though nothing is clicked: the milliseconds that are left, none where no clock runs."""
+    left = None if sitting.over is None or sitting.handed_in else max(sitting.over - now, 0)
+    return {'moves': sitting.moves, 'handed_in': sitting.handed_in, 'left': left}
+
+
+def sitting_told(sitting: Sitting, said: str, practice: bool, now: int) -> dict[str, object]:
     """The whole sitting as the desk has it, whose it is, and words for what was asked. The cuts are two digits a
     dependence."""
-    now = sitting.desk.standing()
-    state = state_of(len(now.gaps), now.uncut, len(now.cuts))
+    stands = sitting.desk.standing()
+    state = state_of(len(stands.gaps), stands.uncut, len(stands.cuts))
     leaving = '' if sitting.handed_in else 'You have not handed in. '
-    shown = {'candidate': sitting.name, 'gaps': now.gaps, 'counts': [*now.counts.items()], 'moves': sitting.moves,
-             'handed_in': sitting.handed_in, 'state': f'Handed in. {state}' if sitting.handed_in else state,
-             'said': said, 'question': f'Hand in {told_gaps(now.gaps)}? {state} {AT_ONCE}',
-             'leaving': f'Leave this desk? {leaving}{AGAIN}'}
-    return {**shown, 'cuts': now.cuts.hex()} if practice else shown
+    shown: dict[str, object] = {
+        'candidate': sitting.name, 'gaps': stands.gaps, 'counts': [*stands.counts.items()],
+        'state': f'{how_ended(sitting)}. {state}' if sitting.handed_in else state,
+        'said': said, 'question': f'Hand in {told_gaps(stands.gaps)}? {state} {AT_ONCE}',
+        'leaving': f'Leave this desk? {leaving}{AGAIN}', 'receipt': receipt_told(sitting), **running(sitting, now)}
+    return {**shown, 'cuts': stands.cuts.hex()} if practice else shown

@@ -37,6 +37,8 @@ function show(told) {
     shown.gaps = told.gaps.join(' ');
     shown.question = told.question;
     shown.leaving = told.leaving;
+    shown.handedIn = told.handed_in;
+    document.dispatchEvent(new CustomEvent('told', { detail: told }));
 }
 
 function showCuts(told) {
@@ -180,5 +182,6 @@ document.addEventListener('visibilitychange', () => {
         ask('/sitting', undefined, '');
     }
 });
+document.addEventListener('look', () => ask('/sitting', undefined, ''));
 reach(gaps[0]);
 ask('/sitting', undefined, '');

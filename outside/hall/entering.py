@@ -13,7 +13,8 @@ from outside.trying import EXAMPLES, Tally
 NO_PAGE = 'There is no such page in this hall.'
 NO_NAME = 'The hall is not called by this address. Use the address that was handed out.'
 TOO_LONG = 'That is longer than anything the hall takes. Nothing was changed.'
-TOLD = {'candidate', 'gaps', 'counts', 'moves', 'handed_in', 'state', 'said', 'question', 'leaving'}
+TOLD = {'candidate', 'gaps', 'counts', 'moves', 'handed_in', 'state', 'said', 'question', 'leaving',
+        'receipt', 'left'}
 
 
 def typed(tally: Tally, seen: Browser, folder: pathlib.Path) -> None:

@@ -148,6 +148,15 @@ class Candidate:
             self.leave()
             raise
 
+    def enter(self) -> int:
+        """Enters by the form; the status."""
+        made = http.client.HTTPConnection('127.0.0.1', self.hall.port, timeout=30, source_address=(self.machine, 0))
+        made.request('POST', '/enter', f'ticket={self.hall.tickets[self.name]}')
+        reply = made.getresponse()
+        self.page = reply.read().decode()
+        made.close()
+        return reply.status
+
     def move(self, move: str) -> tuple[int, dict]:
         if not self.told:
             self.ask('/sitting')

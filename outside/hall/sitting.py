@@ -22,6 +22,7 @@ from outside.hall.entering import entering
 from outside.hall.opened import Candidate, Hall, until_there
 from outside.hall.pages import GAP, SHOWN, Page, complaints
 from outside.hall.readers import readers
+from outside.hall.timed import timed
 from outside.hall.windows import windows
 from outside.measure import papers
 from outside.trying import DESK, EXAMPLES, ROOT, Tally, run
@@ -204,7 +205,7 @@ def nothing_inline(tally: Tally, page: Page) -> None:
     asked = urllib.request.Request(page.hall.address, headers=page.hall.whose(page.name))
     with urllib.request.urlopen(asked) as reply:
         text = reply.read().decode()
-    found = re.findall(r'<script(?! src="/sitting\.js")|<style|\sstyle=|\son\w+=|javascript:|https?://', text)
+    found = re.findall(r'<script(?! src="/(?:sitting|clock)\.js")|<style|\sstyle=|\son\w+=|javascript:|https?://', text)
     tally.check('nothing inline, nothing from elsewhere', found == [], found)
     told = complaints(page.browser)
     tally.check('no complaint of the browser', told == [], told)
@@ -267,7 +268,7 @@ def main() -> None:
         two(tally, seen, folder)
         barred(tally, seen[0], folder)
         large(tally, seen[0], folder)
-        for part in (windows, entering, readers):
+        for part in (windows, entering, readers, timed):
             part(tally, Browser(driver), folder)
         by_itself(tally, driver, folder)
         in_front(tally, driver, folder)
