@@ -134,8 +134,8 @@ module _ (n : Nest) (key gs : List ℕ) where
 
     -- a gap of the placement that is out is out by a fact
     pub out-told : isCorrect n gs ≡ true → (ks : List Known) → AllSaid ks → (fs : List Fact) (g : ℕ) →
-        isIn g gs ≡ true → 0 < g → g < length (n .points) → d < g → g ≤ endOf (n .points) d → isOut n key d ks fs g ≡ true →
-        factOut n key fs g ≡ true
+        isIn g gs ≡ true → 0 < g → g < length (n .points) → d < g → g ≤ endOf (n .points) d →
+        isOut n key d ks fs g ≡ true → factOut n key fs g ≡ true
     out-told ok ks all fs g h pos len lo hi e =
         ⊎-elim barred (λ (z : (empty-own || (factOut n key fs g || knownOut n key d ks g)) ≡ true). ⊎-elim none last
         (or-true empty-own (factOut n key fs g || knownOut n key d ks g) z))
