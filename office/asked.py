@@ -3,11 +3,12 @@ import re
 from collections.abc import Callable
 from typing import TypeVar
 
+from office.causes import Ask, paper_cause, placement_cause
 from office.command import REFUSED, Fault, printable, read_in, tell
 from office.frames import DO, placement_text
-from office.library import Desk
-from office.refusal import Refused
-from office.words import RULES, ranges
+from office.library import Desk, Nest, refusal_of
+from office.refusal import Refusal, Refused
+from office.words import RULES, counted, joined, ranges
 
 Given = TypeVar('Given')
 TURNS, TURNS_HELP = 16, 'the turns of the loops in the order of their DOs, with commas between, or one number for all'
@@ -16,28 +17,52 @@ PAPER_HELP = 'a file with a nest text; - for standard input'
 BLANK_HELP = 'lets an empty text be the paper, which is the blank one'
 
 
-def refused(file: str, refusal: Refused, text: bytes) -> Fault:
-    """The refusal of a file's text in words."""
-    where, *rules = refusal.refusal.words(text)
+def said_of(text: bytes) -> Refusal | None:
+    """Why the desk refuses a text as a paper."""
+    return refusal_of(Desk().load, text)
+
+
+def refused(file: str, refusal: Refused, text: bytes, cause: str = '') -> Fault:
+    """The refusal of a file's text in words, with its cause where it is known."""
+    where, *rules = refusal.refusal.words(text, cause)
     return Fault('\n'.join([f'{printable(file)}: {where}', *rules]), REFUSED)
+
+
+def refused_paper(file: str, refusal: Refused, text: bytes, desk: Desk | None = None) -> Fault:
+    """The refusal of a paper; of one that is on a desk, by Plan."""
+    cause = paper_cause(refusal.refusal, text, said_of) if desk is None else blocked_cause(desk)
+    return refused(file, refusal, text, cause)
+
+
+def refused_placement(file: str, refusal: Refused, text: bytes, desk: Desk) -> Fault:
+    """The refusal of a placement text on the paper of a desk."""
+    return refused(file, refusal, text, answer_cause(refusal.refusal, text, desk))
+
+
+def answer_cause(refusal: Refusal, text: bytes, desk: Desk) -> str:
+    """Why a placement text is refused on the paper of a desk."""
+    return placement_cause(refusal, text, lambda some: refusal_of(desk.candidate_slip, some), len(desk.nest.points))
+
+
+def blocked_cause(desk: Desk) -> str:
+    """Why a paper has no key: a dependence that has barred gaps alone."""
+    barred = set(desk.nest.barred)
+    for number in range(len(desk.nest.dependences)):
+        gaps = desk.gaps(number)
+        if barred.issuperset(gaps):
+            return (f'dependence {number} has only barred gaps, {joined([*map(str, gaps)])}: no placement cuts it, so '
+                    'there is no key')
+    return ''
 
 
 def is_paper(text: bytes) -> bool:
     """Whether the desk accepts a text as a paper."""
-    try:
-        Desk().load(text)
-    except Refused:
-        return False
-    return True
+    return said_of(text) is None
 
 
 def is_placement(text: bytes, desk: Desk) -> bool:
     """Whether the desk reads a text as a placement on its paper."""
-    try:
-        desk.candidate_slip(text)
-    except Refused:
-        return False
-    return True
+    return refusal_of(desk.candidate_slip, text) is None
 
 
 def paper_text(file: str, blank: bool = True) -> bytes:
@@ -57,7 +82,7 @@ def loaded(file: str, blank: bool = True) -> tuple[Desk, bytes]:
     try:
         desk.load(text)
     except Refused as refusal:
-        raise refused(file, refusal, text) from refusal
+        raise refused_paper(file, refusal, text) from refusal
     return desk, text
 
 
@@ -67,7 +92,7 @@ def planned(file: str, blank: bool = True) -> tuple[Desk, bytes]:
     try:
         desk.plan()
     except Refused as refusal:
-        raise refused(file, refusal, text) from refusal
+        raise refused_paper(file, refusal, text, desk) from refusal
     return desk, text
 
 
@@ -78,7 +103,7 @@ def placement_asked(argument: str, desk: Desk) -> bytes:
         try:
             desk.candidate_slip(text)
         except Refused as refusal:
-            raise refused(argument, refusal, text) from refusal
+            raise refused_placement(argument, refusal, text, desk) from refusal
         return text
     gaps = {str(gap): gap for gap in range(1, len(desk.nest.points))}
     named = [word for word in re.split('[, ]+', argument) if word]
@@ -102,10 +127,30 @@ def turns_asked(argument: str, loops: int) -> bytes:
     return bytes(map(int, words * loops if len(words) == 1 else words))
 
 
-def turned(desk: Desk, argument: str, call: Callable[[Desk, bytes], Given]) -> Given:
-    """What a call gives under the turns that an argument names."""
+def turned(desk: Desk, argument: str, call: Callable[[Desk, bytes], Given],
+           tried: Callable[[Desk, bytes], object] | None = None) -> Given:
+    """What a call gives under the turns that an argument names. By another call, which costs less, it may be tried
+    which turns would do."""
+    turns = turns_asked(argument, desk.nest.points.count(DO))
     try:
-        return call(desk, turns_asked(argument, desk.nest.points.count(DO)))
+        return call(desk, turns)
     except Refused as refusal:
-        rule = f'number {refusal.refusal.number}: {RULES[refusal.refusal.number]}'
-        raise Fault(f'turns {argument} are refused for this paper\n{rule}', REFUSED) from refusal
+        cause = turns_cause(desk.nest, turns, lambda some: refusal_of(lambda told: (tried or call)(desk, told), some))
+        raise Fault(f'turns {argument} are refused for this paper\nnumber {refusal.refusal.number}: {cause}',
+                    REFUSED) from refusal
+
+
+def turns_cause(nest: Nest, turns: bytes, ask: Ask) -> str:
+    """Why no calls are counted under turns: the paper, how many they are, or one of them, tried beside others."""
+    loops = [d for d, kind in enumerate(nest.points) if kind == DO]
+    if nest.barred or nest.flagged:
+        return f'on a paper with {"barred gaps" if nest.barred else "loops that may not run"} no calls are counted'
+    if len(turns) != len(loops):
+        return (f'this paper has {counted(len(loops), "loop")}, and {counted(len(turns), "number")} of turns '
+                f'{"is" if len(turns) == 1 else "are"} given: give one for each loop, or one for all')
+    base = next(bytes([many] * len(loops)) for many in range(256) if ask(bytes([many] * len(loops))) is None)
+    for at, d in enumerate(loops):
+        fits = [many for many in range(256) if ask(base[:at] + bytes([many]) + base[at + 1:]) is None]
+        if turns[at] not in fits:
+            return f'loop {d} may have {fits[0]} to {fits[-1]} turns, and {turns[at]} are given'
+    return RULES[17]

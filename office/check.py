@@ -1,7 +1,7 @@
 """./desk check: whether a paper is accepted, and what is wrong with it in words."""
 import argparse
 
-from office.asked import PAPER_HELP, refused
+from office.asked import PAPER_HELP, refused_paper
 from office.command import read_in, write_out
 from office.frames import DO
 from office.library import Desk
@@ -22,7 +22,7 @@ def main(asked: argparse.Namespace) -> None:
     try:
         desk.load(text)
     except Refused as refusal:
-        raise refused(asked.paper, refusal, text) from refusal
+        raise refused_paper(asked.paper, refusal, text) from refusal
     paper = paper_on(desk)
     parts = [counted(len(paper.points), 'point'), counted(paper.points.count(DO), 'loop'),
              f'{max(paper.depth[d] for d in paper.end) + 1} deep', counted(len(paper.dependences), 'dependence')]
@@ -35,4 +35,4 @@ def main(asked: argparse.Namespace) -> None:
     try:
         desk.plan()
     except Refused as refusal:
-        raise refused(asked.paper, refusal, text) from refusal
+        raise refused_paper(asked.paper, refusal, text, desk) from refusal

@@ -6,6 +6,9 @@ from office.header import DECLARED
 DO, ENDDO, STATEMENT, INDEPENDENT, CARRIED, BARRED = (
     DECLARED.numbers[f'DESK_{kind}'] for kind in ('DO', 'ENDDO', 'STATEMENT', 'INDEPENDENT', 'CARRIED', 'BARRED'))
 FLAGGED, BARRIER, COUNT, FIRST_UNCUT, VERDICT, CUT, REFUSAL = 0x04, 0x21, 0x22, 0x23, 0x24, 0x25, 0x2F
+# So many a paper has at most; loops are at most so many deep.
+POINTS, DEPENDENCES, BARS = (DECLARED.numbers[f'DESK_{many}'] for many in ('POINTS', 'DEPENDENCES', 'BARS'))
+DEEP = 8
 # In a line 23 of a slip: no dependence is uncut.
 NONE = 0xFFFF
 

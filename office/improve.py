@@ -23,7 +23,8 @@ def main(asked: argparse.Namespace) -> None:
     if not 0 <= asked.budget < MOST:
         raise Fault(f'a budget is a number of tries from 0: {asked.budget}')
     desk, _ = planned(asked.paper)
-    found = turned(desk, asked.turns, lambda desk, turns: Desk.improve(desk, turns, asked.budget))
+    found = turned(desk, asked.turns, lambda desk, turns: Desk.improve(desk, turns, asked.budget),
+                   lambda desk, turns: Desk.improve(desk, turns, 0))
     lines = [gaps_named(found.gaps), counted(found.calls, 'call'),
              f'{counted(found.tries, "try", "tries")}, ended by {ENDED[found.ended]}',
              f'floor {found.floor:,}: at most {counted(found.calls - found.floor, "call")} too many', '']

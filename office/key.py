@@ -1,19 +1,19 @@
 """./desk key: the key of a paper as the program writes it, or in words."""
 import argparse
 
-from office.asked import PAPER_HELP, paper_text, refused
+from office.asked import PAPER_HELP, paper_text, refused_paper
+from office.causes import LONGEST
 from office.command import write_out
 from office.frames import COUNT, REFUSAL, text_of
 from office.library import Desk
 from office.paper import paper_on, placed
-from office.refusal import Refusal, Refused
+from office.refusal import BLOCKED, Refusal, Refused
 from office.trees import drawn
 from office.words import gaps_named
 
 HELP = 'writes the key of a paper and the counts of its loops, as the program does'
 MORE = 'A refused paper gets the line 2f of its refusal, and standard error has it in words.'
-# The program refuses a longer text whatever it says (docs/RULES.md, "The program").
-LONGEST, TOO_LONG = 8192, Refusal(5, 0)
+TOO_LONG = Refusal(5, 0)
 
 
 def answer_to(text: bytes, desk: Desk) -> bytes:
@@ -45,5 +45,5 @@ def main(asked: argparse.Namespace) -> None:
         number, line = refusal.refusal.number, refusal.refusal.line
         if not asked.words:
             write_out(text_of([[REFUSAL, number, line >> 8, line & 255]]))
-        raise refused(asked.paper, refusal, text) from refusal
+        raise refused_paper(asked.paper, refusal, text, desk if number == BLOCKED else None) from refusal
     write_out(in_words(desk) if asked.words else answer)

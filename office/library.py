@@ -201,6 +201,15 @@ def given(reply: ctypes.Structure) -> ctypes.Structure:
     return reply
 
 
+def refusal_of(call: Callable[[bytes], object], text: bytes) -> Refusal | None:
+    """Why a call refuses a text; None where it does not."""
+    try:
+        call(text)
+    except Refused as refused:
+        return refused.refusal
+    return None
+
+
 def members(chosen: ctypes.Structure) -> list[int]:
     """The gaps of a set of them, or the DOs of its loops, rising."""
     bits = f'{int.from_bytes(bytes(chosen), sys.byteorder):b}'

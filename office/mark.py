@@ -6,7 +6,7 @@ import pathlib
 from collections import Counter
 from dataclasses import dataclass, field
 
-from office.asked import BLANK_HELP, PAPER_HELP, planned
+from office.asked import BLANK_HELP, PAPER_HELP, answer_cause, planned
 from office.candidates import IDENTITY, IDENTITY_FORM, Candidate, candidates_in, folded
 from office.command import FAILED, REFUSED, Fault, printable, read_plain, tell, write_out
 from office.keeping import EVERY, Answer, Marker, PaperText, finding_of, keep, marker, telling
@@ -55,7 +55,8 @@ class Marking:
             return Answer(candidate, None, Finding(UNREAD))
         finding = finding_of(self.desk, text)
         if finding.number is not None and finding.line is not None:
-            where, *rules = Refusal(finding.number, finding.line).words(text)
+            refusal = Refusal(finding.number, finding.line)
+            where, *rules = refusal.words(text, answer_cause(refusal, text, self.desk))
             self.say(f'{printable(file)}: {where}: {"; ".join(rules)}', REFUSED)
         return Answer(candidate, text, finding)
 

@@ -1,14 +1,16 @@
 """A refusal in words: the line in decimal, the line as typed, the rule, and slips of the keyboard by name.
 
-  python3 -m office.refusal NAME ANSWER < TEXT    NAME: who says it; ANSWER: the program's line 2f for the text
+  python3 -m office.refusal NAME ANSWER PROGRAM < TEXT    NAME: who says it; ANSWER: the program's line 2f for the text
 """
+import subprocess
 import sys
 from dataclasses import dataclass
 
+from office.frames import REFUSAL
 from office.typed import line_at
 from office.words import RULES
 
-DIGITS_RULE = 1
+DIGITS_RULE, BLOCKED = 1, 15
 
 
 @dataclass(frozen=True)
@@ -22,8 +24,8 @@ class Refusal:
     def rule(self) -> str:
         return f'number {self.number}: {RULES[self.number]}'
 
-    def words(self, text: bytes) -> list[str]:
-        """What the refusal of a text means, a sentence a line."""
+    def words(self, text: bytes, cause: str = '') -> list[str]:
+        """What the refusal of a text means, a sentence a line: where, and the cause if it is known, else the rule."""
         line = line_at(text, self.line)
         if line is not None:
             where = f'line {self.line} is refused: {line.quoted()}'
@@ -32,7 +34,8 @@ class Refusal:
         else:
             where = 'the text is refused as a whole'
         slips = line.slips() if line is not None and self.number == DIGITS_RULE else []
-        return [where, self.rule, *slips]
+        cause = cause or '; '.join(slips)
+        return [where, f'number {self.number}: {cause}' if cause else self.rule]
 
 
 class Refused(Exception):
@@ -49,8 +52,18 @@ def refusal_in(answer: str) -> Refusal:
     return Refusal(number, 256 * high + low)
 
 
-def main(name: str, answer: str) -> None:
-    for sentence in refusal_in(answer).words(sys.stdin.buffer.read()):
+def answered(program: str, text: bytes) -> Refusal | None:
+    """Why the program refuses a text; None where it has a key, or can have none."""
+    answer = subprocess.run([program], input=text, stdout=subprocess.PIPE, check=True).stdout.decode()
+    refusal = refusal_in(answer) if answer.startswith(f'{REFUSAL:02x}') else None
+    return refusal if refusal and refusal.number != BLOCKED else None
+
+
+def main(name: str, answer: str, program: str) -> None:
+    from office.causes import paper_cause  # which has its refusals from here
+    text, refusal = sys.stdin.buffer.read(), refusal_in(answer)
+    cause = paper_cause(refusal, text, lambda some: answered(program, some))
+    for sentence in refusal.words(text, cause):
         print(f'{name}: {sentence}', file=sys.stderr)
 
 

@@ -1,9 +1,12 @@
 """Marks as rows of a table: CSV for spreadsheets, JSON for programs."""
 import csv
+import functools
 import io
 import json
 from collections.abc import Iterable
 
+from office.asked import answer_cause
+from office.library import Desk, refusal_of
 from office.marks import Finding, Mark
 from office.refusal import Refusal
 from office.register import Register
@@ -41,8 +44,16 @@ def words(register: Register, mark: Mark) -> str | None:
     text = register.answer(mark.answer) if mark.answer and mark.verdict == REFUSED else None
     if text is None or mark.number is None or mark.line is None:
         return None
-    where, *rules = Refusal(mark.number, mark.line).words(text)
+    refusal, desk = Refusal(mark.number, mark.line), on_desk((register.paper(mark.paper) or ('', b''))[1])
+    where, *rules = refusal.words(text, '' if desk is None else answer_cause(refusal, text, desk))
     return f'{where}: {"; ".join(rules)}'
+
+
+@functools.lru_cache(8)
+def on_desk(text: bytes) -> Desk | None:
+    """A desk with a paper; None where the desk refuses it."""
+    desk = Desk()
+    return desk if refusal_of(desk.load, text) is None else None
 
 
 def guarded(cell: Cell) -> Cell:

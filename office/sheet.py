@@ -7,7 +7,8 @@ import argparse
 import re
 
 from office.command import REFUSED, Fault, printable, read_in, write_out
-from office.library import run_ends
+from office.header import DECLARED
+from office.library import refusal_of, run_ends
 from office.refusal import Refused
 from office.words import RULES
 
@@ -16,7 +17,8 @@ MORE = """a sheet, a line for each phase, a cell for each processor from 0 on; #
   5 3 8                  durations, 0 to 65535
   4:0,1 2:1 6:0,1,2      durations, and the processors that each waits for, itself too
 """
-BITS, LONGEST = 16, 65535
+BITS, LONGEST, SIZE = 16, 65535, 19
+PROCESSORS, PHASES = (DECLARED.numbers[f'DESK_{many}'] for many in ('PROCESSORS', 'PHASES'))
 FIRST, LATER = re.compile('([0-9]{1,5})'), re.compile('([0-9]{1,5}):([0-9]{1,2}(?:,[0-9]{1,2})*)')
 
 
@@ -47,6 +49,31 @@ def sheet_in(text: bytes, file: str) -> tuple[int, int, list[int], list[int]]:
     return many, len(phases), [duration for duration, _ in cells], [waits for _, waits in cells[many:]]
 
 
+def size_cause(processors: int, phases: int) -> str:
+    """Which of a sheet's numbers is out of range."""
+    if not phases:
+        return 'it has no phase: a line has the durations of a phase, a number for each processor'
+    if processors > PROCESSORS:
+        return f'it has {processors} processors, and a sheet has at most {PROCESSORS}'
+    return f'it has {phases} phases, and a sheet has at most {PHASES}'
+
+
+def waits_cause(processors: int, phases: int, durations: list[int], waits: list[int]) -> str:
+    """Which set of waits is at fault, and how. Each is tried in a sheet where every other waits for itself alone."""
+    alone = [1 << at % processors for at in range(len(waits))]
+    for at, some in enumerate(waits):
+        def said(told: int) -> bool:
+            tried = alone[:at] + [told] + alone[at + 1:]
+            return refusal_of(lambda _: run_ends(processors, phases, durations, tried), b'') is None
+        if not said(some):
+            phase, k = at // processors + 2, at % processors
+            if said(some | alone[at]):
+                return f'processor {k} does not wait for itself in phase {phase}: name it among those it waits for'
+            return (f'in phase {phase} processor {k} waits for one that the sheet does not have: it has 0 to '
+                    f'{processors - 1}')
+    return RULES[20]
+
+
 def arguments(parser: argparse.ArgumentParser) -> None:
     parser.add_argument('sheet', metavar='SHEET', help='a file with a timing sheet; - for standard input')
 
@@ -56,6 +83,7 @@ def main(asked: argparse.Namespace) -> None:
     try:
         waiting, barriers = run_ends(*sheet)
     except Refused as refusal:
-        rule = f'number {refusal.refusal.number}: {RULES[refusal.refusal.number]}'
-        raise Fault(f'{printable(asked.sheet)}: the sheet is refused\n{rule}', REFUSED) from refusal
+        number = refusal.refusal.number
+        cause = size_cause(*sheet[:2]) if number == SIZE else waits_cause(*sheet)
+        raise Fault(f'{printable(asked.sheet)}: the sheet is refused\nnumber {number}: {cause}', REFUSED) from refusal
     write_out(f'with its waits the run ends at {waiting:,}\nwith all barriers kept it ends at {barriers:,}\n'.encode())

@@ -2,6 +2,7 @@
 the verdict; a refused answer has a note with its line and the cause."""
 import html
 
+from office.asked import answer_cause
 from office.frames import frames_of
 from office.marks import Mark
 from office.printed import begins, document, facts, paragraphs
@@ -69,7 +70,8 @@ def note_page(called: str, on: OnDesk, mark: Mark, answer: bytes, reader: str) -
     """The note about an answer that was refused."""
     title = 'An answer that was refused'
     told = about(called, on, mark) | (made_by(mark) if reader == EXAMINER else {})
-    words = Refusal(mark.number or 0, mark.line or 0).words(answer)
+    refusal = Refusal(mark.number or 0, mark.line or 0)
+    words = refusal.words(answer, answer_cause(refusal, answer, on.desk))
     body = [f'<h1>{title}</h1>\n', facts(told), paragraphs([f'{sentence[0].upper()}{sentence[1:]}.'
                                                            for sentence in words])]
     return document(KIND, f'{title}: {of_whom(called, mark)}, {on.text.name}', STYLE, ''.join(body))

@@ -1,9 +1,9 @@
 """./desk textbook: the placement of the textbook method for a paper of one loop."""
 import argparse
 
-from office.asked import PAPER_HELP, is_placement, loaded, refused
+from office.asked import PAPER_HELP, blocked_cause, is_placement, loaded, refused
 from office.command import Fault, write_out
-from office.frames import placement_text
+from office.frames import DO, placement_text
 from office.refusal import Refused
 from office.result import hand_over, result_arguments
 from office.words import gaps_named
@@ -25,7 +25,10 @@ def main(asked: argparse.Namespace) -> None:
     try:
         gaps = desk.textbook()
     except Refused as refusal:
-        raise refused(asked.paper, refusal, text) from refusal
+        many = desk.nest.points.count(DO)
+        cause = f'the textbook method is for papers of one loop, and this one has {many}' if many > 1 else (
+            blocked_cause(desk))
+        raise refused(asked.paper, refusal, text, cause) from refusal
     if asked.words:
         write_out(f'textbook: {gaps_named(gaps)}\n'.encode())
     else:

@@ -1,6 +1,8 @@
 """A text as somebody typed it: one of its lines quoted, and slips of the keyboard named."""
 from dataclasses import dataclass
 
+from office.words import counted
+
 QUOTED = 48
 MARKS = {b'\xef\xbb\xbf': 'a byte order mark (ef bb bf)', b'\xff\xfe': 'the byte order mark of UTF-16 (ff fe)',
          b'\xfe\xff': 'the byte order mark of UTF-16 (fe ff)'}
@@ -40,7 +42,7 @@ class Line:
         if not digits:
             found.append('it is empty: take the line out')
         elif not found and len(digits) % 2 == 1:
-            found.append(f'it has {len(digits)} digits, an odd number')
+            found.append(f'it has {counted(len(digits), "digit")}, an odd number')
         if not self.ended:
             found.append('no line feed comes after it: end the text with one')
         return found

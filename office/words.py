@@ -1,4 +1,6 @@
 """Words for the desk's numbers and verdicts. These tables stand once; every command takes its words from them."""
+from collections.abc import Sequence
+
 from office.header import DECLARED
 
 RULES = {
@@ -39,6 +41,12 @@ REFUSED, UNREAD, ABSENT = 'Refused', 'Not read', 'Absent'
 def counted(many: int, one: str, more: str = '') -> str:
     """A number of things: 1 loop, 2 loops."""
     return f'{many:,} {one if many == 1 else more or one + "s"}'
+
+
+def joined(words: Sequence[str]) -> str:
+    """Words in a row: a; a and b; a, b and c."""
+    *some, end = words
+    return f'{", ".join(some)} and {end}' if some else end
 
 
 def runs_of(numbers: list[int]) -> list[str]:

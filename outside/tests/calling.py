@@ -5,7 +5,7 @@ Needs the library's archive (rt staticlib host).
 import pathlib
 import tempfile
 
-from office.spell import spelled
+from office.listing import spelled
 from outside.trying import DESK, ROOT, Seen, Tally, run
 
 # A loop that may not run between two statements: the key's barrier for both dependences stands in it.

@@ -1,23 +1,235 @@
-"""What people get wrong, and what they are told: one cause, its place and a cure. The last line is 'N passed, M failed'.
+"""What people get wrong, and what they are told: one cause, its place and a cure.
 
-Needs target/bin/key and the library's archive (rt staticlib host).
+The last line is 'N passed, M failed'. Needs target/bin/key and the library's archive (rt staticlib host).
 """
 import os
 import pathlib
 import tempfile
+import unicodedata
+from collections.abc import Callable
 
-from outside.trying import DESK, DRAW, EXAMPLES, ROOT, Seen, Tally, run
+from office import day
+from office.asked import answer_cause, planned
+from office.causes import paper_cause
+from office.command import Fault
+from office.keeping import finding_of
+from office.listing import spelled
+from office.refusal import Refusal, answered
+from outside.trying import DESK, DRAW, EXAMPLES, KEY, PROGRAM, ROOT, Seen, Tally, run
 
 P, Q, R = (ROOT / 'examples' / f'{name}.hex' for name in 'pqr')
 LISTING = b'DO a\n  x\n  y\nENDDO a\nx -> y\n'
 LISTING_TEXT = b'01\n03\n03\n02\n110102\n'
 
 
+# Papers that are refused: the text, the number, and the words of the cause with its cure.
+NINE, LONG = b'01\n' * 9, b'01\n' + b'03\n' * 255
+TWO = b'01\n01\n03\n02\n03\n02\n'
+PAPERS = [
+    (b'01\n021\n', 1, 'it has 3 digits, an odd number'), (b'01\n0\n', 1, 'it has 1 digit, an odd number'),
+    (b'01\r\n02\r\n', 1, 'the line ends in CRLF (0d 0a): save the text with line feeds alone'),
+    ('01\n02\n'.encode('utf-16-le'), 1, 'the file is UTF-16: save it as plain text, in UTF-8'),
+    ('\ufeff01\n02\n'.encode('utf-16-be'), 1, 'the file is UTF-16'),
+    (b'01\n2105\n', 2, 'no line of a paper begins with 21'), (b'01\n02\n1100\n', 2, 'a line 11 s t has 6 digits, and '
+                                                               'this one has 4'),
+    (b'01\n0103\n', 2, 'a line 01 has 2 digits, and this one has 4'),
+    (b'01\n02\n12000000aa\n', 2, 'a line 12 d s t has 8 digits, and this one has 10'),
+    (b'2105\n210b\n', 2, 'this is a placement text, as answers are: the paper comes first'),
+    (b'2105\n220001\n', 2, 'this is a key with its counts, and no paper'), (b'230004\n220000\n', 2, 'this is a slip'),
+    (b'2f070012\n', 2, 'this is what ./key says of a paper that is refused'),
+    (b'<svg xmlns="">\n', 1, 'this is a picture'), (b'<!DOCTYPE html>\n', 1, 'this is a page of HTML'),
+    (b'01\n03\n02\n110001\n03\n', 3, 'a point stands behind line 4, which is none: all points come first'),
+    (b'03\n', 4, 'it stands before any DO: a paper begins with the DO (01)'), (b'02\n', 4, 'it stands before any DO'),
+    (b'01\n02\n03\n', 4, 'it stands behind line 2, which closes the outermost loop'),
+    (b'110102\n', 4, 'no point stands before it'), (b'1301\n', 4, 'no point stands before it'),
+    (b'01\n03\n04\n03\n02\n110103\n', 4, 'loop 0, opened on line 1, is not closed: an ENDDO (02) is missing'),
+    (b'01\n01\n02\n01\n03\n02\n04\n03\n', 4, 'the loops opened on lines 1 and 7 are not closed: 2 times ENDDO (02)'),
+    (b'01\n' + b'01\n' * 7 + b'02\n' * 7, 4, 'loop 0, opened on line 1, is not closed'),
+    (LONG + b'1301\n', 4, 'a loop is not closed: an ENDDO (02) is missing'),
+    (NINE, 5, 'it opens a loop 9 deep: loops are at most 8 deep'),
+    (LONG + b'03\n', 5, 'one point too many: a paper has at most 256'), (LONG + b'01\n', 5, 'one point too many'),
+    (TWO + b'110104\n' * 513, 5, 'one dependence too many: a paper has at most 512'),
+    (b'01\n03\n02\n' + b'1301\n' * 256, 5, 'one barred gap too many: a paper has at most 255'),
+    (TWO + b'110610\n', 6, 's is 6, and there is no such point: the points of this paper are 0 to 5, in texts 00'),
+    (b'01\n' + b'03\n' * 12 + b'02\n110311\n', 6, 't is 17, and there is no such point: the points of this '
+     'paper are 0 to 13, in texts 00 to 0d; 11 in decimal is typed 0b'),
+    (TWO + b'110304\n', 6, 'a dependence begins at a statement or a DO, and s, point 3, an ENDDO, is neither'),
+    (TWO + b'110001\n', 6, 'a dependence ends at a statement or an ENDDO, and t, point 1, a DO, is neither'),
+    (TWO + b'12020204\n', 6, 'd is the DO of a loop, and d, point 2, a statement, is none'),
+    (TWO + b'12090204\n', 6, 'd is 9, and there is no such point'),
+    (TWO + b'110402\n', 7, 'it leads from point 4 back to point 2, which only a dependence that a loop carries '
+     'does; did you mean 12000402?'),
+    (b'01\n01\n03\n03\n02\n02\n110302\n', 7, 'did you mean 12010302 or 12000302?'),
+    (TWO + b'110202\n', 7, 'it leads from point 2 to itself'), (TWO + b'110403\n', 7, 'did you mean 12000403?'),
+    (TWO + b'12010204\n', 7, 'point 4 is not inside loop 1, which carries only what begins and ends inside it; did you '
+     'mean 12000204?'),
+    (TWO + b'12010404\n', 7, 'point 4 is not inside loop 1'), (TWO + b'12010005\n', 7, 'point 0 and point 5 are not'),
+    (b'01\n03\n02\n1303\n', 8, 'gap 3 is none of this paper: its gaps are 1 and 2, in texts 01 and 02'),
+    (b'01\n02\n1300\n', 8, 'gap 0 is none of this paper: its only gap is 1, in texts 01'),
+    (TWO + b'1301\n', 14, 'only a paper of one loop has barred gaps, and this one has 2 loops'),
+    (b'01\n03\n03\n02\n110102\n1302\n', 15, 'dependence 0 has only barred gaps, 2: no placement cuts it')]
+# Answers to P that are refused: the text, number and line, and the words of the cause with its cure.
+GAPS_OF_P = 'its gaps are 1 to 13, in texts 01 to 0d'
+ANSWERS = [
+    (b'2105\n210B\n', 1, 2, 'it has capital digits: type a to f small'), (b'2105\r\n210b\r\n', 1, 1, 'CRLF'),
+    (b'5, 11\n', 1, 1, 'these are gaps in decimal: a placement text has 2105 and 210b for them, a line each; '
+     f'{GAPS_OF_P}'),
+    (b'5\n11', 1, 1, 'a placement text has 2105 and 210b for them'), (b'05 11', 1, 1, '2105 and 210b'),
+    (b'11\n', 2, 1, 'these are gaps in decimal: a placement text has 210b for them'),
+    (b'5, 14\n', 1, 1, f'these are numbers in decimal, and a placement text has lines 21 and a gap alone; {GAPS_OF_P}'),
+    ('2105\n'.encode('utf-16'), 1, 1, 'the file is UTF-16: save it as plain text'),
+    (EXAMPLES['p'], 2, 1, 'this is a paper, and no placement text'), (LISTING, 1, 1, 'this is a listing of a paper'),
+    (b'2105\n210b\n220000\n', 2, 3, 'the counts of a key are no part of it'), (b'23ffff\n', 2, 1, 'this is a slip'),
+    (b'210b0c\n', 2, 1, 'a line 21 g has 4 digits, and this one has 6'),
+    (b'0105\n', 2, 1, 'no line of a placement text begins with 01'),
+    (b'2105\n2111\n', 8, 2, f'gap 17 is none of this paper: {GAPS_OF_P}; 11 in decimal is typed 0b'),
+    (b'2100\n', 8, 1, f'gap 0 is none of this paper: {GAPS_OF_P}'),
+    (b'21ff\n', 8, 1, f'gap 255 is none of this paper: {GAPS_OF_P}\n'),
+    (b'210b\n2105\n', 8, 2, 'gap 5 stands after gap 11: gaps rise'), (b'2105\n2105\n', 8, 2, 'gap 5 stands twice')]
+# Listings with a mistake: the lines, where it is, the words of the cause, and those of the cure.
+BODY = 'DO a\n  x\n  y\nENDDO a\n'
+LISTINGS = [
+    ('DO a\n  x\n  DO b\n    y\n  ENDDO\nx -> y\n', '1, column 1', 'loop a, opened on line 1, is not closed', 'an '),
+    ('DO a\n DO b\n  x\n', '2, column 2', 'the loops opened on lines 1 and 2 are not closed', '2 times ENDDO is'),
+    ('DO a\n  x\n ENDO\n', '1, column 1', 'is not closed', 'ENDO on line 3 is a statement: did you mean ENDDO?'),
+    ('DO a\n  x\n ENDO a\n', '3, column 2', 'a statement is a name alone', 'did you mean ENDDO?'),
+    ('DO a\n DO b\n x\n ENDDO a\n', '4, column 8', 'ENDDO a stands where loop b of line 2 is open', 'mean ENDDO b?'),
+    (BODY + 'ENDDO a\n', '5, column 7', 'ENDDO a stands where no loop is open', ''),
+    (BODY + 'late\n', '5, column 1', 'it stands behind line 4, which closes the outermost loop', ''),
+    ('x\n' + BODY.replace('x', 'z'), '1, column 1', 'before any DO: a paper begins with the DO of its outermost', ''),
+    (BODY + 'y -> x\n', '5, column 1', 'it leads from y back to x', 'did you mean y -> x round a?'),
+    (BODY + 'x -> x\n', '5, column 1', 'it leads from x to itself', 'did you mean x -> x round a?'),
+    (BODY + 'X -> y\n', '5, column 1', 'nothing is called X', 'did you mean x?'),
+    (BODY + 'x -> yy\n', '5, column 6', 'nothing is called yy', 'did you mean y?'),
+    (BODY + 'x -> y round x\n', '5, column 14', 'behind round stands the name of a loop, and x is none', ''),
+    (BODY + 'ENDDO a -> x\n', '5, column 7', 'begins at a statement or a DO, and ENDDO a is neither', ''),
+    (BODY + 'x -> DO a\n', '5, column 9', 'ends at a statement or an ENDDO, and DO a is neither', ''),
+    (BODY + 'DO x -> y\n', '5, column 4', 'x is a statement, and no loop', 'leave DO out'),
+    (BODY + 'x => y\n', '5, column 3', 'a statement is a name alone', 'an arrow is typed ->'),
+    (BODY + 'x - y\n', '5, column 3', 'a statement is a name alone', 'an arrow is typed ->'),
+    (BODY + 'x ->\n', '5, column 3', 'behind the arrow a name is missing', 'A -> B round LOOP'),
+    (BODY + '-> y\n', '5, column 1', 'before the arrow a name is missing', 'A -> B round LOOP'),
+    (BODY + 'x -> y round\n', '5, column 8', 'behind round stands the name of a loop alone', ''),
+    (BODY + 'x -> y arround a\n', '5, column 8', 'arround is no part of it', 'did you mean round?'),
+    (BODY + 'x -> y+1\n', '5, column 7', '+ is no part of it', 'letters of any script'),
+    ('DO a\n  x = y + 1\nENDDO\n', '2, column 5', 'a statement is a name alone', 'can stand behind a #'),
+    ('DO a\n  x-1\nENDDO\n', '2, column 4', 'a statement is a name alone', 'letters of any script, digits and _'),
+    ('DO a\n  2x\nENDDO\n', '2, column 3', '2x begins no line', 'begins with a letter'),
+    ('DO a\n  x\n  x\nENDDO\n', '3, column 3', 'x stands on line 2 already', 'a name of its own'),
+    ('DO a may not\nENDDO\n', '1, column 6', 'or may not run', ''),
+    ('for i in n\nend\n', '1, column 1', '', 'did you mean DO?'),
+    ('DO 10 i = 1, n\nENDDO\n', '1, column 4', '10 is no name of a loop', 'begins with a letter'),
+    ('DO k\n DO i = 1, n\n  x\n ENDDO\n DO i = 1, n\n  y\n ENDDO\nENDDO\nx -> x round i\n', '9, column 14',
+     'i is the name of several loops, on lines 2 and 5', 'names of their own'),
+    ('DO a\n x\nbarred |\nENDDO\n', '3, column 1', 'a gap lies before a point', ''),
+    ('DO a\n4 bard | x\nENDDO\n', '2, column 3', 'left of a bar stands the number of a gap', ''),
+    (BODY + 'größe -> 名\n', '5, column 1', 'nothing is called größe', ''),
+    (BODY + f'{"x" * 90} -> y -> {"z" * 90}\n', '5, column 97', '-> is no part of it', ''),
+    (BODY.replace('x', '名').replace('y', 'größe') + '名 -> grösse\n', '5, column 6', 'grösse', 'did you mean größe?')]
+
+
+def said(call: Callable[..., object], *told: object) -> list[str]:
+    """The lines that a fault becomes, behind its status."""
+    try:
+        call(*told)
+    except Fault as fault:
+        return [str(fault.status), *str(fault).splitlines()]
+    return ['0']
+
+
+def causes(tally: Tally, folder: pathlib.Path) -> None:
+    """Of each number the one cause that it is, by ./desk and, of papers, by ./key alike; what is marked stays."""
+    paper, answer = folder / 'paper.hex', folder / 'anna.hex'
+    for text, number, words in PAPERS:
+        paper.write_bytes(text)
+        status, *told = said(planned, str(paper))
+        held = status == '1' and len(told) == 2 and f'number {number}: ' in told[1] and words in told[1]
+        tally.check(f'{text[-24:]!r} as a paper', held, told)
+        refusal = answered(str(PROGRAM), text)
+        cause = '' if refusal is None else paper_cause(refusal, text, lambda some: answered(str(PROGRAM), some))
+        tally.check(f'{text[-24:]!r} by the program', words in cause or number in (1, 15), cause)
+    for text, status, words in ((PAPERS[16][0], 1, PAPERS[16][2]), (LISTING, 1, 'this is a listing')):
+        seen = run(KEY, given=text)
+        tally.check(f'{text!r} by ./key', words in seen.err and seen.status == status, seen)
+    desk, _ = planned(str(P))
+    for text, number, line, words in ANSWERS:
+        refusal = Refusal(number, line)
+        told = ' '.join(refusal.words(text, answer_cause(refusal, text, desk))) + '\n'
+        tally.check(f'{text[:24]!r} as an answer', f'number {number}: ' in told and words in told, told)
+        finding = finding_of(desk, text)
+        tally.check(f'{text[:24]!r} marked', (finding.number, finding.line) == (number, line), finding)
+    answer.write_bytes(text)
+    register = folder / 'causes.db'
+    seen = run(DESK, 'mark', P, answer, '--register', register, '--new')
+    tally.check('by ./desk mark', words in seen.err and seen.status == 1, seen)
+    seen = run(DESK, 'register', register, '--json')
+    tally.check('in the register', words.encode() in seen.out, seen)
+
+
+def listings(tally: Tally, folder: pathlib.Path) -> None:
+    """A mistake in a listing: its line and column with a mark below, the cause and the cure."""
+    for text, place, cause, cure in LISTINGS:
+        status, where, shown, mark, *more = [*said(spelled, text.encode(), 'nest'), '', '', ''][:5]
+        held = where.startswith(f'nest: line {place} of the listing is refused: ') and cause in where and status == '1'
+        tally.check(f'{text[-30:]!r}', held and cure in where + ''.join(more), (where, shown, mark, more))
+        number, column = (int(word) for word in place.split(', column '))
+        typed = text.splitlines()[number - 1]
+        at = mark.find('^') - sum(unicodedata.east_asian_width(c) == 'W' for c in typed[:column - 1])
+        tally.check(f'{text[-30:]!r} marked', shown[at:at + 1] == typed[column - 1] and set(mark) <= set(' ^'), shown)
+    listing = folder / 'listing.txt'
+    fortran = 'DO i = 1, n\n DO j = 1, i - 1\n a\n END DO\n do j=1,n\n b\n enddo j\nend do i\na -> b\nb → a round i\n'
+    wanted = b'01\n01\n03\n02\n01\n03\n02\n02\n110205\n12000502\n'
+    tally.check('as in Fortran', spelled(fortran.encode(), '') == wanted, spelled(fortran.encode(), ''))
+    names = 'DO प्रिया\n  größe\n  名2\nENDDO प्रिया\ngröße -> 名2\n名2 -> gro\u0308ße round प्रिया\n'
+    tally.check('names of any script', spelled(names.encode(), '') == b'01\n03\n03\n02\n110102\n12000201\n')
+    listing.write_bytes(BODY.encode('utf-16'))
+    seen = run(DESK, 'spell', listing)
+    tally.check('a listing in UTF-16', seen.failed('the file is UTF-16: save it as plain text', 1), seen)
+
+
+def others(tally: Tally, folder: pathlib.Path) -> None:
+    """Turns, the textbook's method, joining and sheets: the cause is one of several there too."""
+    deep, wide, many, sheet = (folder / name for name in ('deep.hex', 'wide.hex', 'many.hex', 'sheet.txt'))
+    deep.write_bytes(b'01\n' * 8 + b'03\n' + b'02\n' * 8)
+    wide.write_bytes(b'01\n' + b'03\n' * 250 + b'02\n')
+    many.write_bytes(TWO + b'110204\n' * 300)
+    foundation = ROOT / 'examples' / 'foundation.hex'
+    flagged = folder / 'flagged.hex'
+    flagged.write_bytes(TWO.replace(b'01\n01', b'01\n04'))
+    for asked, words in [
+            (['textbook', P], 'number 14: the textbook method is for papers of one loop, and this one has 3'),
+            (['join', P, foundation], 'number 14: it has barred gaps, and only papers without any can be joined'),
+            (['join', deep, R], 'number 18: the first paper has loops 8 deep, and joining puts one more around them'),
+            (['join', R, deep], 'number 18: the second paper has loops 8 deep'),
+            (['join', wide, R], 'number 18: the joint paper would have more than 256 points'),
+            (['join', many, many], 'number 18: the joint paper would have more than 512 dependences'),
+            (['calls', P, '2,2'], 'number 17: this paper has 3 loops, and 2 numbers of turns are given'),
+            (['calls', P, ''], 'number 17: this paper has 3 loops, and 0 numbers of turns are given'),
+            (['calls', P, '2,1,2'], 'number 17: loop 1 may have 2 to 16 turns, and 1 are given'),
+            (['calls', P, '17,2,2'], 'number 17: loop 0 may have 1 to 16 turns, and 17 are given'),
+            (['improve', P, '1,1,0'], 'number 17: loop 7 may have 1 to 16 turns, and 0 are given'),
+            (['calls', flagged, '2'], 'number 17: on a paper with loops that may not run no calls are counted'),
+            (['calls', foundation, '2'], 'number 17: on a paper with barred gaps no calls are counted')]:
+        status, *told = said(day.main, [*map(str, asked)])
+        tally.check(f'{asked}', status == '1' and len(told) == 2 and told[1].startswith(words), told)
+    for text, words in [
+            (b'', 'number 19: it has no phase: a line has the durations of a phase, a number for each processor'),
+            (b'1 ' * 17, 'number 19: it has 17 processors, and a sheet has at most 16'),
+            (b'1\n' + b'1:0\n' * 64, 'number 19: it has 65 phases, and a sheet has at most 64'),
+            (b'1 1\n1:0 1:1\n1:0 1:0\n', 'number 20: processor 1 does not wait for itself in phase 3: name it '
+             'among those it waits for'),
+            (b'1 1\n1:0 1:1,2\n', 'number 20: in phase 2 processor 1 waits for one that the sheet does not have: it '
+             'has 0 to 1')]:
+        sheet.write_bytes(text)
+        status, *told = said(day.main, ['sheet', str(sheet)])
+        tally.check(f'the sheet {text[:20]!r}', status == '1' and told[1] == words, told)
+
+
 def blank(tally: Tally, folder: pathlib.Path) -> None:
     """An empty text is never taken silently; answers are marked by it, and a hall is opened, only if that is meant."""
     empty, answer, names = folder / 'empty.hex', folder / 'anna.hex', folder / 'names.txt'
     empty.touch()
-    answer.touch()
+    answer.write_bytes(b'')
     names.write_text('anna\n')
     taken = f'desk: {empty} is empty: it is taken as the blank paper\n'
     for asked in (['key', empty], ['show', empty], ['draw', empty], ['join', P, empty], ['why', empty, ''],
@@ -56,7 +268,8 @@ def results(tally: Tally, folder: pathlib.Path) -> None:
         for other in (b'2105\n01\n', b'dear Sir\n'):
             out.write_bytes(other)
             seen = run(DESK, *asked, '-o', out, '--over')
-            tally.check(f'{asked[0]}: not over {other!r}', seen.failed('left alone') and out.read_bytes() == other, seen)
+            left = seen.failed('left alone') and out.read_bytes() == other
+            tally.check(f'{asked[0]}: not over {other!r}', left, seen)
     picture = folder / 'p.svg'
     for _ in range(2):
         seen = run(DESK, 'draw', P, '-o', picture)
@@ -76,6 +289,9 @@ def main() -> None:
     tally = Tally()
     with tempfile.TemporaryDirectory() as name:
         folder = pathlib.Path(name)
+        causes(tally, folder)
+        listings(tally, folder)
+        others(tally, folder)
         blank(tally, folder)
         results(tally, folder)
     tally.close()

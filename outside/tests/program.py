@@ -31,15 +31,15 @@ SLIPS = [
     (b'01\n0g\n', 1, 2, ['no digits: g']),
     (b'01\n' + b'zz' * 400 + b'\n02\n', 1, 2, ['"' + 'z' * 48 + '..." and 752 bytes more']),
     (b'01\n\x1b[31m\x00\xff\n', 1, 2, ['"\\x1b[31m\\x00\\xff"']),
-    (b'05\n', 2, 1, ['"05"', 'the kind is none of this text']),
-    (b'01\n02\n110001\n03\n', 3, 4, ['"03"', 'a point stands after a dependence']),
-    (b'01\n', 4, 2, ['the end of the text is refused, which counts as line 2', 'a loop is open']),
-    (b'01\n' + b'03\n' * 300, 5, 257, ['line 257 is refused: "03"', 'a 257th point']),
-    (b'01\n' * 3000, 5, 0, ['the text is refused as a whole', 'more than 8,192 bytes']),
-    (b'01\n03\n02\n110105\n', 6, 4, ['"110105"', 'names no point']),
-    (b'01\n03\n02\n110101\n', 7, 4, ['"110101"', 'at or after its t']),
-    (b'01\n03\n02\n1303\n', 8, 4, ['"1303"', 'not below the number of points']),
-    (b'01\n01\n02\n02\n1301\n', 14, 5, ['"1301"', 'more than one loop']),
+    (b'05\n', 2, 1, ['"05"', 'no line of a paper begins with 05']),
+    (b'01\n02\n110001\n03\n', 3, 4, ['"03"', 'a point stands behind line 3']),
+    (b'01\n', 4, 2, ['the end of the text is refused, which counts as line 2', 'loop 0, opened on line 1, is not closed']),
+    (b'01\n' + b'03\n' * 300, 5, 257, ['line 257 is refused: "03"', 'at most 256']),
+    (b'01\n' * 3000, 5, 0, ['the text is refused as a whole', '9,000 bytes', '8,192']),
+    (b'01\n03\n02\n110105\n', 6, 4, ['"110105"', 't is 5', 'there is no such point']),
+    (b'01\n03\n02\n110101\n', 7, 4, ['"110101"', 'did you mean 12000101?']),
+    (b'01\n03\n02\n1303\n', 8, 4, ['"1303"', 'its gaps are 1 and 2, in texts 01 and 02']),
+    (b'01\n01\n02\n02\n1301\n', 14, 5, ['"1301"', 'this one has 2 loops']),
     (b'01\n03\n02\n110001\n1301\n', 15, 0, ['the text is refused as a whole', 'all its gaps barred']),
 ]
 
@@ -97,7 +97,7 @@ def statuses(tally: Tally, folder: pathlib.Path) -> None:
     (folder / 'office').mkdir()
     (folder / 'office' / '__init__.py').touch()
     seen = run(KEY, given=b'05\n', shell=f'cd {folder} && "$@"')
-    tally.check('beside another office', 'number 2: the kind' in seen.err and seen.status == 1, seen)
+    tally.check('beside another office', 'number 2: no line' in seen.err and seen.status == 1, seen)
     hidden = folder / 'hidden.hex'
     for name, word, seen in [
             ('an option', 'no option --keys', run(KEY, '--keys')), ('two papers', 'one paper', run(KEY, paper, paper)),

@@ -135,7 +135,7 @@ def exported(tally: Tally, folder: pathlib.Path) -> None:
     tally.check('a name', 'Candidate Ávila, Anna (anna) Paper p' in words_of(page_of(slips, 'anna', 'p', 'candidate')))
     for reader in ('candidate', 'examiner'):
         words = words_of(page_of(slips, 'dora', 'p', reader))
-        told = ['Line 2 is refused: "210B".', 'Number 1: a line is', 'It has capital digits: type a to f small.']
+        told = ['Line 2 is refused: "210B".', 'Number 1: it has capital digits: type a to f small.']
         tally.check(f'a note for the {reader}', all(word in words for word in told), words)
         tally.check(f'no slip for the {reader}', not slip_of(slips, 'dora', 'p', reader).exists())
     for slip in slips.glob('*/*.hex'):

@@ -15,10 +15,10 @@ from office.day import COMMANDS
 from office.frames import BARRED, CARRIED, FLAGGED, placement_text, text_of
 from office.header import DECLARED, HEADER
 from office.library import Desk, Nest
+from office.listing import spelled
 from office.paper import paper_on, placed
 from office.refusal import Refused
 from office.show import listing_of
-from office.spell import spelled
 from office.words import RULES
 from outside.measure import papers
 from outside.trying import DESK, DRAW, EXAMPLES, PROGRAM, ROOT, VERSION, Seen, Tally, run
@@ -26,7 +26,8 @@ from outside.trying import DESK, DRAW, EXAMPLES, PROGRAM, ROOT, VERSION, Seen, T
 FULL = '"$@" > /dev/full'
 KINDS = ['deep', 'one', 'many', 'mixed', 'carried', 'tails', 'pairs', 'barred']
 
-# Papers with a fault: the text, the number, the line or 0, and words that quote the line or say what is missing.
+# Papers with a fault: the text, the number, the line or 0, and words that quote the line or say what is missing. Which
+# cause it is, mistakes.py tries.
 FAULTS = [
     (b'01\n02\n110A05\n', 1, 3, '"110A05"'), (b'01\r\n02\r\n', 1, 1, 'CRLF'), (b'05\n', 2, 1, '"05"'),
     (b'01\n02\n1100\n', 2, 3, '"1100"'), (b'01\n02\n110001\n03\n', 3, 4, '"03"'), (b'03\n', 4, 1, '"03"'),
@@ -53,13 +54,14 @@ month -> month round year
 """
 TYPED_TEXT = b'01\n01\n03\n03\n02\n01\n03\n02\n02\n110203\n12000602\n110104\n12000104\n'
 TYPED_FAULTS = [
-    ('bread\n  enddo', 'rent\n  enddo', 5, 'a rent already'), ('enddo month', 'enddo year', 6, 'loop month is open'),
-    ('rent -> bread', 'rent -> cake', 11, 'nothing is called cake'), ('rent -> bread', 'rent => bread', 11, 'no DO'),
+    ('bread\n  enddo', 'rent\n  enddo', 5, 'rent stands on line 4 already'),
+    ('enddo month', 'enddo year', 6, 'loop month of line 3 is open'),
+    ('rent -> bread', 'rent -> cake', 11, 'nothing is called cake'), ('rent -> bread', 'rent => bread', 11, 'arrow'),
     ('rent -> bread', 'bread -> rent', 11, 'number 7'), ('round year\nDO', 'round week\nDO', 12, 'called week'),
-    ('DO month -> ENDDO', 'ENDDO month -> DO', 13, 'number 6'), ('ENDDO\nrent', 'rent', 10, 'number 4'),
+    ('DO month -> ENDDO', 'ENDDO month -> DO', 13, 'number 6'), ('ENDDO\nrent', 'rent', 2, 'number 4'),
     ('    shoes', 'barred | shoes', 8, 'number 14'), ('3: shoes', 'barred | 3: shoes', 12, 'before a point'),
-    ('DO year', 'year', 2, 'number 4'), ('month -> month', 'rent ->', 14, 'no DO'), ('    rent', 'r\xe4nt', 4, 'no DO'),
-    ('month -> month round year\n', 'late\n', 14, 'number 4')]
+    ('DO year', 'year', 2, 'number 4'), ('month -> month', 'rent ->', 14, 'missing'),
+    ('    rent', 'r\xe4nt', 4, 'a name has letters'), ('month -> month round year\n', 'late\n', 14, 'number 4')]
 
 
 def told(seen: Seen, *words: str) -> bool:
@@ -120,7 +122,7 @@ def numbers(tally: Tally, folder: pathlib.Path) -> None:
         paper.write_bytes(text)
         seen = run(DESK, 'check', paper)
         where = f'line {line} is refused' if line and '"' in word else word
-        held = all(part in seen.err for part in [f'number {number}: {RULES[number]}', where, word])
+        held = all(part in seen.err for part in [f'number {number}: ', where, word])
         blocked = seen.out.startswith(b'accepted') if number == 15 else seen.out == b''
         tally.check(f'{text[:16]!r} checked', held and blocked and seen.status == 1, seen)
     for name, parts in [('p', '14 points, 3 loops, 2 deep, 6 dependences'),
@@ -179,9 +181,9 @@ def listings(tally: Tally, folder: pathlib.Path) -> None:
     for old, new, line, word in TYPED_FAULTS:
         typed.write_text(TYPED.replace(old, new, 1), encoding='latin-1')
         seen = run(DESK, 'spell', typed)
-        held = f'line {line} of the listing is refused' in seen.err and word in seen.err
+        held = f'line {line}, column ' in seen.err and word in seen.err
         tally.check(f'{new!r} for {old!r}', held and (seen.out, seen.status) == (b'', 1), seen)
-    for text, word in [(b'', 'no point'), (b'# nothing\n', 'no point'), (b'DO\n', 'the end of the listing')]:
+    for text, word in [(b'', 'no point'), (b'# nothing\n', 'no point'), (b'DO\n', 'the loop, opened on line 1, is not closed')]:
         seen = run(DESK, 'spell', '-', given=text)
         tally.check(f'{text!r} spelled', word in seen.err and (seen.out, seen.status) == (b'', 1), seen)
     many = b'DO\n' + b''.join(b's%d\n' % i for i in range(300)) + b'ENDDO\ns299 -> s299\n'
