@@ -46,6 +46,7 @@ def parts(scripts: int = SCRIPTS, programs: int = PROGRAMS) -> dict[str, Part]:
         'edges': module('crates.txt lists what a crate uses', 'checks.edges', False),
         'imports': module('no import that its file does not use', 'checks.imports', False),
         'types': module('the types of the office', 'checks.types', False),
+        'arguments': module('the checker of arguments', 'tests.arguments', False),
         'hosts': module('the C boundary', 'tests.hosts'),
         'reading': Part("the judge's check of itself", [judge, '--self-check']),
         'scripts': Part('every call beside the judge', [judge, '--scripts', '1', str(scripts)]),
