@@ -1,9 +1,10 @@
 """The picture of growth: growth.py BEFORE NOW writes an SVG to standard output.
 
-BEFORE and NOW are tables as `instructions` beside this prints them, one line for each paper: kind, points, the instructions of
-Load, Plan, program and twin, and glpsol's milliseconds if it was there. BEFORE is the planner that made one sweep for
-each suffix. Each kind has a panel with three lines: Plan before, Plan now, and the planning function of the twin; both
-axes grow by factors, so that a straight line is a power of the points and its slope the exponent.
+NOW is a table as `instructions` beside this prints it, a heading and a line for each paper: kind, points, the
+instructions of Load and Plan in the program and in its twin, and glpsol's milliseconds if it was there. BEFORE has the
+Plan of the planner that made one sweep for each suffix. Each kind has a panel with three lines: Plan before, Plan now,
+and Plan of the twin; both axes grow by factors, so that a straight line is a power of the points and its slope the
+exponent.
 """
 import math
 import sys
@@ -12,7 +13,7 @@ from dataclasses import dataclass
 PANEL_W, PANEL_H, LEFT, TOP, COLUMNS = 190, 150, 66, 56, 4
 GAP_X, GAP_Y = 24, 44
 LOW, HIGH = 10_000, 10_000_000
-SERIES = (('twin', '#8a8f98', 'plain Rust, one sweep for each suffix'),
+SERIES = (('twin', '#8a8f98', 'the same in plain Rust'),
           ('before', '#c05a2b', 'before: one sweep for each suffix'),
           ('now', '#1f6fb2', 'now: all starts at once'))
 
@@ -31,20 +32,20 @@ class Figure:
 
 
 def figures(path: str) -> list[Figure]:
-    """The papers of a table; the heading and the tables of moves are passed over."""
+    """The papers of a table, by the names in its heading."""
     rows = []
     try:
         with open(path, encoding='ascii') as table:
-            lines = table.read().splitlines()
+            heading, *lines = table.read().splitlines() or ['']
     except (OSError, UnicodeDecodeError) as fault:
         raise Fault(f'{path}: {fault}') from None
     for line in lines:
-        words = line.split()
-        if len(words) in (6, 7) and words[1] != 'points':
-            try:
-                rows.append(Figure(words[0], int(words[1]), int(words[3]), int(words[5]), ''.join(words[6:])))
-            except ValueError:
-                raise Fault(f'{path}: not a line of figures: {line}') from None
+        words = dict(zip(heading.split(), line.split()))
+        try:
+            rows.append(Figure(words['paper'], int(words['points']), int(words['plan']),
+                               int(words.get('twin_plan', 0)), words.get('glpsol', '')))
+        except (ValueError, KeyError):
+            raise Fault(f'{path}: not a line of figures: {line}') from None
     if not rows:
         raise Fault(f'{path}: no figures')
     return rows
