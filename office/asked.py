@@ -1,19 +1,22 @@
 """What the arguments of a command name: a paper, a placement, turns. What is wrong with one is a fault in words."""
+import os
 import re
 from collections.abc import Callable
 from typing import TypeVar
 
-from office.causes import Ask, paper_cause, placement_cause
+from office.causes import Ask, no_gap, paper_cause, placement_cause
 from office.command import REFUSED, Fault, printable, read_in, tell
 from office.frames import DO, placement_text
 from office.library import Desk, Nest, refusal_of
+from office.listing import spelled
 from office.refusal import Refusal, Refused
-from office.words import RULES, counted, joined, ranges
+from office.taken import decimal_in, is_listing
+from office.words import RULES, counted, gaps_named, joined
 
 Given = TypeVar('Given')
 TURNS, TURNS_HELP = 16, 'the turns of the loops in the order of their DOs, with commas between, or one number for all'
-GAPS_HELP = "gaps in decimal with commas between, '' for none, or a file with a placement text"
-PAPER_HELP = 'a file with a nest text; - for standard input'
+GAPS_HELP = "gaps in decimal with commas between, '' for none, or a file with these or with a placement text"
+PAPER_HELP = 'a file with a nest text or a listing; - for standard input'
 BLANK_HELP = 'lets an empty text be the paper, which is the blank one'
 
 
@@ -65,10 +68,20 @@ def is_placement(text: bytes, desk: Desk) -> bool:
     return refusal_of(desk.candidate_slip, text) is None
 
 
+def paper_in(file: str) -> bytes:
+    """The text of a paper, which may be given as a listing."""
+    text = read_in(file)
+    if not is_listing(text):
+        return text
+    text = spelled(text, file)
+    tell('desk', f'{printable(file)} is a listing: it is taken as the text that ./desk spell writes of it')
+    return text
+
+
 def paper_text(file: str, blank: bool = True) -> bytes:
     """The text of a paper. An empty one is what a command that failed may have left: it is never taken silently, and
     where answers are to be marked by it, only if that is asked for."""
-    text = read_in(file)
+    text = paper_in(file)
     if not text and not blank:
         raise Fault(f'{printable(file)} is empty, which is the blank paper: --blank says that it is meant')
     if not text:
@@ -97,24 +110,34 @@ def planned(file: str, blank: bool = True) -> tuple[Desk, bytes]:
 
 
 def placement_asked(argument: str, desk: Desk) -> bytes:
-    """The placement text that an argument names: a list of gaps in decimal, or a file."""
-    if not re.fullmatch('[0-9, ]*', argument):
-        text = read_in(argument)
-        try:
-            desk.candidate_slip(text)
-        except Refused as refusal:
-            raise refused_placement(argument, refusal, text, desk) from refusal
+    """The placement text that an argument names: a list of gaps in decimal, or a file with such a list or a text."""
+    if re.fullmatch('[0-9, ]*', argument):
+        return placement_of([int(word) for word in re.findall('[0-9]+', argument)], desk)
+    if re.match('[0-9]', argument) and not os.path.lexists(argument):
+        raise Fault(f'{printable(argument)} is no file, and no list of gaps: they are decimal, with commas between')
+    text = read_in(argument)
+    gaps = decimal_in(text)
+    if gaps:
+        text = placement_of(gaps, desk)
+        tell('desk', f'{printable(argument)} has numbers in decimal: it is taken as {gaps_named(sorted({*gaps}))}')
         return text
-    gaps = {str(gap): gap for gap in range(1, len(desk.nest.points))}
-    named = [word for word in re.split('[, ]+', argument) if word]
-    if not gaps.keys() >= set(named):
-        raise Fault(f'no gaps of this paper, which has 1 to {len(gaps)}: {argument}')
-    text = placement_text(sorted({gaps[word] for word in named}))
     try:
         desk.candidate_slip(text)
     except Refused as refusal:
-        barred = sorted(set(desk.nest.barred).intersection(gaps[word] for word in named))
-        raise Fault(f'barred on this paper, so that no barrier may stand there: {ranges(barred)}') from refusal
+        raise refused_placement(argument, refusal, text, desk) from refusal
+    return text
+
+
+def placement_of(gaps: list[int], desk: Desk) -> bytes:
+    """The placement text of gaps in decimal, in any order."""
+    points = len(desk.nest.points)
+    for gap in gaps:
+        if gap not in range(1, points):
+            raise Fault(no_gap(gap, points, texts=False))
+    text = placement_text(sorted({*gaps}))
+    refusal = refusal_of(desk.candidate_slip, text)
+    if refusal is not None:
+        raise Fault(answer_cause(refusal, text, desk))
     return text
 
 

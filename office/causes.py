@@ -243,17 +243,18 @@ def lengths(kind: int, wanted: int, there: int) -> str:
     return f'a line {FORMS[kind]} has {counted(2 + 2 * wanted, "digit")}, and this one has {2 + 2 * there}'
 
 
-def no_gap(gap: int, points: int) -> str:
-    """That a gap is none of a paper, and which it has, in both writings."""
-    return f'gap {gap} is none of this paper: {gaps_told(points)}{in_decimal(gap, range(1, points))}'
+def no_gap(gap: int, points: int, texts: bool = True) -> str:
+    """That a gap is none of a paper, and which it has: where a text is at fault, in both writings."""
+    typed = in_decimal(gap, range(1, points)) if texts else ''
+    return f'gap {gap} is none of this paper: {gaps_told(points, texts)}{typed}'
 
 
-def gaps_told(points: int) -> str:
-    """Which gaps a paper has, in both writings."""
+def gaps_told(points: int, texts: bool = True) -> str:
+    """Which gaps a paper has, and how texts write them."""
     if points == 2:
-        return 'its only gap is 1, in texts 01'
-    to = 'and' if points == 3 else 'to'
-    return f'its gaps are 1 {to} {points - 1}, in texts 01 {to} {points - 1:02x}'
+        return f'its only gap is 1{", in texts 01" if texts else ""}'
+    to, last = 'and' if points == 3 else 'to', points - 1
+    return f'its gaps are 1 {to} {last}' + (f', in texts 01 {to} {last:02x}' if texts else '')
 
 
 def in_decimal(number: int, may: range) -> str:

@@ -1,8 +1,8 @@
 """./desk check: whether a paper is accepted, and what is wrong with it in words."""
 import argparse
 
-from office.asked import PAPER_HELP, refused_paper
-from office.command import read_in, write_out
+from office.asked import PAPER_HELP, paper_in, refused_paper
+from office.command import write_out
 from office.frames import DO
 from office.library import Desk
 from office.paper import paper_on
@@ -18,7 +18,7 @@ def arguments(parser: argparse.ArgumentParser) -> None:
 
 
 def main(asked: argparse.Namespace) -> None:
-    text, desk = read_in(asked.paper), Desk()
+    text, desk = paper_in(asked.paper), Desk()
     try:
         desk.load(text)
     except Refused as refusal:

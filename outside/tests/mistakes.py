@@ -187,6 +187,41 @@ def listings(tally: Tally, folder: pathlib.Path) -> None:
     tally.check('a listing in UTF-16', seen.failed('the file is UTF-16: save it as plain text', 1), seen)
 
 
+def papers_as_listings(tally: Tally, folder: pathlib.Path) -> None:
+    """Where a paper is named a listing is taken, and where a placement is, gaps in decimal; what it was taken for is
+    said. What is marked is the text."""
+    listing, answer, names, hall = (folder / name for name in ('nest.txt', 'anna.hex', 'names.txt', 'hall'))
+    listing.write_bytes(LISTING)
+    (folder / 'nest.hex').write_bytes(LISTING_TEXT)
+    answer.write_bytes(b'2102\n')
+    names.write_text('anna\n')
+    taken = f'desk: {listing} is a listing: it is taken as the text that ./desk spell writes of it\n'
+    for asked in (['check'], ['show'], ['key'], ['why', '2'], ['mark', str(answer)], ['calls', '2']):
+        command, *more = asked
+        seen, plain = run(DESK, command, listing, *more), run(DESK, command, folder / 'nest.hex', *more)
+        tally.check(f'{command} of a listing', seen == Seen(plain.out, taken, plain.status), (seen, plain))
+    seen = run(DESK, 'join', '-', P, given=LISTING)
+    tally.check('a listing by standard input', (seen.out, seen.status) == (run(DESK, 'join', folder / 'nest.hex', P).out, 0)
+                and '- is a listing' in seen.err, seen)
+    listing.write_bytes(LISTING.replace(b'-> y', b'-> z'))
+    for asked in (['check', listing], ['mark', listing, answer],
+                  ['sit', listing, '--candidates', names, '--answers', hall, '--port', '0']):
+        status, where, *_ = said(day.main, [*map(str, asked)])
+        held = where == f'{listing}: line 5, column 6 of the listing is refused: nothing is called z' and status == '1'
+        tally.check(f'{asked[0]} of a listing with a mistake', held, where)
+    decimal = folder / 'decimal.txt'
+    decimal.write_bytes(b'11, 5\r\n')
+    seen, plain = run(DESK, 'why', P, decimal), run(DESK, 'why', P, '5,11')
+    told = f'desk: {decimal} has numbers in decimal: it is taken as gaps 5, 11\n'
+    tally.check('gaps in decimal in a file', seen == Seen(plain.out, told, 0), seen)
+    for gaps, words in [('14', 'gap 14 is none of this paper: its gaps are 1 to 13'), ('0', 'gap 0 is none'),
+                        ('5;11', '5;11 is no file, and no list of gaps: they are decimal, with commas between'),
+                        ('0b', '0b is no file, and no list of gaps')]:
+        tally.check(f'gaps {gaps}', words in said(day.main, ['why', str(P), gaps])[1], gaps)
+    status, told = said(day.main, ['why', str(ROOT / 'examples' / 'foundation.hex'), '1,3'])
+    tally.check('a barred gap', (status, told) == ('2', 'gap 1 is barred: no barrier may stand there'), told)
+
+
 def others(tally: Tally, folder: pathlib.Path) -> None:
     """Turns, the textbook's method, joining and sheets: the cause is one of several there too."""
     deep, wide, many, sheet = (folder / name for name in ('deep.hex', 'wide.hex', 'many.hex', 'sheet.txt'))
@@ -292,6 +327,7 @@ def main() -> None:
         causes(tally, folder)
         listings(tally, folder)
         others(tally, folder)
+        papers_as_listings(tally, folder)
         blank(tally, folder)
         results(tally, folder)
     tally.close()

@@ -276,7 +276,7 @@ def reasons(tally: Tally, folder: pathlib.Path) -> None:
     barred.write_bytes(b'01\n03\n03\n02\n110102\n1301\n')
     tally.check('no calls counted', told(run(DESK, 'why', barred, '2'), 'Calls are not counted'))
     tally.check('two without a key', told(run(DESK, 'why', blocked, '2', '3'), 'With gap 2 dependence 0 is not cut'))
-    for asked, word in [(['14'], 'no gaps of this paper'), (['5', '--turns', '0'], '3 numbers of turns from 1 to 16'),
+    for asked, word in [(['14'], 'gap 14 is none of this paper: its gaps are 1 to 13\n'), (['5', '--turns', '0'], '3 numbers of turns from 1 to 16'),
                         (['5', '--turns', '2,2'], '3 numbers of turns'), (['5', '--turns', 'x'], 'up to 16')]:
         seen = run(DESK, 'why', p, *asked)
         tally.check(f'why {asked}', seen.failed(word), seen)
