@@ -1,11 +1,12 @@
 """./desk draw, and ./draw for short: a paper as a picture, with the barriers of its key or with those named."""
 import argparse
 import pathlib
+import re
 
 from office.asked import GAPS_HELP, PAPER_HELP, loaded, placement_asked, planned
-from office.command import Parser, printable, write_out, write_over
-from office.library import Desk
-from office.paper import paper_on, placed
+from office.command import Fault, Parser, printable, write_out, write_over
+from office.layout import View
+from office.paper import Paper, paper_on, placed
 from office.picture import Picture
 from office.result import OUT_HELP
 from office.version import Told
@@ -14,20 +15,50 @@ HELP = 'draws a paper as SVG, with the barriers of its key or with those that ar
 MORE = """  ./desk draw paper.hex -o paper.svg               the barriers of the key
   ./desk draw paper.hex 5,11 -o paper.svg          these gaps, in decimal; '' for none
   ./desk draw paper.hex answer.hex -o paper.svg    the gaps of a placement text, lines 21 and a gap
+  ./desk draw paper.hex --loop 16 -o loop.svg      one loop with the dependences at home in it, loops inside folded
+  ./desk draw paper.hex --loop 16 --unfold -o loop.svg
+  ./desk draw paper.hex --only 5,7 -o paper.svg    these dependences alone
+
+A dependence is at home in the outermost loop that has one of its gaps. Of a paper that has too many for lanes, the
+picture shows how many dependences of each loop have each gap; the loops, one by one, show more.
 """
 BEGINS = b'<svg '
 
 
-def picture(desk: Desk, text: bytes, file: str, missing: list[int]) -> str:
-    """The picture of the paper on a desk with the barriers of a placement text, and the loops that need a barrier for
-    their missing run."""
-    return Picture(paper_on(desk), placed(desk, text), printable(pathlib.Path(file).stem), tuple(missing)).svg()
+def view_asked(paper: Paper, asked: argparse.Namespace) -> View:
+    """The view that the arguments name."""
+    if asked.loop is None:
+        if asked.unfold:
+            raise Fault('--unfold goes with --loop: the whole paper has no loop folded')
+        return View()
+    if asked.loop not in map(str, paper.end):
+        raise Fault(f'no DO of this paper, which has {", ".join(map(str, paper.end))}: {printable(asked.loop)}')
+    return View(int(asked.loop), asked.unfold)
+
+
+def only_asked(paper: Paper, view: View, argument: str | None) -> set[int] | None:
+    """The dependences that an argument names; all, if there is none."""
+    if argument is None:
+        return None
+    named = [word for word in re.split('[, ]+', argument) if word]
+    there = {str(number): number for number in range(len(paper.dependences))}
+    if not named or not there.keys() >= set(named):
+        has = f'0 to {len(there) - 1}' if there else 'none'
+        raise Fault(f'no dependences of this paper, which has {has}: {printable(argument)}')
+    chosen = {there[word] for word in named}
+    away = [number for number in sorted(chosen) if view.loop is not None and paper.home[number] != view.loop]
+    if away:
+        raise Fault(f'dependence {away[0]} is at home in loop {paper.home[away[0]]}, not in loop {view.loop}')
+    return chosen
 
 
 def arguments(parser: argparse.ArgumentParser) -> None:
     parser.add_argument('paper', metavar='PAPER', help=PAPER_HELP)
     parser.add_argument('gaps', metavar='GAPS', nargs='?', help=GAPS_HELP)
     parser.add_argument('-o', '--output', metavar='FILE', help=OUT_HELP)
+    parser.add_argument('--loop', metavar='N', help='one loop alone, by the point of its DO')
+    parser.add_argument('--unfold', action='store_true', help='with --loop: the loops inside it row by row')
+    parser.add_argument('--only', metavar='LIST', help='some dependences alone, by their numbers, commas between')
 
 
 def main(asked: argparse.Namespace) -> None:
@@ -37,7 +68,11 @@ def main(asked: argparse.Namespace) -> None:
     else:
         desk, _ = loaded(asked.paper)
         text, missing = placement_asked(asked.gaps, desk), []
-    drawn = picture(desk, text, asked.paper, missing).encode()
+    paper = paper_on(desk)
+    view = view_asked(paper, asked)
+    drawing = Picture(paper, placed(desk, text), printable(pathlib.Path(asked.paper).stem), tuple(missing), view,
+                      only=only_asked(paper, view, asked.only))
+    drawn = drawing.svg().encode()
     if asked.output in (None, '-'):
         write_out(drawn)
     else:

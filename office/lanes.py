@@ -14,3 +14,12 @@ def packed(rows: list[tuple[int, int]]) -> list[int]:
             free.append(number)
     lanes.sort(key=lambda lane: max(rows[i][1] - rows[i][0] for i in lane))
     return [next(k for k, lane in enumerate(lanes) if i in lane) for i in range(len(rows))]
+
+
+def block(passing: list[tuple[int, int]], turning: list[tuple[int, int]]) -> tuple[list[int], list[int]]:
+    """Lanes for the dependences of one loop, by the rows of s and t. Those that pass share lanes; behind them each that
+    turns with the loop has a lane to itself, and by t, then s, they make stairs, which the eye reads."""
+    lanes = packed(passing)
+    stairs = sorted(range(len(turning)), key=lambda i: (turning[i][1], turning[i][0]))
+    first = max(lanes, default=-1) + 1
+    return lanes, [first + stairs.index(i) for i in range(len(turning))]

@@ -9,13 +9,15 @@ from office.called import Called
 from office.chain import receipt_of
 from office.clock import time_in, told
 from office.colours import COLOURS, SERVED
+from office.layout import Drawn, View
 from office.messages import Reply
-from office.paper import Paper
+from office.paper import Paper, Placed
+from office.picture import STYLE
 from office.printed import facts
 from office.show import listing_of
 from office.sittings import Sitting, hash_of, told_gaps
 
-HTML, CSS, SCRIPT = 'text/html; charset=utf-8', 'text/css; charset=utf-8', 'text/javascript; charset=utf-8'
+HTML, CSS, SCRIPT, PLAIN = (f'text/{kind}; charset=utf-8' for kind in ('html', 'css', 'javascript', 'plain'))
 BACK, UNREAD = 'To the sitting', 'The desk could not make sense of what the browser sent. Nothing was changed.'
 REFUSED = {
     HTTPStatus.NOT_FOUND: 'There is no such page in this hall.',
@@ -25,6 +27,9 @@ REFUSED = {
     HTTPStatus.MISDIRECTED_REQUEST: 'The hall is not called by this address. Use the address that was handed out.',
 }
 PRACTICE = ', practice'
+LARGE = ' This paper is large: the name of a loop shows that loop alone, the loops inside it folded.'
+FILTER = '<p><label><input type="checkbox" id="only"> Only uncut ones</label></p>'
+UNCUT_KEY = 'U: the next uncut;'
 ANOTHER = 'This window was of another candidate. In this browser now sits: '
 NOBODY = 'This window was of a candidate who has left this desk in another window.'
 SINCE = ' What was asked for here since then was not done.'
@@ -36,23 +41,27 @@ def template(name: str) -> string.Template:
 
 
 class Pages:
-    """The pages of a paper, and how candidates call the hall."""
+    """The pages of a paper, and how candidates call the hall. A view of the paper is drawn when it is first asked for,
+    and kept."""
 
-    def __init__(self, board: Board, paper: Paper, name: str, called: Called):
-        self.called = called
-        self.name = name
-        self.ticket, self.words, self.receipt = map(template, ('ticket.html', 'words.html', 'receipt.html'))
-        self.sitting = string.Template(template('sitting.html').safe_substitute(
-            paper=html.escape(name + PRACTICE * board.practice).replace('$', '$$'), board=board.svg(),
-            dependences=board.told(), signs=html.escape(' '.join(board.signs())),
-            listing=html.escape(listing_of(paper))))
+    def __init__(self, paper: Paper, name: str, practice: bool, called: Called):
+        self.paper, self.name, self.practice, self.called = paper, name, practice, called
+        self.ticket, self.words, self.sitting, self.receipt = map(
+            template, ('ticket.html', 'words.html', 'sitting.html', 'receipt.html'))
+        self.views: dict[View, string.Template] = {}
         styles = ((SERVED / f'{of}.css').read_text() for of in ('hall', 'clock'))
-        self.css = ''.join([COLOURS, board.style(), *styles]).encode()
-        self.script, self.clock = ((SERVED / f'{of}.js').read_bytes() for of in ('sitting', 'clock'))
+        self.css = ''.join([COLOURS, STYLE, *styles]).encode()
+        self.scripts = {f'/{of}.js': (SERVED / f'{of}.js').read_bytes() for of in ('board', 'sitting', 'clock')}
 
-    def of_sitting(self, candidate: str, token: str) -> Reply:
+    def has(self, view: View) -> bool:
+        """Whether there is such a view."""
+        return view.loop is None or view.loop in self.paper.end
+
+    def of_sitting(self, candidate: str, token: str, view: View) -> Reply:
         """The page of a candidate; the token says in each request that it comes from there."""
-        page = self.sitting.substitute(candidate=html.escape(candidate), token=token)
+        if view not in self.views:
+            self.views[view] = self.drawn(view)
+        page = self.views[view].substitute(candidate=html.escape(candidate), token=token)
         return Reply(HTTPStatus.OK, HTML, page.encode())
 
     def of_receipt(self, sitting: Sitting) -> Reply:
@@ -64,6 +73,22 @@ class Pages:
                 'What': told_gaps(sitting.gaps), 'SHA-256 of it': hash_of(sitting.desk.sitting())}
         page = self.receipt.substitute(facts=facts(rows), code=receipt_of(sitting.ended))
         return Reply(HTTPStatus.OK, HTML, page.encode())
+
+    def drawn(self, view: View) -> string.Template:
+        """The page of a view, without the candidate."""
+        board = Board(self.paper, Placed([], dict.fromkeys(self.paper.end, 0), None), self.name, self.practice, view)
+        whole, strips = view.loop is None, board.drawn is Drawn.STRIPS
+        return string.Template(self.sitting.safe_substitute(
+            paper=html.escape(self.name + PRACTICE * self.practice).replace('$', '$$'), row=board.tall,
+            loop='' if whole else view.loop, last=len(self.paper.points) - 1, large=LARGE * strips,
+            where=board.where(), board=board.drawing(), map=board.map(), open=' open' * strips,
+            loops=len(self.paper.end), tree=board.loops_told(), shown=len(board.shown),
+            filter=FILTER * self.practice, homes=board.homes, dependences=board.told(),
+            signs=html.escape(' '.join(board.signs())), uncut_key=UNCUT_KEY * self.practice))
+
+    def listing(self) -> Reply:
+        """The paper as a listing."""
+        return Reply(HTTPStatus.OK, PLAIN, listing_of(self.paper).encode())
 
     def asks_ticket(self, said: str = '') -> Reply:
         page = self.ticket.substitute(said=html.escape(said))

@@ -1,5 +1,6 @@
 """A paper as the calls tell of it: its loops, the loop of each gap, the gaps of each dependence; placements on it."""
 from dataclasses import dataclass
+from functools import cached_property
 
 from office.frames import INDEPENDENT, NONE, frames_of
 from office.library import Desk
@@ -30,6 +31,22 @@ class Paper:
     def inside(self, d: int) -> list[int]:
         """The loops inside a loop."""
         return [k for k in self.end if d < k < self.end[d]]
+
+    @cached_property
+    def home(self) -> list[int]:
+        """Where each dependence is at home: the outermost of the loops that its gaps belong to. All its gaps lie in
+        it, and it is the loop that carries it, if one does."""
+        return [min((self.owner[gap] for gap in x.gaps), key=lambda d: self.depth[d]) for x in self.dependences]
+
+    @cached_property
+    def at_home(self) -> dict[int, list[int]]:
+        """The dependences that are at home in each loop."""
+        return {d: [number for number, home in enumerate(self.home) if home == d] for d in self.end}
+
+    @cached_property
+    def having(self) -> dict[int, list[int]]:
+        """The dependences that have each gap."""
+        return {gap: [number for number, x in enumerate(self.dependences) if gap in x.gaps] for gap in self.owner}
 
     def told(self, x: Dependence) -> str:
         """A dependence in words: its kind, its gaps, and which of them are barred."""

@@ -23,6 +23,7 @@ from office.command import mention
 from office.connection import Connection, Connections
 from office.door import Door
 from office.hall import Declined, Hall, Kept
+from office.layout import WHOLE, View
 from office.markup import CSS, SCRIPT, Pages
 from office.messages import Reply, Request, Unfit
 from office.room import most_connections
@@ -31,6 +32,7 @@ from office.told import running, sitting_told
 
 DATA, HTML = 'application/json', 'text/html; charset=utf-8'
 ASKED = re.compile('(.*) at ([0-9]{1,9})')
+VIEW = re.compile('/[?]loop=(0|[1-9][0-9]{0,2})(&unfold)?')
 HANDS_IN = re.compile(f'{HAND_IN}((?: [1-9][0-9]{{0,2}})*)')
 MOVED_ON = ('Not done: the sitting was changed in another window, or by a click that came late. Look at it as it is '
             'now.')
@@ -119,9 +121,9 @@ class Server:
         request = connection.request
         if not self.called.calls(request):
             raise Unfit(HTTPStatus.MISDIRECTED_REQUEST)
-        if request.path not in ROUTES:
+        if request.path not in ROUTES and not VIEW.fullmatch(request.path):
             raise Unfit(HTTPStatus.NOT_FOUND)
-        method, route = ROUTES[request.path]
+        method, route = ROUTES.get(request.path, ('GET', Server.page))
         if request.method != method and (request.method, method) != ('HEAD', 'GET'):
             raise Unfit(HTTPStatus.METHOD_NOT_ALLOWED, f'Allow: {"GET, HEAD" if method == "GET" else method}\n')
         return route(self, connection)
@@ -173,10 +175,13 @@ class Server:
     # ---- The routes
 
     def page(self, connection: Connection) -> Reply:
-        sitting = self.sitting_of(connection.request)
+        sitting, asked = self.sitting_of(connection.request), VIEW.fullmatch(connection.request.path)
         if sitting is None:
             return self.pages.asks_ticket()
-        return self.pages.of_sitting(sitting.name, token_of(self.ticket_of(connection.request)))
+        view = View(int(asked[1]), bool(asked[2])) if asked else WHOLE
+        if not self.pages.has(view):
+            raise Unfit(HTTPStatus.NOT_FOUND)
+        return self.pages.of_sitting(sitting.name, token_of(self.ticket_of(connection.request)), view)
 
     def another(self, connection: Connection) -> Reply:
         sitting = self.sitting_of(connection.request)
@@ -186,14 +191,14 @@ class Server:
         sitting = self.sitting_of(connection.request)
         return self.pages.asks_ticket() if sitting is None else self.pages.of_receipt(sitting)
 
+    def listing(self, connection: Connection) -> Reply:
+        return self.pages.listing() if self.sitting_of(connection.request) else self.pages.asks_ticket()
+
     def style(self, _: Connection) -> Reply:
         return Reply(HTTPStatus.OK, CSS, self.pages.css)
 
-    def script(self, _: Connection) -> Reply:
-        return Reply(HTTPStatus.OK, SCRIPT, self.pages.script)
-
-    def clock_script(self, _: Connection) -> Reply:
-        return Reply(HTTPStatus.OK, SCRIPT, self.pages.clock)
+    def script(self, connection: Connection) -> Reply:
+        return Reply(HTTPStatus.OK, SCRIPT, self.pages.scripts[connection.request.path])
 
     def enter(self, connection: Connection) -> Reply | None:
         ticket = ticket_in(field_in(connection.request.body, 'ticket')) or ''
@@ -294,10 +299,11 @@ class Server:
 
 
 ROUTES: dict[str, tuple[str, Callable[[Server, Connection], Reply | None]]] = {
-    '/': ('GET', Server.page), '/another': ('GET', Server.another), '/hall.css': ('GET', Server.style),
-    '/sitting.js': ('GET', Server.script), '/sitting': ('GET', Server.now), '/enter': ('POST', Server.enter),
-    '/leave': ('POST', Server.leave), '/move': ('POST', Server.move), '/hand-in': ('POST', Server.hand_in),
-    '/clock.js': ('GET', Server.clock_script), '/clock': ('GET', Server.time), '/receipt': ('GET', Server.receipt)}
+    '/': ('GET', Server.page), '/listing': ('GET', Server.listing), '/another': ('GET', Server.another),
+    '/hall.css': ('GET', Server.style), '/board.js': ('GET', Server.script), '/sitting.js': ('GET', Server.script),
+    '/clock.js': ('GET', Server.script), '/sitting': ('GET', Server.now), '/clock': ('GET', Server.time),
+    '/receipt': ('GET', Server.receipt), '/enter': ('POST', Server.enter), '/leave': ('POST', Server.leave),
+    '/move': ('POST', Server.move), '/hand-in': ('POST', Server.hand_in)}
 
 
 def spelled_out(status: HTTPStatus, told: dict[str, object]) -> Reply:

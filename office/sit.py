@@ -5,13 +5,12 @@ import pathlib
 import signal
 
 from office.asked import BLANK_HELP, PAPER_HELP, loaded
-from office.board import Board
 from office.called import Called, called_by, is_everywhere, is_here, name_of
 from office.candidates import candidates_in
 from office.clock import wanted
 from office.command import Fault, printable, write_out
 from office.hall import TICKETS, Hall
-from office.paper import paper_on, placed
+from office.paper import paper_on
 from office.words import counted
 
 HELP = 'serves a sitting on a page, where candidates put and lift barriers and hand in'
@@ -109,7 +108,7 @@ def main(asked: argparse.Namespace) -> None:
     with listening_at(asked.bind, asked.port) as listening, \
             Hall(text, candidates, asked.answers, time) as hall:
         here = called(asked, listening.getsockname()[1])
-        pages = Pages(Board(paper, placed(desk, b''), name, asked.practice), paper, name, here)
+        pages = Pages(paper, name, asked.practice, here)
         server = Server(listening, tls, here, hall, pages, asked.practice)
         hall.open()
         say_so(hall, here.address)

@@ -38,7 +38,7 @@ def sitting_told(sitting: Sitting, said: str, practice: bool, now: int) -> dict[
     state = state_of(len(stands.gaps), stands.uncut, len(stands.cuts))
     leaving = '' if sitting.handed_in else 'You have not handed in. '
     shown: dict[str, object] = {
-        'candidate': sitting.name, 'gaps': stands.gaps, 'counts': [*stands.counts.items()],
+        'candidate': sitting.name, 'gaps': stands.gaps, 'counts': [*stands.counts.items()], 'uncut': stands.uncut,
         'state': f'{how_ended(sitting)}. {state}' if sitting.handed_in else state,
         'said': said, 'question': f'Hand in {told_gaps(stands.gaps)}? {state} {AT_ONCE}',
         'leaving': f'Leave this desk? {leaving}{AGAIN}', 'receipt': receipt_told(sitting), **running(sitting, now)}

@@ -52,6 +52,7 @@ def parts(scripts: int = SCRIPTS, programs: int = PROGRAMS) -> dict[str, Part]:
         'scripts': Part('every call beside the judge', [judge, '--scripts', '1', str(scripts)]),
         'judge': Part('the program beside the judge', [judge, str(PROGRAM), '1', str(programs)]),
         'program': module('./key under faults of input and output', 'tests.program'),
+        'views': module('views of papers of all kinds, and how large their pages are', 'tests.views'),
         'pictures': module('./draw', 'tests.pictures'),
         'telling': module('./desk: what it tells', 'tests.telling'),
         'calling': module('./desk: the calls of the change requests', 'tests.calling'),

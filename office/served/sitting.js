@@ -1,9 +1,7 @@
 // Shows what the desk says. Nothing is kept here: every reply has the whole sitting, and the page is drawn from it.
+// The board stands in board.js.
 'use strict';
 
-const element = (id) => document.getElementById(id);
-const gaps = [...document.querySelectorAll('button[data-gap]')];
-const shown = document.body.dataset;
 const AWAY = 'The desk does not answer. As soon as it does, the page shows the sitting as the desk has it.';
 const CAME_LATE = 'The desk answers again. This is the sitting as the desk has it.';
 const NO_HAND_IN = 'Your hand-in did not arrive. Hand in again.';
@@ -15,42 +13,18 @@ const AGAIN = 1000;
 
 // Draws the sitting that a reply tells. Which dependences are cut is told for practice only.
 function show(told) {
-    const there = new Set(told.gaps);
-    for (const button of gaps) {
-        button.setAttribute('aria-pressed', there.has(Number(button.dataset.gap)));
-        button.setAttribute('aria-disabled', told.handed_in);
-    }
-    for (const place of document.querySelectorAll('[data-barrier]')) {
-        place.classList.toggle('filled', there.has(Number(place.dataset.barrier)));
-    }
-    if (told.cuts !== undefined) {
-        showCuts(told.cuts);
-    }
-    for (const [loop, count] of told.counts) {
-        document.querySelector(`[data-count="${loop}"] text`).textContent = `count ${count}`;
-    }
+    showBarriers(told);
     document.body.classList.toggle('over', told.handed_in);
     element('back').disabled = element('hand').disabled = told.handed_in;
     element('candidate').textContent = told.candidate;
     element('state').textContent = told.state;
+    element('brief').textContent = `${told.uncut} uncut`;
     shown.moves = told.moves;
     shown.gaps = told.gaps.join(' ');
     shown.question = told.question;
     shown.leaving = told.leaving;
     shown.handedIn = told.handed_in;
     document.dispatchEvent(new CustomEvent('told', { detail: told }));
-}
-
-function showCuts(told) {
-    for (const place of document.querySelectorAll('[data-cut]')) {
-        const at = 2 * place.dataset.cut;
-        const cuts = parseInt(told.slice(at, at + 2), 16);
-        place.classList.toggle('u', cuts === 0);
-        const words = place.querySelector('span');
-        if (words) {
-            words.textContent = cuts === 0 ? '; UNCUT' : `; cut, barriers: ${cuts}`;
-        }
-    }
 }
 
 // Says what came of the latest act; a refusal is an alert. It stays until the next act.
@@ -123,25 +97,6 @@ function turn(button) {
     ask('/move', `${act} ${button.dataset.gap} at ${shown.moves}`, lost);
 }
 
-// The arrow keys go from gap to gap; Tab goes to one of them and out again. A key that is held down is one stroke.
-function go(event) {
-    const at = gaps.indexOf(event.target);
-    const to = { ArrowUp: at - 1, ArrowDown: at + 1, Home: 0, End: gaps.length - 1 }[event.key];
-    if (gaps[to]) {
-        event.preventDefault();
-        reach(gaps[to]);
-        gaps[to].focus();
-    } else if (event.key === 'Enter' && event.repeat) {
-        event.preventDefault();
-    }
-}
-
-function reach(button) {
-    for (const other of gaps) {
-        other.tabIndex = other === button ? 0 : -1;
-    }
-}
-
 // Asks first, with the sitting that is shown; what is handed in is what the question was about.
 function question() {
     element('question').textContent = shown.question;
@@ -162,8 +117,6 @@ async function handIn() {
 
 for (const button of gaps) {
     clicked(button, () => turn(button));
-    button.addEventListener('keydown', go);
-    button.addEventListener('focus', () => reach(button));
 }
 clicked(element('back'), () => ask('/move', `take back at ${shown.moves}`, NO_TAKE_BACK));
 clicked(element('hand'), question);
@@ -183,5 +136,4 @@ document.addEventListener('visibilitychange', () => {
     }
 });
 document.addEventListener('look', () => ask('/sitting', undefined, ''));
-reach(gaps[0]);
-ask('/sitting', undefined, '');
+ask('/sitting', undefined, '').then(arrive);

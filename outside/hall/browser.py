@@ -17,6 +17,7 @@ OPTIONS = ['--headless=new', '--no-sandbox', '--disable-dev-shm-usage', '--hide-
 ELEMENT = 'element-6066-11e4-a52e-4f735466cecf'
 ENTER, TAB, SHIFT, UP, DOWN, HOME, END, ESCAPE = (
     '\ue007', '\ue004', '\ue008', '\ue013', '\ue015', '\ue011', '\ue010', '\ue00c')
+LEFT, RIGHT, PAGE_UP, PAGE_DOWN = '\ue012', '\ue014', '\ue00e', '\ue00f'
 PATIENCE, MOMENT = 20, 0.01
 
 
@@ -79,13 +80,24 @@ class Browser:
         return self.ask('/element', using='css selector', value=selector)[ELEMENT]
 
     def click(self, selector: str) -> None:
-        """A click with the mouse, in the middle of what is seen of an element."""
+        """A click with the mouse, in the middle of what is seen of an element, which is brought into view."""
+        self.script('document.querySelector(arguments[0])?.scrollIntoView({ block: "nearest", inline: "nearest" })',
+                    selector)
         self.ask(f'/element/{self.find(selector)}/click')
 
     def double_click(self, selector: str) -> None:
         place = {'type': 'pointerMove', 'origin': {ELEMENT: self.find(selector)}, 'x': 0, 'y': 0}
         strokes = [{'type': kind, 'button': 0} for kind in ('pointerDown', 'pointerUp') * 2]
         self.ask('/actions', actions=[{'type': 'pointer', 'id': 'mouse', 'actions': [place, *strokes]}])
+
+    def point(self, x: float, y: float, click: bool = False) -> None:
+        """The mouse goes to a place of the window, and clicks there."""
+        place = {'type': 'pointerMove', 'x': int(x), 'y': int(y), 'duration': 0}
+        strokes = [{'type': kind, 'button': 0} for kind in ('pointerDown', 'pointerUp')] * click
+        self.ask('/actions', actions=[{'type': 'pointer', 'id': 'mouse', 'actions': [place, *strokes]}])
+
+    def back(self) -> None:
+        self.ask('/back')
 
     def window(self) -> str:
         """The window that is in front."""

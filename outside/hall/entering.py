@@ -13,7 +13,7 @@ from outside.trying import EXAMPLES, Tally
 NO_PAGE = 'There is no such page in this hall.'
 NO_NAME = 'The hall is not called by this address. Use the address that was handed out.'
 TOO_LONG = 'That is longer than anything the hall takes. Nothing was changed.'
-TOLD = {'candidate', 'gaps', 'counts', 'moves', 'handed_in', 'state', 'said', 'question', 'leaving',
+TOLD = {'candidate', 'gaps', 'counts', 'moves', 'handed_in', 'state', 'said', 'question', 'leaving', 'uncut',
         'receipt', 'left'}
 
 
@@ -72,7 +72,7 @@ def told(tally: Tally, seen: Browser, folder: pathlib.Path) -> None:
         counts = ['Dependences uncut: 0 of 6.' in reply['state'] for _, reply in replies]
         tally.check('how many is told', all(counts), replies)
         text = raw(hall.port, request(hall, 'GET', '/')).decode()
-        traces = re.findall('data-cut|class="[^"]*dots|UNCUT|[Hh]ollow|class="[ic] u"', text)
+        traces = re.findall('class="[^"]*dots|[Uu]ncut|UNCUT|[Hh]ollow|class="[ic] u"', text)
         tally.check('what the page has', bool(traces) == practice, traces)
         page.leave(LEAVING)
         hall.end()

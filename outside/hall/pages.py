@@ -2,27 +2,30 @@
 import contextlib
 
 from office.library import Desk
+from office.paper import paper_on
 from office.refusal import Refused
 from office.words import RULES
 from outside.hall.browser import ENTER, Browser, until
 from outside.hall.opened import Hall
 from outside.trying import Tally
 
-# What a person sees: bars and empty gaps that are drawn, buttons that are pressed, hollow numbers, words and counts.
+# What a person sees: barriers and empty gaps, buttons that are pressed, hollow numbers, words and counts.
 SHOWN = """
 const all = (selector) => [...document.querySelectorAll(selector)];
-const drawn = (place, selector) => [...place.querySelectorAll(selector)].some((piece) => piece.getClientRects().length);
+const style = (place, selector) => getComputedStyle(place.querySelector(selector));
 const places = all('[data-barrier]');
 const number = (place) => Number(Object.values(place.dataset)[0]);
 return {
-    bars: places.filter((place) => drawn(place, '.bar')).map(number),
-    empty: places.filter((place) => drawn(place, '.gap, .barred')).map(number),
+    bars: places.filter((place) => style(place, 'path').strokeWidth === '5px').map(number),
+    empty: places.filter((place) => style(place, 'path').strokeDasharray !== 'none').map(number),
     pressed: all('button[data-gap][aria-pressed="true"]').map(number),
-    hollow: all('g[data-cut]').filter((place) => getComputedStyle(place.querySelector('circle.b')).fill ===
-        getComputedStyle(document.body).backgroundColor).map(number),
-    dots: places.some((place) => drawn(place, '.dots')),
-    words: all('li[data-cut] span').map((words) => words.textContent),
-    counts: all('[data-count]').map((place) => [number(place), place.textContent.trim()]),
+    numbers: all('[data-number]').map((place) => place.dataset.number),
+    hollow: all('[data-number]').filter((place) => style(place, '.b').fill ===
+        getComputedStyle(document.body).backgroundColor).map((place) => place.dataset.number),
+    dots: Boolean(document.querySelector('.dots')?.getAttribute('d')),
+    words: all('#dependences li').map((item) => item.childNodes[2]?.data).filter(Boolean),
+    counts: all('[data-count]').map((place) => [number(place), place.textContent]),
+    tree: all('[data-tree]').map((place) => place.textContent),
     state: document.getElementById('state')?.textContent,
     said: ['said', 'refused', 'lost'].map((id) => document.getElementById(id)?.textContent).join(''),
     who: document.getElementById('candidate')?.textContent,
@@ -45,6 +48,7 @@ class Page:
         self.practice = '--practice' in hall.more
         self.browser, self.desk, self.handed_in = browser, Desk(), ''
         self.desk.load(hall.paper)
+        self.paper = paper_on(self.desk)
 
     def enter(self, ticket: str = '') -> None:
         self.browser.open(self.hall.address)
@@ -59,17 +63,25 @@ class Page:
         self.browser.click('#go')
         until(lambda: self.browser.script('return document.title'), 'Ticket')
 
-    def wanted(self, said: str) -> dict[str, object]:
-        """What the page must show of the library's sitting."""
+    def wanted(self, said: str, numbers: list[str]) -> dict[str, object]:
+        """What the page must show of the library's sitting, if it has these numbers, some of them of several."""
         now = self.desk.standing()
+        uncut = {str(number) for number, many in enumerate(now.cuts) if not many and self.practice}
         return {'bars': now.gaps, 'pressed': now.gaps, 'said': said, 'who': self.called,
                 'empty': [gap for gap in range(1, len(self.desk.nest.points)) if gap not in now.gaps],
-                'hollow': [number for number, many in enumerate(now.cuts) if not many and self.practice],
+                'hollow': [group for group in numbers if uncut.intersection(group.split())],
                 'words': [f'; cut, barriers: {many}' if many else '; UNCUT' for many in now.cuts if self.practice],
                 'dots': any(self.dots(gap) for gap in now.gaps) and self.practice,
                 'counts': [[d, f'count {count}'] for d, count in now.counts.items()],
+                'tree': [f'barriers {count}, {self.at_home(d, uncut)}' for d, count in now.counts.items()],
                 'state': f'{self.handed_in}Barriers: {len(now.gaps)}. Dependences uncut: {now.uncut} of '
                          f'{len(now.cuts)}.'}
+
+    def at_home(self, d: int, uncut: set[str]) -> str:
+        """What the page says of the dependences at home in a loop."""
+        mine = self.paper.at_home[d]
+        open_ = f'uncut {len(uncut.intersection(map(str, mine)))} of' if self.practice and mine else 'at home'
+        return f'{open_} {len(mine)}'
 
     def dots(self, gap: int) -> bool:
         """Whether a barrier cuts anything."""
@@ -80,9 +92,11 @@ class Page:
         return any(alone.standing().cuts)
 
     def shows(self, step: str, said: str = '') -> None:
-        wanted = self.wanted(said)
-        found = until(lambda: self.browser.script(SHOWN), wanted)
-        differ = {key: (found[key], wanted[key]) for key in wanted if found[key] != wanted[key]}
+        def differing() -> dict[str, object]:
+            found = self.browser.script(SHOWN)
+            wanted = self.wanted(said, found['numbers'])
+            return {key: (found[key], wanted[key]) for key in wanted if found[key] != wanted[key]}
+        differ = until(differing, {})
         self.tally.check(f'{self.name}: {step}', not differ, differ)
 
     def turn(self, gap: int, by: str = 'mouse') -> None:

@@ -95,7 +95,7 @@ def chosen(tally: Tally, page: Page) -> None:
         low = [told for told in found if told[0] < 4.5]
         tally.check(f'chosen colours, {colours}', len(found) > 30 and not low, low)
         strokes = seen.script("""return ['.i .l', '.c .l'].map((kind) => getComputedStyle(
-            document.querySelector(`svg ${kind}`)).strokeDasharray);""")
+            document.querySelector(`.lanes ${kind}`)).strokeDasharray);""")
         tally.check(f'kinds in chosen colours, {colours}', strokes[0] == 'none' != strokes[1], strokes)
     media(seen)
 

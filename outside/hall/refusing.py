@@ -103,8 +103,12 @@ def off_the_routes(hall: Hall) -> list[Case]:
     """No page, no file, and no other method."""
     paths = ('/answers', '/tickets.csv', '/sitting.log', '/anna.hex', '/key', '/../desk', '/%2e%2e/desk', '/..%2fdesk',
              '/hall.css/../sitting.log', '/served/sitting.html', '/sitting?', '/sitting/', '/?x',
+             '/?', '/?loop=2', '/?loop=', '/?loop=01', '/?loop=+1', '/?loop=1&', '/?loop=1&unfold=', '/?unfold',
+             '/?loop=1&unfold&unfold', '/?unfold&loop=1', '/?loop=256', '/?loop=1000', '/?loop=%31', '/?loop=1&x',
+             '//?loop=1', '/listing?', '/listing?loop=1',
              f'http://127.0.0.1:{hall.port}/desk', '/\\..\\desk', '*')
-    others = [('GET', '/move'), ('HEAD', '/hand-in'), ('POST', '/'), ('POST', '/sitting'), *(
+    others = [('GET', '/move'), ('HEAD', '/hand-in'), *(
+        ('POST', path) for path in ('/', '/?loop=1', '/listing', '/sitting')), *(
         (method, '/sitting') for method in ('PUT', 'DELETE', 'OPTIONS', 'TRACE', 'CONNECT', 'PATCH'))]
     return [*((404, path, 'GET', path, b'', {}) for path in paths),
             *((404, path, 'POST', path, b'put 5 at 1', {}) for path in ('/move/', '/../move')),

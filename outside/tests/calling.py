@@ -32,7 +32,8 @@ def missing(tally: Tally, folder: pathlib.Path) -> None:
     tally.check('shown', b'|   DO L2 may not run\n' in shown and spelled(shown, '') == paper.read_bytes(), shown)
     tally.check('checked', b'2 dependences, 1 loop that may not run\n' in run(DESK, 'check', paper).out)
     drawn = run(DESK, 'draw', paper).out
-    tally.check('drawn', drawn.count(b'class="box flagged"') == 1 and b'DO loop 2, may not run' in drawn, drawn[:300])
+    dashed = drawn.count(b'class="box d2 flagged"') == 1
+    tally.check('drawn', dashed and b'DO loop 2, may not run' in drawn, drawn[:300])
     named = b'Loop 2 needs a barrier for its missing run.'
     tally.check('named below the key', named in drawn and named not in run(DESK, 'draw', paper, '4').out, drawn[-900:])
     tally.check('its key', run(DESK, 'key', paper) == Seen(b'2104\n220000\n220201\n', '', 0))

@@ -11,7 +11,7 @@ from office.lanes import packed
 from outside.measure import papers
 from outside.trying import DRAW, EXAMPLES, KEY, ROOT, VERSION, Seen, Tally, run
 
-MEGABYTE = 1_000_000
+HALF_A_MEGABYTE = 500_000
 PICTURES = {'p': ['p'], 'q-best': ['q'], 'q-dearer': ['q', '4,7'], 'r': ['r'], 'foundation': ['foundation']}
 SVG = '{http://www.w3.org/2000/svg}'
 # How much of the page the block of a loop covers, behind its lanes.
@@ -67,13 +67,13 @@ def barred(tally: Tally, folder: pathlib.Path) -> None:
     paper = ROOT / 'examples' / 'foundation.hex'
     seen = run(DRAW, paper, '6')
     words = words_of(texts_of(seen))
-    tally.check('three bands', seen.out.count(b'class="barred"') == 3 and seen.status == 0, seen)
-    tally.check('red numbers', words_of(texts_of(seen), 'red') == ['1', '2', '4'], seen)
+    bands = re.findall(rb'class="gap barred">\n<path [^>]*>\n<rect [^>]*>\n<text [^>]*>(\d+)<', seen.out)
+    tally.check('three bands', bands == [b'1', b'2', b'4'] and seen.status == 0, seen)
     tally.check('the sign', any('barred gap' in word for word in words), words)
     told = 'carried by loop 0, 4 to 1: gaps 1 and 5 to 6; barred 1; cut by 6'
     tally.check('a caption', told in words and 'barred 1 to 2, 4; UNCUT' in ' '.join(words), words)
     seen = run(DRAW, ROOT / 'examples' / 'r.hex')
-    bars = b'class="barred"' in seen.out or 'barred' in ' '.join(words_of(texts_of(seen)))
+    bars = b'class="gap barred' in seen.out or 'barred' in ' '.join(words_of(texts_of(seen)))
     tally.check('no band', not bars and seen.status == 0, seen)
     blocked, answer = folder / 'blocked.hex', folder / 'answer.hex'
     blocked.write_bytes(b'01\n03\n02\n110001\n1301\n')
@@ -90,17 +90,18 @@ def barred(tally: Tally, folder: pathlib.Path) -> None:
 
 
 def full_size(tally: Tally, folder: pathlib.Path) -> None:
-    """A paper of 256 points and 512 dependences: under a megabyte, every number at both ends and in words."""
+    """A paper of 256 points and 512 dependences: under half a megabyte, every number in words, and all in the
+    window."""
     every, other = ','.join(map(str, range(1, 256))), ','.join(map(str, range(1, 256, 2)))
     for kind in ['mixed', 'one', 'deep', 'barred']:
         paper = folder / f'{kind}.hex'
         paper.write_bytes(papers.text(kind))
         for gaps in [[]] if kind == 'barred' else [[], [every], [other]]:
             name, seen = f'full size, {kind}, {gaps[0][:8] if gaps else "its key"}', run(DRAW, paper, *gaps)
-            tally.check(f'{name}: size', 0 < len(seen.out) < MEGABYTE and seen.status == 0, len(seen.out))
+            tally.check(f'{name}: size', 0 < len(seen.out) < HALF_A_MEGABYTE and seen.status == 0, len(seen.out))
             texts = texts_of(seen)
             numbers = words_of(texts, 'n')
-            tally.check(f'{name}: numbers', sorted(map(int, numbers)) == sorted(list(range(512)) * 3), len(numbers))
+            tally.check(f'{name}: numbers', numbers == [*map(str, range(512))], len(numbers))
             wide = float(re.search(rb'width="([0-9.]+)"', seen.out + b'width="0"').group(1))
             over = [text.text for text in texts if text.get('class', '') in ('title', 'word', 'pale')
                     and float(text.get('x')) + 5 * len(text.text) > wide]
@@ -110,6 +111,38 @@ def full_size(tally: Tally, folder: pathlib.Path) -> None:
     tally.check('a long title wraps', ' '.join(title).endswith('253, 255') and len(title) > 1, title)
     seen = run(DRAW, folder / 'mixed.hex', shell='"$@" | head -c 100; exit ${PIPESTATUS[1]}')
     tally.check('a reader who leaves', (len(seen.out), seen.err, seen.status) == (100, '', 0), seen)
+
+
+def views(tally: Tally, folder: pathlib.Path) -> None:
+    """One loop alone, folded and unfolded, and some dependences alone."""
+    paper, large = ROOT / 'examples' / 'p.hex', folder / 'mixed.hex'
+    seen = run(DRAW, paper, '5,9', '--loop', '7')
+    words = words_of(texts_of(seen))
+    tally.check('a loop', words_of(texts_of(seen), 'title') == ['p, loop 7, barriers 5, 9'] and 'count 1' in words and
+                'statement 8' in words and 'statement 5' not in words, words)
+    captions = [word for word in words if 'gaps' in word and '; ' in word]
+    tally.check('its dependences', captions == [
+        'independent, 8 to 11: gaps 9 to 11; cut by 9',
+        'carried by loop 7, 10 to 9: gaps 8 to 9 and 11 to 12; cut by 9'], captions)
+    outer = words_of(texts_of(run(DRAW, paper, '5,9', '--loop', '0')))
+    tally.check('loops inside folded', '\u25b8 loop 1, 1 to 6' in outer and outer.count('1 inside') == 2 and
+                'statement 2' not in outer, outer)
+    unfolded = words_of(texts_of(run(DRAW, paper, '5,9', '--loop', '0', '--unfold')))
+    tally.check('unfolded', 'statement 2' in unfolded and '\u25b8 loop 1, 1 to 6' not in unfolded, unfolded)
+    seen = run(DRAW, paper, '5', '--only', '5, 1')
+    numbers = words_of(texts_of(seen), 'n')
+    tally.check('some dependences', sorted(numbers) == ['1'] * 3 + ['5'] * 3 and words_of(texts_of(seen), 'title') == [
+        'p, dependences 1, 5, barriers 5'], seen)
+    seen = run(DRAW, large, '', '--loop', '113')
+    tally.check('a loop of a full-size paper', seen.status == 0 and len(seen.out) < 60_000, len(seen.out))
+    for name, word, *asked in [
+            ('no such loop', 'no DO of this paper', '--loop', '2'), ('no number', 'no DO of this paper', '--loop', 'x'),
+            ('unfold alone', '--unfold goes with --loop', '--unfold'),
+            ('no such dependence', 'no dependences of this paper, which has 0 to 5', '--only', '6'),
+            ('no dependence', 'no dependences of this paper', '--only', ''),
+            ('of another loop', 'at home in loop 0, not in loop 1', '--loop', '1', '--only', '5')]:
+        seen = run(DRAW, paper, '5', *asked)
+        tally.check(name, seen.failed(word), seen)
 
 
 def light_of(colour: str) -> float:
@@ -201,6 +234,7 @@ def main() -> None:
         drawn(tally, folder)
         barred(tally, folder)
         full_size(tally, folder)
+        views(tally, folder)
         lanes(tally)
         contrasts(tally)
         faults(tally, folder)
