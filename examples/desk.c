@@ -7,6 +7,10 @@ int main(int argc, char **argv) {
     static uint8_t text[8192], key[DESK_TEXT];
     const uint8_t answer[] = "2103\n2109\n";
     const char *verdicts[] = {"Uncut", "Dearer", "Best"};
+    if (desk_version().major != DESK_MAJOR) {
+        fprintf(stderr, "the library is of another version than desk.h\n");
+        return 2;
+    }
     FILE *paper = fopen(argc == 2 ? argv[1] : "examples/p.hex", "rb");
     size_t length = paper ? fread(text, 1, sizeof text, paper) : 0;
     if (!paper || !feof(paper)) {

@@ -10,6 +10,7 @@ def record(**fields):
     return type('Record', (Structure,), {'_fields_': list(fields.items())})
 
 
+Version = record(major=c_size_t, minor=c_size_t, patch=c_size_t)
 Desk = record(words=c_uint64 * 449)  # DESK_WORDS of desk.h: handed on, never opened
 Reply = record(number=c_uint8, line=c_size_t, desk=Desk)
 Answer = record(number=c_uint8, line=c_size_t, value=c_size_t)
@@ -18,11 +19,14 @@ Mark = record(number=c_uint8, line=c_size_t, verdict=c_uint8, a=c_size_t, b=c_si
 
 host = ctypes.CDLL('target/libdesk.so')
 lent = ctypes.c_char_p
-for name, result, given in [('desk_new', Desk, []), ('desk_load', Reply, [Desk, lent, c_size_t]),
-                            ('desk_plan', Reply, [Desk]), ('desk_write', Answer, [Desk, lent, c_size_t]),
+for name, result, given in [('desk_version', Version, []), ('desk_new', Desk, []),
+                            ('desk_load', Reply, [Desk, lent, c_size_t]), ('desk_plan', Reply, [Desk]),
+                            ('desk_write', Answer, [Desk, lent, c_size_t]),
                             ('desk_mark', Mark, [Desk, lent, c_size_t]), ('desk_put', Moved, [Desk, c_size_t])]:
     getattr(host, name).restype, getattr(host, name).argtypes = result, given
 
+if host.desk_version().major != 1:  # DESK_MAJOR of desk.h
+    sys.exit('the library is of another version than this program')
 text = open(sys.argv[1] if len(sys.argv) > 1 else 'examples/p.hex', 'rb').read()
 reply = host.desk_load(host.desk_new(), text, len(text))
 if not reply.number:

@@ -1,6 +1,7 @@
 //! Reads a paper, works out its key, marks the placement 3, 9 beside it, and puts a barrier at gap 5 of a sitting.
 //!   rustc -L target/staticlib -l static=host examples/desk.rs -o target/desk && target/desk examples/p.hex
 
+#[repr(C)] struct Version { major: usize, _minor: usize, _patch: usize }
 #[repr(C)] #[derive(Clone, Copy)] struct Desk { words: [u64; 449] } // DESK_WORDS of desk.h: handed on, never opened
 #[repr(C)] struct Reply { number: u8, line: usize, desk: Desk }
 #[repr(C)] struct Answer { number: u8, line: usize, value: usize }
@@ -8,6 +9,7 @@
 #[repr(C)] struct Mark { number: u8, line: usize, verdict: u8, a: usize, b: usize, c: usize }
 
 extern "C" {
+    fn desk_version() -> Version;
     fn desk_new() -> Desk;
     fn desk_load(desk: Desk, text: *const u8, length: usize) -> Reply;
     fn desk_plan(desk: Desk) -> Reply;
@@ -17,6 +19,7 @@ extern "C" {
 }
 
 fn main() {
+    assert!(unsafe { desk_version() }.major == 1, "the library is of another version than this program"); // DESK_MAJOR
     let paper = std::env::args().nth(1).unwrap_or("examples/p.hex".into());
     let text = std::fs::read(paper).expect("the paper cannot be read");
     let (answer, mut key) = (b"2103\n2109\n", [0; 1275]);

@@ -229,4 +229,8 @@ def library() -> ctypes.CDLL:
     for name, (gives, takes) in DECLARED.functions.items():
         function = getattr(found, name)
         function.restype, function.argtypes = gives, takes
+    told, wanted = found.desk_version(), [DECLARED.numbers[f'DESK_{part}'] for part in ('MAJOR', 'MINOR', 'PATCH')]
+    if [told.major, told.minor, told.patch] != wanted:
+        raise Fault(f'the library is version {told.major}.{told.minor}.{told.patch}, and desk.h is of '
+                    f'{".".join(map(str, wanted))}: they are of two releases')
     return found

@@ -1,4 +1,7 @@
-"""Which desk this is: the version, the commit that it was made from, and the hash of the proved library."""
+"""Which desk this is: the version, the commit that it was made from, and the hash of the proved library.
+
+  python3 -m office.version NAME    says so under a name, for ./key
+"""
 import argparse
 import functools
 import hashlib
@@ -9,8 +12,9 @@ import sys
 from collections.abc import Sequence
 from typing import Any
 
-from office.command import ROOT, Fault, write_out
-from office.places import SHARED
+from office.built import LIBRARY, wanting
+from office.command import ROOT, Fault, run, write_out
+from office.places import CLONE, SHARED
 
 VERSION, COMMIT = ROOT / 'VERSION', ROOT / 'COMMIT'
 UNKNOWN, SHORT = 'unknown', 12
@@ -52,9 +56,9 @@ def desk_version() -> str:
 
 
 def told() -> str:
-    """What --version says. The library is not built for it."""
-    built = f'library {library_sha256()}' if SHARED.exists() else 'its library is not built yet'
-    return f'{version()}, commit {commit()}, {built}'
+    """What --version says. The library is not built for it, and one of other sources is not this desk's."""
+    reason = next(filter(None, map(wanting, LIBRARY)), '') if CLONE else ''
+    return f'{version()}, commit {commit()}, ' + (f'its library {reason}' if reason else f'library {library_sha256()}')
 
 
 class Told(argparse.Action):
@@ -66,5 +70,13 @@ class Told(argparse.Action):
 
     def __call__(self, parser: argparse.ArgumentParser, namespace: argparse.Namespace,
                  values: str | Sequence[Any] | None, option_string: str | None = None) -> None:
-        write_out(f'{self.name} {told()}\n'.encode())
+        say_as([self.name])
         sys.exit(0)
+
+
+def say_as(names: list[str]) -> None:
+    write_out(f'{names[0]} {told()}\n'.encode())
+
+
+if __name__ == '__main__':
+    run(sys.argv[1], say_as)

@@ -50,6 +50,9 @@
 extern "C" {
 #endif
 
+/* The version of this header. A library with another DESK_MAJOR has other calls or structs. */
+enum { DESK_MAJOR = 1, DESK_MINOR = 0, DESK_PATCH = 0 };
+
 /* Limits: points, dependences, barred gaps, the gaps of a placement, the moves that can be taken back. */
 enum { DESK_POINTS = 256, DESK_DEPENDENCES = 512, DESK_BARS = 255, DESK_GAPS = 256, DESK_MOVES = 64 };
 
@@ -240,6 +243,14 @@ typedef struct DeskMark {
     uint8_t verdict;
     size_t a, b, c;
 } DeskMark;
+
+typedef struct DeskVersion {
+    size_t major, minor, patch;
+} DeskVersion;
+
+/* The version of the library. A host asks first: it goes on only with the DESK_MAJOR that it was compiled with, and
+   with a minor number not below DESK_MINOR. */
+DeskVersion desk_version(void);
 
 /* A desk with no nest and no key. */
 Desk desk_new(void);

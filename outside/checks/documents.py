@@ -1,4 +1,4 @@
-"""Holds README.md, docs/ and the READMEs of outside/ against the repository.
+"""Holds README.md, CHANGELOG.md, docs/ and the READMEs of outside/ against the repository.
 
   python3 -m outside.checks.documents              all checks; the last line is 'N passed, M failed'
   python3 -m outside.checks.documents --lengths    writes the lengths under "The definitions behind the contracts" anew
@@ -49,7 +49,7 @@ class Check(NamedTuple):
 # ---- The documents
 
 def documents() -> Documents:
-    paths = [ROOT / 'README.md', *sorted((ROOT / 'docs').glob('**/*.md')),
+    paths = [ROOT / 'README.md', ROOT / 'CHANGELOG.md', *sorted((ROOT / 'docs').glob('**/*.md')),
              *sorted((ROOT / 'outside').glob('*/README.md'))]
     return {str(path.relative_to(ROOT)): path.read_text() for path in paths}
 

@@ -30,10 +30,12 @@ static DeskShape shape;
 static DeskCalls calls;
 static DeskImproved improved;
 static DeskRunEnds ends;
+static DeskVersion version;
 static DeskJoined joined;
 static DeskCompared compared;
 
 #define CALL(name, does) static void name(void) { does; }
+CALL(desk_version_, version = desk_version())
 CALL(desk_new_, desk = desk_new())
 CALL(desk_reset_, desk = desk_reset(desk))
 CALL(desk_load_, reply = desk_load(desk, text, length))
@@ -95,6 +97,7 @@ static void fill(void) {
 static void *day(void *number) {
     volatile uint8_t own[OWN];
     for (size_t i = 0; i < OWN; i++) own[i] = 0;
+    TELL(desk_version);
     TELL(desk_new);
     TELL(desk_load);
     *(int *)number = reply.number;

@@ -59,6 +59,18 @@ def check_said(tally: Tally) -> None:
         tally.check(f'the header says: {rule}', rule in said)
 
 
+def check_version(tally: Tally) -> None:
+    """One version: the file's is the header's, and the newest of the changes; layout.c holds the library's beside it."""
+    version = (ROOT / 'VERSION').read_text().strip()
+    header = [re.search(rf'DESK_{part} = (\d+)', HEADER.read_text()).group(1) for part in ('MAJOR', 'MINOR', 'PATCH')]
+    newest = re.search(r'^## (\S+)$', (ROOT / 'CHANGELOG.md').read_text(), re.M).group(1)
+    tally.check('VERSION is three numbers', re.fullmatch(r'\d+\.\d+\.\d+', version) is not None, version)
+    tally.check("VERSION is the header's", version == '.'.join(header), header)
+    tally.check('the newest of CHANGELOG', version == newest, newest)
+    for name, form in {'desk.rs': f'.major == {header[0]},', 'desk.py': f'.major != {header[0]}:'}.items():
+        tally.check(f'{name}: {form}', form in (ROOT / 'examples' / name).read_text())
+
+
 def check_layout(tally: Tally, work: pathlib.Path) -> None:
     """Sizes and offsets of every struct, in C."""
     status, said = run(*C, 'outside/tests/layout.c', ARCHIVE, '-o', work / 'layout')
@@ -107,6 +119,7 @@ def main() -> None:
             check_names(tally)
             check_words(tally)
             check_said(tally)
+            check_version(tally)
             check_layout(tally, pathlib.Path(name))
             check_examples(tally, pathlib.Path(name))
             check_stack(tally, pathlib.Path(name))

@@ -112,6 +112,10 @@ AT(DeskRunEnds, number, 0, 1);
 AT(DeskRunEnds, line, 8, 8);
 AT(DeskRunEnds, waiting, 16, 4);
 AT(DeskRunEnds, barriers, 20, 4);
+SIZE(DeskVersion, 24);
+AT(DeskVersion, major, 0, 8);
+AT(DeskVersion, minor, 8, 8);
+AT(DeskVersion, patch, 16, 8);
 SIZE(DeskJoined, 24);
 AT(DeskJoined, number, 0, 1);
 AT(DeskJoined, text, 1, 1);
@@ -168,6 +172,7 @@ typedef void *OnTexts(void *, const uint8_t *, size_t, const uint8_t *, size_t, 
 typedef void *OnBoth(void *, Desk, const uint8_t *, size_t, uint8_t *, size_t);
 
 static void sizes(Desk desk, DeskPlain plain) {
+    GIVES(Fresh, desk_version, sizeof(DeskVersion), room);
     GIVES(Fresh, desk_new, sizeof(Desk), room);
     GIVES(OnDesk, desk_reset, sizeof(Desk), room, desk);
     GIVES(OnText, desk_load, sizeof(DeskReply), room, desk, P, sizeof P - 1);
@@ -289,6 +294,11 @@ static void improving(Desk desk) {
     that("17 turns", desk_improve(desk, (const uint8_t[]){1, 17}, 2, 9).number == 17);
 }
 
+static void versions(void) {
+    DeskVersion version = desk_version();
+    that("version", version.major == DESK_MAJOR && version.minor == DESK_MINOR && version.patch == DESK_PATCH);
+}
+
 static void sheets(void) {
     DeskRunEnds ends = desk_sheet(2, 2, WORK, 4, WAITS, 2);
     that("ends", ends.number == 0 && ends.line == 0 && ends.waiting == 6 && ends.barriers == 10);
@@ -347,6 +357,7 @@ int main(void) {
     skipping(desk_load(desk, SKIPPING, sizeof SKIPPING - 1).desk);
     improving(desk_plan(desk_load(desk, ONCE, sizeof ONCE - 1).desk).desk);
     joining();
+    versions();
     sheets();
     printf("%d passed, %d failed\n", passed, failed);
     return failed != 0;

@@ -89,7 +89,7 @@ def statuses(tally: Tally, folder: pathlib.Path) -> None:
         tally.check(f'P {name}', (seen.out, seen.err, seen.status) == (P_ANSWER, '', 0), seen)
     seen = run(KEY)
     tally.check('empty', (seen.out, seen.status) == (b'220000\n', 0) and 'the blank paper' in seen.err, seen)
-    for option, word in [('--help', b'usage: ./key'), ('--version', f'key {VERSION}\n'.encode())]:
+    for option, word in [('--help', b'usage: ./key'), ('--version', f'key {VERSION}, commit '.encode())]:
         seen = run(KEY, option)
         tally.check(option, word in seen.out and (seen.err, seen.status) == ('', 0), seen)
         seen = run(KEY, option, shell=FULL)

@@ -16,7 +16,7 @@ ghost use Rattle.call_gaps.specs.Says.{GapsSays};
 ghost use Rattle.call_standing.specs.Says.{StandingSays};
 ghost use Rattle.call_slips.specs.Says.{CandidateSays, ExaminerSays};
 ghost use Rattle.call_textbook.specs.Says.{TextbookSays};
-ghost use Rattle.host.specs.Says.{MarkSays};
+ghost use Rattle.host.specs.Says.{MarkSays, VersionSays};
 ghost use Rattle.host.specs.Marks.{coded, markOut, verdictOut};
 ghost use Rattle.host.specs.Records.{recordsOf};
 ghost use mathlib.Core.Path.{_≡_};
@@ -49,8 +49,22 @@ pub struct Mark {
     pub c: usize,
 }
 
+// The version of the library, as the file VERSION has it.
+#[repr(C)]
+pub struct Version {
+    pub major: usize,
+    pub minor: usize,
+    pub patch: usize,
+}
+
 // The bytes of a record in a lent list: kind, d, s, t.
 const RECORD: usize = 4;
+
+const MAJOR: usize = 1;
+
+const MINOR: usize = 0;
+
+const PATCH: usize = 0;
 
 const UNCUT: u8 = 0;
 
@@ -287,6 +301,17 @@ pub extern "C" fn desk_go_over(old: PlainDesk) -> Desk
     ensures { λ r. ⌜ OverSays old r ⌝ }
 {
     desk::go_over(old)
+}
+
+#[no_mangle]
+pub extern "C" fn desk_version() -> Version
+    ensures { λ r. ⌜ VersionSays r ⌝ }
+{
+    Version {
+        major: MAJOR,
+        minor: MINOR,
+        patch: PATCH,
+    }
 }
 
 // Mark's answer in numbers.
