@@ -4,7 +4,7 @@ import re
 from collections.abc import Callable
 from typing import TypeVar
 
-from office.causes import Ask, no_gap, paper_cause, placement_cause
+from office.causes import Ask, gaps_told, no_gap, paper_cause, placement_cause
 from office.command import REFUSED, Fault, printable, read_in, tell
 from office.frames import DO, placement_text
 from office.library import Desk, Nest, refusal_of
@@ -14,6 +14,7 @@ from office.taken import decimal_in, is_listing
 from office.words import RULES, counted, gaps_named, joined
 
 Given = TypeVar('Given')
+LONG = 9
 TURNS, TURNS_HELP = 16, 'the turns of the loops in the order of their DOs, with commas between, or one number for all'
 GAPS_HELP = "gaps in decimal with commas between, '' for none, or a file with these or with a placement text"
 PAPER_HELP = 'a file with a nest text or a listing; - for standard input'
@@ -112,7 +113,10 @@ def planned(file: str, blank: bool = True) -> tuple[Desk, bytes]:
 def placement_asked(argument: str, desk: Desk) -> bytes:
     """The placement text that an argument names: a list of gaps in decimal, or a file with such a list or a text."""
     if re.fullmatch('[0-9, ]*', argument):
-        return placement_of([int(word) for word in re.findall('[0-9]+', argument)], desk)
+        words = re.findall('[0-9]+', argument)
+        if any(len(word) > LONG for word in words):
+            raise Fault(f'a number of more than {LONG} digits is no gap: {gaps_told(len(desk.nest.points), texts=False)}')
+        return placement_of([*map(int, words)], desk)
     if re.match('[0-9]', argument) and not os.path.lexists(argument):
         raise Fault(f'{printable(argument)} is no file, and no list of gaps: they are decimal, with commas between')
     text = read_in(argument)

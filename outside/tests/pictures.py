@@ -78,11 +78,11 @@ def barred(tally: Tally, folder: pathlib.Path) -> None:
     blocked, answer = folder / 'blocked.hex', folder / 'answer.hex'
     blocked.write_bytes(b'01\n03\n02\n110001\n1301\n')
     seen = run(DRAW, blocked)
-    tally.check('no key to draw', seen.out == b'' and 'all its gaps barred' in seen.err and seen.status == 1, seen)
+    tally.check('no key to draw', seen.out == b'' and 'only barred gaps' in seen.err and seen.status == 1, seen)
     seen = run(DRAW, blocked, '2')
     tally.check('a blocked paper', 'barred 1; UNCUT' in ' '.join(words_of(texts_of(seen))) and seen.status == 0, seen)
     seen = run(DRAW, paper, '2,3,4,5,1')
-    tally.check('a list with barred gaps', seen.failed('barred on this paper') and '1 to 2, 4\n' in seen.err, seen)
+    tally.check('a list with barred gaps', seen.failed('gap 1 is barred'), seen)
     for typed, word in [(b'2104\n', 'number 16'), (b'2103\n2104\n2102\n', 'number 16'), (b'2103\n2102\n', 'number 8')]:
         answer.write_bytes(typed)
         seen = run(DRAW, paper, answer)
@@ -208,15 +208,18 @@ def faults(tally: Tally, folder: pathlib.Path) -> None:
         tally.check(f'{typed!r} refused', same and (seen.out, seen.status) == (b'', 1), seen)
         tally.check(f'{typed!r} refused with gaps', run(DRAW, bad, '1') == seen, seen)
     for typed, word in [(b'2104\n2102\n', 'number 8'), (b'2100\n', 'number 8'), (b'210a\n', 'number 8'),
-                        (b'2204\n', 'number 2'), (b'21\n', 'number 2'), (b'210A\n', 'capital digits'),
+                        (b'2204\n', 'number 2'), (b'210405\n', 'number 2'), (b'210A\n', 'capital digits'),
                         (b'2104', 'no line feed')]:
         text.write_bytes(typed)
         seen = run(DRAW, paper, text)
         tally.check(f'{typed!r} as a placement', seen.out == b'' and word in seen.err and seen.status == 1, seen)
+    decimal = folder / 'decimal.txt'
+    decimal.write_bytes(b'21\n')
     for name, word, seen in [
-            ('a gap too high', 'no gaps of this paper', run(DRAW, paper, '4,10')),
-            ('gap 0', 'no gaps of this paper', run(DRAW, paper, '0')),
-            ('a long number', 'no gaps of this paper', run(DRAW, paper, '1' * 5000)),
+            ('a gap too high', 'its gaps are 1 to 9', run(DRAW, paper, '4,10')),
+            ('gap 0', 'its gaps are 1 to 9', run(DRAW, paper, '0')),
+            ('a long number', 'its gaps are 1 to 9', run(DRAW, paper, '1' * 5000)),
+            ('a file with a number in decimal', 'its gaps are 1 to 9', run(DRAW, paper, decimal)),
             ('no paper', 'cannot read', run(DRAW, folder / 'none.hex')),
             ('a folder', 'cannot read', run(DRAW, folder)),
             ('a paper without end', 'more than 1,048,576 bytes', run(DRAW, '/dev/zero')),
