@@ -54,8 +54,9 @@ def check_said(tally: Tally) -> None:
     """What a host has to keep to, which no call can try, stands in the header."""
     said = ' '.join(HEADER.read_text().split())
     for rule in ('No call checks a desk: on one that no call made it may answer anything',
+                 'Two desks are not to be compared byte by byte',
                  'Where the length is 0 the pointer is not read, and may be NULL.',
-                 'A buffer does not overlap a text that it is written from', ROOM):
+                 'A buffer does not overlap a text that it is written from; two texts may overlap.', ROOM):
         tally.check(f'the header says: {rule}', rule in said)
 
 

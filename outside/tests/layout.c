@@ -346,6 +346,16 @@ static void empty(Desk desk) {
     that("sheet of one phase", desk_sheet(1, 1, WORK, 1, NULL, 0).waiting == 5);
 }
 
+/* Two texts may overlap: the same one twice, and one that is the end of the other. */
+static void overlapping(Desk desk) {
+    const uint8_t *both = (const uint8_t *)"2105\n210b\n";
+    DeskCompared same = desk_compare(desk, both, 10, both, 10), less = desk_compare(desk, both, 10, both + 5, 5);
+    that("a text beside itself", same.number == 0 && same.first && same.second && same.deciding.words[0] == 0);
+    that("a text beside its end", less.number == 0 && !less.first && less.second);
+    DeskJoined twice = desk_join(P, sizeof P - 1, P, sizeof P - 1, lent, sizeof lent);
+    that("a paper with itself", twice.number == 0 && desk_load(desk, lent, twice.value).number == 0);
+}
+
 int main(void) {
     Desk desk = desk_load(desk_new(), P, sizeof P - 1).desk;
     DeskPlain plain = {.loaded = true, .nest = desk.nest, .planned = true};
@@ -353,6 +363,7 @@ int main(void) {
     fields(desk);
     told(desk);
     empty(desk);
+    overlapping(desk);
     barred(desk_load(desk, FOUNDATION, sizeof FOUNDATION - 1).desk);
     skipping(desk_load(desk, SKIPPING, sizeof SKIPPING - 1).desk);
     improving(desk_plan(desk_load(desk, ONCE, sizeof ONCE - 1).desk).desk);
