@@ -47,6 +47,8 @@ def parts(scripts: int = SCRIPTS, programs: int = PROGRAMS) -> dict[str, Part]:
         'imports': module('no import that its file does not use', 'checks.imports', False),
         'types': module('the types of the office', 'checks.types', False),
         'arguments': module('the checker of arguments', 'tests.arguments', False),
+        'faults': Part('the faults that the judge must catch fit the code',
+                       [sys.executable, '-m', 'outside.faults.faults', '--fit'], False),
         'hosts': module('the C boundary', 'tests.hosts'),
         'reading': Part("the judge's check of itself", [judge, '--self-check']),
         'scripts': Part('every call beside the judge', [judge, '--scripts', '1', str(scripts)]),

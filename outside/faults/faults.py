@@ -1,6 +1,7 @@
 """Puts faults into copies of the library, one at a time, and plays the judge's scripts against each copy.
 
   python3 -m outside.faults.faults [SECONDS [LABEL...]]    SECONDS: how long the scripts run on each copy (default 20)
+  python3 -m outside.faults.faults --fit                   only whether each edit fits the sources, in a second
 
 A copy's sources are the crates' own, with one edit of faults.txt. Nothing is proved of it: contracts are taken off,
 and what is left, which Rust reads as well, is compiled by rustc into a shared library that the judge loads. The copy
@@ -10,6 +11,8 @@ alone. The last line is 'N passed, M failed'.
 import os
 import pathlib
 import re
+import resource
+import signal
 import subprocess
 import sys
 import tempfile
@@ -18,6 +21,8 @@ from dataclasses import dataclass
 from outside.checks.repository import edges
 from outside.trying import ROOT
 
+# The judge's threads, and the seconds of the processor that it may take for its first scripts and for shortening one.
+JUDGES, SPARE = 2, 40
 RUSTC = ['rustc', '--edition', '2021', '-O', '-A', 'warnings', '-C', 'panic=abort']
 
 
@@ -112,15 +117,16 @@ def build(folder: pathlib.Path, fault: Fault | None) -> None:
 
 
 def verdict(judge: pathlib.Path, folder: pathlib.Path, seconds: int) -> str | None:
-    """How the judge catches the copy, None where it does not."""
+    """How the judge catches the copy, None where it does not. The time is the processor's: other work takes none."""
     environment = {**os.environ, 'LD_LIBRARY_PATH': str(folder)}
     command = [judge, '--scripts', '1', str(seconds)]
-    try:
-        run = subprocess.run(command, env=environment, capture_output=True, text=True, timeout=seconds + 20)
-    except subprocess.TimeoutExpired:
-        return 'no answer in time'
+    allowed = JUDGES * seconds + SPARE
+    run = subprocess.run(command, env=environment, capture_output=True, text=True, check=False,
+                         preexec_fn=lambda: resource.setrlimit(resource.RLIMIT_CPU, (allowed, allowed + 1)))
     if run.returncode == 0:
         return None
+    if run.returncode in (-signal.SIGXCPU, -signal.SIGKILL):
+        return 'no answer in time'
     difference = [line for line in run.stdout.splitlines() if line.startswith('difference')]
     if not difference:
         return f'stopped, status {run.returncode}'
@@ -142,7 +148,27 @@ def outcome(work: pathlib.Path, fault: Fault | None, seconds: int) -> tuple[bool
     return caught is not None, caught or 'NOT CAUGHT'
 
 
+def fit() -> int:
+    """Whether each edit's text stands once in a file of the library, and no label twice in the list."""
+    passed = failed = 0
+    labels = set()
+    for fault in read_faults():
+        try:
+            library(fault)
+            if fault.label in labels:
+                raise Unusable('it stands twice in the list')
+            labels.add(fault.label)
+            passed += 1
+        except Unusable as reason:
+            failed += 1
+            print(f'{fault.label}: {reason}')
+    print(f'{passed} passed, {failed} failed')
+    return 0 if failed == 0 else 1
+
+
 def main() -> int:
+    if sys.argv[1:] == ['--fit']:
+        return fit()
     seconds = int(sys.argv[1]) if len(sys.argv) > 1 else 20
     chosen = sys.argv[2:]
     passed = failed = 0

@@ -14,9 +14,9 @@
 //! Of other full-size papers: that the key is correct, has no barrier to spare and none that could stand earlier among
 //! the gaps of its loop, and comes with the right counts.
 //! The library's calls are played in random scripts, in and out of turn; number, line, values, every lent byte and the
-//! whole desk are compared after each. Before them every two lines of a list are loaded, one behind the other, and
-//! every paper of at most 7 points and two dependences, whichever of its loops are flagged; and every two placements on
-//! nests of so many points are held beside each other.
+//! whole desk are compared after each. Before them papers at the limits are played, every two lines of a list, one
+//! behind the other, and every paper of at most 7 points and two dependences, whichever of its loops are flagged; and
+//! every two placements on nests of so many points are held beside each other.
 //! A difference is printed with the text or the script that shows it, and the judge ends with status 1.
 //!
 //! It links the library: rustc -O outside/judge/main.rs -L target/staticlib -l static=host -o target/judge
@@ -30,6 +30,7 @@ mod edges;
 mod host;
 mod improving;
 mod joining;
+mod limits;
 mod nests;
 mod order;
 mod papers;

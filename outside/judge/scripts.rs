@@ -7,6 +7,7 @@ use crate::edges::{edges, pairs};
 use crate::host::{self, gaps_of, KEPT};
 use crate::improving::{improvements, random_budget};
 use crate::joining::{at_limit, joins, joint_length};
+use crate::limits::at_limits;
 use crate::nests::*;
 use crate::order::key_fault;
 use crate::papers::*;
@@ -285,8 +286,8 @@ fn play_calls(calls: Vec<Call>, tally: &mut Numbers) -> Option<Vec<Call>> {
     if calls.iter().all(|call| make_counted(&mut pair, call, tally)) { None } else { Some(calls) }
 }
 
-/// What is asked of every two lines of a list, one behind the other, of every small paper and every two placements on
-/// it, and of papers made for a call.
+/// What is asked of papers at the limits, of every two lines of a list, one behind the other, of every small paper and
+/// every two placements on it, and of papers made for a call.
 fn fixed_scripts() -> Vec<Vec<Call>> {
     let lines = pairs().into_iter().map(|text| vec![Call::Load(text), Call::Plan]);
     let flagged = (0..FIXED).map(|case| small_flagged(&mut Random::new(14, case)).text());
@@ -295,7 +296,8 @@ fn fixed_scripts() -> Vec<Vec<Call>> {
     let beside = (2..=SMALLEST).flat_map(every_shape).flat_map(|nest| comparisons(&nest));
     let every = (2..=SMALLEST).flat_map(every_paper).map(|nest| asks_of(&nest));
     let shapes = shapes::every_ask();
-    lines.chain(asked).chain(joins()).chain(every_sheet()).chain(beside).chain(shapes).chain(every).collect()
+    let first = at_limits().into_iter().chain(lines);
+    first.chain(asked).chain(joins()).chain(every_sheet()).chain(beside).chain(shapes).chain(every).collect()
 }
 
 /// What is asked of a small paper: its missing runs; its calls under all turns from 2 to 4, under some if it is not one

@@ -7,6 +7,7 @@ use crate::desk_check::check_desk;
 use crate::edges::edges;
 use crate::improving::check_improving;
 use crate::joining::check_joining;
+use crate::limits::check_limits;
 use crate::nests::*;
 use crate::order::*;
 use crate::papers::*;
@@ -48,6 +49,7 @@ pub fn self_check() -> bool {
     check_joining(&mut checks);
     check_improving(&mut checks);
     check_sheets(&mut checks);
+    check_limits(&mut checks);
     (0..400).for_each(|case| check_random(&mut checks, &mut Random::new(7, case)));
     finish(checks.passed, checks.failed)
 }
