@@ -1,8 +1,8 @@
 """./desk: the commands of an office's day, each in a module of its own."""
 import argparse
 
-from office import (audit, calls, certificate, check, collect, draw, export, improve, join, key, mark, missing, sheet,
-                    show, sit, slip, spell, story, take_in, textbook, verify, view, why)
+from office import (audit, c_program, calls, certificate, check, collect, draw, export, improve, join, key, mark,
+                    missing, sheet, show, sit, slip, spell, story, take_in, textbook, verify, view, why)
 from office.command import Parser
 from office.version import Told
 
@@ -12,8 +12,9 @@ hexadecimal in texts."""
 STATUS = 'Status: 0 done, 1 refused, 2 bad usage or a file that cannot be read or written.'
 COMMANDS = {'check': check, 'show': show, 'spell': spell, 'key': key, 'mark': mark, 'collect': collect,
             'register': view, 'export': export, 'slip': slip, 'certificate': certificate, 'verify': verify,
-            'audit': audit, 'take-in': take_in, 'why': why, 'draw': draw, 'join': join, 'calls': calls,
-            'textbook': textbook, 'missing': missing, 'improve': improve, 'sheet': sheet, 'sit': sit, 'story': story}
+            'audit': audit, 'take-in': take_in, 'why': why, 'draw': draw, 'program': c_program, 'join': join,
+            'calls': calls, 'textbook': textbook, 'missing': missing, 'improve': improve, 'sheet': sheet, 'sit': sit,
+            'story': story}
 
 
 def parser() -> Parser:

@@ -59,6 +59,7 @@ def parts(scripts: int = SCRIPTS, programs: int = PROGRAMS) -> dict[str, Part]:
         'telling': module('./desk: what it tells', 'tests.telling'),
         'calling': module('./desk: the calls of the change requests', 'tests.calling'),
         'mistakes': module('./desk: what people get wrong, and what they are told', 'tests.mistakes'),
+        'compiled': module('./desk program: compiled, and run with real threads', 'threads.compiled'),
         'workday': module('./desk: a day in the office', 'tests.workday'),
         'trouble': module('./desk: what can go wrong', 'tests.trouble'),
         'book': module('./desk: the register', 'tests.book'),
