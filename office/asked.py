@@ -29,7 +29,8 @@ def said_of(text: bytes) -> Refusal | None:
 def refused(file: str, refusal: Refused, text: bytes, cause: str = '') -> Fault:
     """The refusal of a file's text in words, with its cause where it is known."""
     where, *rules = refusal.refusal.words(text, cause)
-    return Fault('\n'.join([f'{printable(file)}: {where}', *rules]), REFUSED)
+    return Fault('\n'.join([f'{printable(file)}: {where}', *rules]), REFUSED, refusal.refusal.number,
+                 refusal.refusal.line)
 
 
 def refused_paper(file: str, refusal: Refused, text: bytes, desk: Desk | None = None) -> Fault:
@@ -163,8 +164,8 @@ def turned(desk: Desk, argument: str, call: Callable[[Desk, bytes], Given],
         return call(desk, turns)
     except Refused as refusal:
         cause = turns_cause(desk.nest, turns, lambda some: refusal_of(lambda told: (tried or call)(desk, told), some))
-        raise Fault(f'turns {argument} are refused for this paper\nnumber {refusal.refusal.number}: {cause}',
-                    REFUSED) from refusal
+        raise Fault(f'turns {argument} are refused for this paper\nnumber {refusal.refusal.number}: {cause}', REFUSED,
+                    refusal.refusal.number, 0) from refusal
 
 
 def turns_cause(nest: Nest, turns: bytes, ask: Ask) -> str:

@@ -9,7 +9,7 @@ from collections import Counter
 from collections.abc import Callable, Iterable
 from dataclasses import dataclass, field
 
-from office.command import REFUSED, Fault, write_out
+from office.command import REFUSED, Fault, write_json, write_out
 from office.keeping import finding_of
 from office.library import Desk
 from office.marks import HEAD, NO_MARK, Finding, Mark, sha256_of
@@ -204,6 +204,7 @@ def planned(text: bytes) -> Desk | None:
 def arguments(parser: argparse.ArgumentParser) -> None:
     parser.add_argument('register', metavar='REGISTER', help='the file of the register')
     parser.add_argument('--head', metavar='HEAD', help='a head that was noted before: it must be that of a mark')
+    parser.add_argument('--json', action='store_true', help='an object, for programs')
 
 
 def main(asked: argparse.Namespace) -> None:
@@ -213,6 +214,10 @@ def main(asked: argparse.Namespace) -> None:
     with opened(asked.register) as register:
         audit = Audit(register, register.end())
         audit.look(head)
-        write_out('\n'.join([*audit.report(head), '']).encode())
+        if asked.json:
+            write_json({'marks': audit.end[0], 'papers': len(audit.papers), 'answers': len(audit.answers),
+                        'faults': audit.faults, 'head': audit.end[1]})
+        else:
+            write_out('\n'.join([*audit.report(head), '']).encode())
     if audit.faults:
         raise Fault('', REFUSED)

@@ -3,30 +3,50 @@ import argparse
 import contextlib
 import os
 import pathlib
-import secrets
+import re
 import select
 import signal
 import stat
 import sys
-from collections.abc import Callable
+from collections.abc import Callable, Iterable
 from typing import NoReturn
 
 ROOT = pathlib.Path(__file__).resolve().parent.parent
 REFUSED, FAILED, INTERRUPTED = 1, 2, 130
 # More bytes than any text, listing or sheet has.
 ENOUGH = 1 << 20
+NUMBER = re.compile(r'-[0-9]+(?:\.[0-9]*)?')
+# Standard input, once it was read; what was done so far, the latest last.
+READ: list[str] = []
+DONE = ['nothing was written']
 
 
 class Fault(Exception):
-    """What a user has to mend, a sentence a line."""
+    """What a user has to mend, a sentence a line; of a refusal also the number and the line."""
 
-    def __init__(self, message: str, status: int = FAILED):
+    def __init__(self, message: str, status: int = FAILED, number: int | None = None, line: int | None = None):
         super().__init__(message)
-        self.status = status
+        self.status, self.number, self.line = status, number, line
 
 
 class Parser(argparse.ArgumentParser):
     """Reads arguments; what is wrong with them is a fault like any other, and the help is written like any result."""
+
+    def asked(self, arguments: list[str]) -> argparse.Namespace:
+        """What the arguments ask for. An option that is none is named before anything is missed."""
+        self.allow_abbrev = False
+        known = self._option_string_actions
+        for word in arguments[:arguments.index('--') if '--' in arguments else None]:
+            option = word.partition('=')[0]
+            if not option.startswith('-') or option == '-' or NUMBER.fullmatch(option) or option in known:
+                continue
+            if option.startswith('--') or option[:2] not in known:
+                meant = nearest(option, known)
+                self.error(f'no option {printable(option)}{f": did you mean {meant}?" if meant else ""}')
+        asked, more = self.parse_known_args(arguments)
+        if more:
+            self.error(f'one argument too many: {printable(more[0])}')
+        return asked
 
     def error(self, message: str) -> NoReturn:
         raise Fault(f'{message}; {self.prog} --help says how to ask')
@@ -35,15 +55,25 @@ class Parser(argparse.ArgumentParser):
         write_out(message.encode())
 
 
+def nearest(word: str, names: Iterable[str]) -> str:
+    """The name that somebody meant, most likely; '' where none is near."""
+    from difflib import get_close_matches  # which no command needs that is asked rightly
+    known = [*names]
+    alike = [name for name in known if name.casefold() == word.casefold()]
+    return (alike or get_close_matches(word, known, 1) or [''])[0]
+
+
 def printable(name: str) -> str:
     """A file's name for a message or a title."""
     return ''.join(c if c.isprintable() else '?' for c in name)
 
 
 def tell(name: str, message: str) -> None:
-    """Says something on standard error, a sentence a line."""
-    for sentence in message.splitlines():
-        print(f'{name}: {sentence}', file=sys.stderr)
+    """Says something on standard error, a sentence a line. Where nobody can be told, the status still tells."""
+    lines = ''.join(f'{name}: {sentence}\n' for sentence in message.splitlines()).encode('utf-8', 'replace')
+    with contextlib.suppress(OSError):
+        while lines:
+            lines = lines[os.write(2, lines):]
 
 
 def mention(message: str) -> None:
@@ -60,13 +90,36 @@ def write_out(data: bytes) -> None:
     try:
         while data:
             data = data[os.write(1, data):]
+            done('standard output was written' + ' in part' * bool(data))
     except OSError as fault:
         raise Fault(f'standard output was not written: {fault.strerror}') from fault
 
 
+def write_json(value: object) -> None:
+    """Writes a value for programs: JSON in UTF-8, fields in the order of docs/JSON.md."""
+    import json
+    lines = [json.dumps(one, ensure_ascii=False) for one in (value if isinstance(value, list) else [value])]
+    text = ',\n'.join(lines)
+    write_out((f'[{text}]\n' if isinstance(value, list) else f'{text}\n').encode('utf-8', 'replace'))
+
+
 def read_in(file: str) -> bytes:
-    """The bytes of a file, or of standard input for a dash."""
+    """The bytes of a file, or of standard input for a dash, which can be read once."""
+    if file == '-' and READ:
+        raise Fault('- stands for standard input, and can be named once')
+    READ.extend([file] * (file == '-'))
     return read_from(0 if file == '-' else file, file)
+
+
+def files_in(folder: str) -> list[str]:
+    """The texts in a folder, in the order of their names."""
+    try:
+        names = sorted(name for name in os.listdir(folder) if name.endswith('.hex'))
+    except OSError as fault:
+        raise Fault(f'cannot read {printable(folder)}: {fault.strerror}') from fault
+    if not names:
+        raise Fault(f'{printable(folder)} is a folder with no file *.hex in it')
+    return [os.path.join(folder, name) for name in names]
 
 
 def read_plain(file: str) -> bytes:
@@ -118,6 +171,9 @@ def write_over(file: str, data: bytes, lasting: bool = False, begins: bytes = b'
     """Writes a file beside, under a name of its own, and renames it over: at every moment the old one or the new one is
     there, whole. What is lasting is on the disk before it takes the old one's place. A file that does not begin as what
     is written here is somebody else's, and is left alone."""
+    import secrets  # which takes long to load
+    if file == '-':
+        raise Fault('- stands for standard output, and this is written to a file: give it a name')
     target = place_of(file)
     if begins and not begins_with(target, begins):
         raise Fault(f'{printable(file)} is there and is none of the desk\'s files, so it is left alone: '
@@ -147,12 +203,20 @@ def take_away(file: str) -> None:
         raise Fault(f'cannot remove {printable(file)}: {fault.strerror}') from fault
 
 
+def done(what: str) -> None:
+    """Notes what was done so far, to be said if somebody ends the command."""
+    DONE[:] = [what]
+
+
 def run(name: str, command: Callable[[list[str]], None]) -> None:
     """Runs a command on the arguments."""
+    if signal.getsignal(signal.SIGINT) is signal.SIG_DFL:
+        signal.signal(signal.SIGINT, signal.default_int_handler)
     try:
         command(sys.argv[1:])
     except Fault as fault:
         tell(name, str(fault))
         sys.exit(fault.status)
     except KeyboardInterrupt:
+        tell(name, f'ended: {DONE[0]}')
         sys.exit(INTERRUPTED)

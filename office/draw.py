@@ -85,4 +85,4 @@ def alone(given: list[str]) -> None:
                     formatter_class=argparse.RawDescriptionHelpFormatter)
     parser.add_argument('--version', action=Told, name='draw')
     arguments(parser)
-    main(parser.parse_args(given))
+    main(parser.asked(given))

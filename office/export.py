@@ -2,7 +2,7 @@
 import argparse
 from dataclasses import dataclass
 
-from office.command import FAILED, Fault, printable, tell, write_out
+from office.command import FAILED, Fault, done, printable, tell, write_out
 from office.marks import Mark
 from office.progress import Progress
 from office.register import Register, opened, readable
@@ -44,6 +44,8 @@ class Export:
         if mark.answer is not None and not faults:
             self.notes += mark.verdict == REFUSED
             self.written += mark.verdict != REFUSED
+        done(f'{counted(self.written, "answer")} with slips and {counted(self.notes, "note")} were written; the same '
+             'command goes on')
 
     def made(self, mark: Mark) -> Made:
         """The slips of an answer with their pages, or the notes of one that was refused."""

@@ -3,11 +3,12 @@ import argparse
 
 from office.asked import PAPER_HELP, paper_text, refused_paper
 from office.causes import LONGEST
-from office.command import write_out
+from office.command import Fault, write_json, write_out
 from office.frames import COUNT, REFUSAL, text_of
 from office.library import Desk
-from office.paper import paper_on, placed
+from office.paper import loops_told, paper_on, placed
 from office.refusal import BLOCKED, Refusal, Refused
+from office.skipped import missing_told
 from office.trees import drawn
 from office.words import gaps_named
 
@@ -29,21 +30,29 @@ def answer_to(text: bytes, desk: Desk) -> bytes:
 def in_words(desk: Desk) -> bytes:
     """The key's gaps, and the tree of its counts."""
     key = placed(desk, desk.key())
-    return '\n'.join([f'key: {gaps_named(key.gaps)}', *drawn(paper_on(desk), key.counts), '']).encode()
+    missing = missing_told(desk.missing_runs())
+    return '\n'.join([f'key: {gaps_named(key.gaps)}', *drawn(paper_on(desk), key.counts), *missing, '']).encode()
 
 
 def arguments(parser: argparse.ArgumentParser) -> None:
     parser.add_argument('paper', metavar='PAPER', help=PAPER_HELP)
     parser.add_argument('--words', action='store_true', help='in words: gaps in decimal, counts as a tree')
+    parser.add_argument('--json', action='store_true', help='gaps, counts and missing runs, for programs')
 
 
 def main(asked: argparse.Namespace) -> None:
+    if asked.words and asked.json:
+        raise Fault('--words is for people and --json for programs: give one of them')
     text, desk = paper_text(asked.paper), Desk()
     try:
         answer = answer_to(text, desk)
     except Refused as refusal:
         number, line = refusal.refusal.number, refusal.refusal.line
-        if not asked.words:
+        if not asked.words and not asked.json:
             write_out(text_of([[REFUSAL, number, line >> 8, line & 255]]))
         raise refused_paper(asked.paper, refusal, text, desk if number == BLOCKED else None) from refusal
-    write_out(in_words(desk) if asked.words else answer)
+    if asked.json:
+        key = placed(desk, desk.key())
+        write_json({'gaps': key.gaps, 'counts': loops_told(key.counts), 'missing_runs': desk.missing_runs()})
+    else:
+        write_out(in_words(desk) if asked.words else answer)

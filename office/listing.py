@@ -3,13 +3,11 @@
 Names are turned into points here and nothing else is looked at: whether the paper is in order the desk says, and what
 it refuses is told at its line and column of the listing.
 """
-import difflib
 import unicodedata
-from collections.abc import Iterable
 from dataclasses import dataclass, field
 
 from office.causes import CAUSES, OPEN, NAMES, Faulty, Naming
-from office.command import REFUSED, Fault, printable
+from office.command import REFUSED, Fault, nearest, printable
 from office.frames import BARRED, CARRIED, DO, ENDDO, FLAGGED, INDEPENDENT, STATEMENT, text_of
 from office.library import Desk, refusal_of
 from office.refusal import Refusal
@@ -159,7 +157,8 @@ class Listing:
     def arrow(self, number: int, words: list[Word]) -> None:
         """A -> B, or A -> B round LOOP."""
         at = next(at for at, word in enumerate(words) if word.text in ARROWS)
-        rounds = next((k for k in range(at + 1, len(words)) if words[k].means('ROUND') and k > at + 1), len(words))
+        rounds = next((k for k in range(at + 1, len(words)) if words[k].means('ROUND') and len(words) > at + 2),
+                      len(words))
         first, second = (self.end(some, words[at], where) for some, where in (
             (words[:at], 'before'), (words[at + 1:rounds], 'behind')))
         loop = words[rounds + 1:]
@@ -236,13 +235,6 @@ class Called(Naming):
         return ''
 
 
-def nearest(word: str, names: Iterable[str]) -> str:
-    """The name that somebody meant, most likely."""
-    known = [*names]
-    alike = [name for name in known if name.casefold() == word.casefold()]
-    return (alike or difflib.get_close_matches(word, known, 1) or [''])[0]
-
-
 def instead_of_name(first: Word, rest: list[Word]) -> tuple[str, Word, Word]:
     """What was meant by more than a name, and where it begins and ends."""
     signs = ''.join(word.text for word in rest[:-1])
@@ -298,8 +290,9 @@ class Typed:
 
     def fault(self, line: int, column: int, width: int, why: str, cure: str = '') -> Fault:
         """A fault of the listing, with its line and a mark below its place."""
-        return Fault('\n'.join([f'{self.file}: line {line}, column {column + 1} of the listing is refused: {why}',
-                                *marked(self.lines[line - 1], column, width), *[cure] * bool(cure)]), REFUSED)
+        where = f'{self.file}: line {line}, column {column + 1} of the listing is refused'
+        shown = marked(self.lines[line - 1], column, width)
+        return Fault('\n'.join([f'{where}: {why}', *shown, *[cure] * bool(cure)]), REFUSED, None, line)
 
     def refused(self, listing: Listing, frames: list[list[int]], refusal: Refusal) -> Fault:
         """What the desk refuses, told at its place in the listing."""

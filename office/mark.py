@@ -8,7 +8,8 @@ from dataclasses import dataclass, field
 
 from office.asked import BLANK_HELP, PAPER_HELP, answer_cause, planned
 from office.candidates import IDENTITY, IDENTITY_FORM, Candidate, candidates_in, folded
-from office.command import FAILED, REFUSED, Fault, printable, read_plain, tell, write_out
+from office.command import (FAILED, REFUSED, Fault, done, files_in, printable, read_in, read_plain, tell, write_json,
+                            write_out)
 from office.keeping import EVERY, Answer, Marker, PaperText, finding_of, keep, marker, telling
 from office.library import Desk
 from office.marks import Finding, sha256_of
@@ -25,7 +26,7 @@ MORE = """A candidate is called as the file of the answer, without .hex. An answ
 line on standard error says why, and the others are marked. A file that cannot be read is marked Not read, and takes no
 mark away that is there. The status is then 1, or 2 where something was not read, not kept or not written.
 
-  ./desk mark paper.hex answers/*.hex
+  ./desk mark paper.hex answers
   ./desk mark paper.hex answers/*.hex --register register.db --new
   ./desk mark paper.hex answers/*.hex --register register.db --candidates names.csv --slips slips
   ./desk mark paper.hex late/anna.hex --register register.db --replace "handed in again, with leave"
@@ -70,6 +71,9 @@ class Marking:
             elif self.slips is not None and answer.text is not None:
                 self.hand_out(self.slips, answer, answer.text)
             self.done.append(answer)
+        if self.register is None:
+            slips = '' if self.slips is None else ', and have their slips'
+            done(f'{counted(len(self.done), "answer")} were marked{slips}; no row was written')
 
     def kept(self, answers: list[Answer]) -> list[tuple[Answer, str]]:
         """Answers, each with why the register did not take it, or nothing."""
@@ -121,6 +125,18 @@ def listed_in(file: str, paper: str) -> dict[str, Candidate]:
     return {folded(one.identity): one for one in candidates_in(file) if one.paper in ('', paper)}
 
 
+def answers_in(places: list[str]) -> list[str]:
+    """The files of answers: themselves, those in a folder, those that a list names, a line each."""
+    files: list[str] = []
+    for place in places:
+        if place.startswith('@'):
+            named = read_in(place[1:]).decode('utf-8', 'surrogateescape').splitlines()
+            files += answers_in([f'./{line}' if line.startswith('@') else line for line in named if line.strip()])
+        else:
+            files += files_in(place) if os.path.isdir(place) else [place]
+    return files
+
+
 def files_of(files: list[str], listed: dict[str, Candidate] | None) -> tuple[dict[str, str], list[str]]:
     """The file of each candidate, and what is wrong with files that are nobody's. A file that is not there is a slip of
     the hand where no list says who should have one."""
@@ -163,7 +179,8 @@ def register_asked(asked: argparse.Namespace) -> contextlib.AbstractContextManag
 
 def arguments(parser: argparse.ArgumentParser) -> None:
     parser.add_argument('paper', metavar='PAPER', help=PAPER_HELP)
-    parser.add_argument('answers', metavar='ANSWER', nargs='+', help='a file with a placement text')
+    parser.add_argument('answers', metavar='ANSWER', nargs='+',
+                        help='a file with a placement text, a folder of these, or @FILE, a list of files, a line each')
     parser.add_argument('--register', metavar='FILE',
                         help='keeps the marks in a register, and writes how many there are to standard output instead')
     parser.add_argument('--new', action='store_true', help='makes the register, where no file is yet')
@@ -172,11 +189,13 @@ def arguments(parser: argparse.ArgumentParser) -> None:
                         help='who should have an answer: a list, or CSV with id and name; the others are Absent')
     parser.add_argument('--slips', metavar='DIR', help='writes both slips of each answer, each reader\'s in a folder')
     parser.add_argument('--blank', action='store_true', help=BLANK_HELP)
+    parser.add_argument('--json', action='store_true',
+                        help='rows as a list of objects; with a register, how many there are of each verdict')
 
 
 def main(asked: argparse.Namespace) -> None:
     listed = None if asked.candidates is None else listed_in(asked.candidates, paper_name(asked.paper))
-    files, wrong = files_of(asked.answers, listed)
+    files, wrong = files_of(answers_in(asked.answers), listed)
     desk, text = planned(asked.paper, asked.blank)
     paper = PaperText(sha256_of(text), paper_name(asked.paper), text)
     slips = None if asked.slips is None else Slips(asked.slips)
@@ -194,7 +213,14 @@ def main(asked: argparse.Namespace) -> None:
             mark_all(marking, everyone, listed)
         if register is None:
             rows = [first_cells(one.candidate, one.finding, paper.sha256, one.sha256) for one in marking.done]
-            write_out(as_csv(FIRST, sorted(rows, key=lambda row: str(row['candidate']))))
+            rows.sort(key=lambda row: str(row['candidate']))
+            if asked.json:
+                write_json(rows)
+            else:
+                write_out(as_csv(FIRST, rows))
+        elif asked.json:
+            write_json({'verdicts': Counter(one.finding.verdict for one in marking.done), 'added': register.kept,
+                        'head': register.head()})
         else:
             added = f'{counted(register.kept, "mark")} added, head {register.head()}'
             write_out(f'{summary(marking.done)}\n{printable(asked.register)}: {added}\n'.encode())

@@ -4,7 +4,7 @@ from functools import cached_property
 
 from office.frames import INDEPENDENT, NONE, frames_of
 from office.library import Desk
-from office.words import ranges, runs_of
+from office.words import ranges, stretches
 
 
 @dataclass(frozen=True)
@@ -52,7 +52,7 @@ class Paper:
         """A dependence in words: its kind, its gaps, and which of them are barred."""
         kind = 'independent' if x.d is None else f'carried by loop {x.d}'
         barred = ranges([gap for gap in x.gaps if gap in self.barred])
-        return f'{kind}, {x.s} to {x.t}: gaps {" and ".join(runs_of(x.gaps))}{f"; barred {barred}" if barred else ""}'
+        return f'{kind}, {x.s} to {x.t}: {stretches(x.gaps)}{f"; barred {barred}" if barred else ""}'
 
 
 @dataclass(frozen=True)
@@ -61,6 +61,11 @@ class Placed:
     gaps: list[int]
     counts: dict[int, int]
     uncut: int | None
+
+
+def loops_told(counts: dict[int, int]) -> list[dict[str, int]]:
+    """How many barriers each loop has of its own, for programs."""
+    return [{'loop': d, 'count': count} for d, count in counts.items()]
 
 
 def placed(desk: Desk, text: bytes) -> Placed:

@@ -2,7 +2,6 @@
 
   python3 -m office.refusal NAME ANSWER PROGRAM < TEXT    NAME: who says it; ANSWER: the program's line 2f for the text
 """
-import subprocess
 import sys
 from dataclasses import dataclass
 
@@ -54,6 +53,7 @@ def refusal_in(answer: str) -> Refusal:
 
 def answered(program: str, text: bytes) -> Refusal | None:
     """Why the program refuses a text; None where it has a key, or can have none."""
+    import subprocess  # which no command of ./desk needs
     answer = subprocess.run([program], input=text, stdout=subprocess.PIPE, check=True).stdout.decode()
     refusal = refusal_in(answer) if answer.startswith(f'{REFUSAL:02x}') else None
     return refusal if refusal and refusal.number != BLOCKED else None

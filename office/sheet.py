@@ -6,7 +6,7 @@ and the processors it waits for, itself too, with commas between.
 import argparse
 import re
 
-from office.command import REFUSED, Fault, printable, read_in, write_out
+from office.command import REFUSED, Fault, printable, read_in, write_json, write_out
 from office.header import DECLARED
 from office.library import refusal_of, run_ends
 from office.refusal import Refused
@@ -76,6 +76,7 @@ def waits_cause(processors: int, phases: int, durations: list[int], waits: list[
 
 def arguments(parser: argparse.ArgumentParser) -> None:
     parser.add_argument('sheet', metavar='SHEET', help='a file with a timing sheet; - for standard input')
+    parser.add_argument('--json', action='store_true', help='an object, for programs')
 
 
 def main(asked: argparse.Namespace) -> None:
@@ -85,5 +86,9 @@ def main(asked: argparse.Namespace) -> None:
     except Refused as refusal:
         number = refusal.refusal.number
         cause = size_cause(*sheet[:2]) if number == SIZE else waits_cause(*sheet)
-        raise Fault(f'{printable(asked.sheet)}: the sheet is refused\nnumber {number}: {cause}', REFUSED) from refusal
+        raise Fault(f'{printable(asked.sheet)}: the sheet is refused\nnumber {number}: {cause}', REFUSED, number,
+                    0) from refusal
+    if asked.json:
+        write_json({'waiting': waiting, 'barriers': barriers})
+        return
     write_out(f'with its waits the run ends at {waiting:,}\nwith all barriers kept it ends at {barriers:,}\n'.encode())

@@ -10,12 +10,13 @@
 import argparse
 
 from office.asked import PAPER_HELP, loaded
-from office.command import write_out
-from office.frames import DO, ENDDO
+from office.command import write_json, write_out
+from office.frames import DO, ENDDO, STATEMENT
 from office.paper import Paper, paper_on
 
 HELP = 'writes a paper as an indented listing, with gap numbers and dependences in words'
 MORE = 'The number left of a bar is the gap just before that line. ./desk spell reads such a listing.'
+KINDS = {DO: 'DO', ENDDO: 'ENDDO', STATEMENT: 'statement'}
 REMARK = '# Left of the bar is the gap just before a line. S names a statement by its point, L a loop by its DO.'
 
 
@@ -44,10 +45,23 @@ def listing_of(paper: Paper) -> str:
     return '\n'.join([*lines, *[''] * bool(words), *words, ''])
 
 
+def told(paper: Paper) -> dict[str, object]:
+    """The same for programs."""
+    loops = [{'do': d, 'enddo': end, 'deep': paper.depth[d] + 1, 'may_not_run': d in paper.flagged}
+             for d, end in paper.end.items()]
+    dependences = [{'carried_by': x.d, 's': x.s, 't': x.t, 'gaps': x.gaps} for x in paper.dependences]
+    return {'points': [KINDS[kind] for kind in paper.points], 'loops': loops, 'dependences': dependences,
+            'owners': [{'gap': gap, 'loop': d} for gap, d in paper.owner.items()], 'barred': sorted(paper.barred)}
+
+
 def arguments(parser: argparse.ArgumentParser) -> None:
     parser.add_argument('paper', metavar='PAPER', help=PAPER_HELP)
+    parser.add_argument('--json', action='store_true', help='points, loops, dependences and gaps, for programs')
 
 
 def main(asked: argparse.Namespace) -> None:
     desk, _ = loaded(asked.paper)
-    write_out(listing_of(paper_on(desk)).encode())
+    if asked.json:
+        write_json(told(paper_on(desk)))
+    else:
+        write_out(listing_of(paper_on(desk)).encode())

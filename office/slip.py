@@ -2,8 +2,8 @@
 import argparse
 
 from office.asked import loaded
-from office.command import REFUSED, Fault, printable, read_in, write_out
-from office.paper import Paper, paper_on
+from office.command import REFUSED, Fault, printable, read_in, write_json, write_out
+from office.paper import Paper, loops_told, paper_on
 from office.slip_words import Slip, counts_told, cuts_told, slip_in, uncut_told
 from office.view import verdict
 
@@ -19,6 +19,7 @@ COUNTS, CUTS = 'Barriers of its own in each loop:', 'The lowest gap that cuts ea
 def arguments(parser: argparse.ArgumentParser) -> None:
     parser.add_argument('slip', metavar='FILE', help='a file with a slip; - for standard input')
     parser.add_argument('--paper', metavar='PAPER', help='the paper that the slip is of')
+    parser.add_argument('--json', action='store_true', help='an object, for programs')
 
 
 def told(slip: Slip, paper: Paper | None) -> list[str]:
@@ -37,4 +38,9 @@ def main(asked: argparse.Namespace) -> None:
         raise Fault(f'{printable(asked.slip)} is no slip: {fault}', REFUSED) from fault
     if paper is not None and not slip.is_of(paper):
         raise Fault(f'{printable(asked.slip)} is no slip of {printable(asked.paper)}', REFUSED)
-    write_out('\n'.join([*told(slip, paper), '']).encode())
+    if asked.json:
+        finding = None if slip.finding is None else vars(slip.finding)
+        write_json({'reader': slip.reader, 'uncut': slip.uncut, 'counts': loops_told(slip.counts), 'finding': finding,
+                    'cuts': slip.cuts})
+    else:
+        write_out('\n'.join([*told(slip, paper), '']).encode())

@@ -1,7 +1,7 @@
 """./desk verify: whether a certificate was given by this register, and whether its mark still holds."""
 import argparse
 
-from office.command import REFUSED, Fault, printable, write_out
+from office.command import REFUSED, Fault, printable, write_json, write_out
 from office.marks import certificate_in
 from office.register import Register, opened, readable
 from office.slip_pages import of_whom, when
@@ -20,6 +20,7 @@ FORM = 'a number has sixteen letters and digits in groups of four'
 def arguments(parser: argparse.ArgumentParser) -> None:
     parser.add_argument('register', metavar='REGISTER', help='the file of the register')
     parser.add_argument('number', metavar='NUMBER', help='the number of the certificate')
+    parser.add_argument('--json', action='store_true', help='an object, for programs')
 
 
 def answer_to(register: Register, typed: str) -> tuple[bool, list[str]]:
@@ -46,6 +47,9 @@ def answer_to(register: Register, typed: str) -> tuple[bool, list[str]]:
 def main(asked: argparse.Namespace) -> None:
     with opened(asked.register) as register, readable(asked.register):
         holds, lines = answer_to(register, asked.number)
-    write_out('\n'.join([*lines, '']).encode())
+    if asked.json:
+        write_json({'holds': holds, 'words': lines})
+    else:
+        write_out('\n'.join([*lines, '']).encode())
     if not holds:
         raise Fault('', REFUSED)

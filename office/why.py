@@ -5,14 +5,15 @@ import textwrap
 from dataclasses import dataclass
 
 from office.asked import GAPS_HELP, PAPER_HELP, TURNS, TURNS_HELP, loaded, placement_asked, planned, turns_asked
-from office.command import Fault, write_out, write_over
+from office.command import Fault, write_json, write_out, write_over
 from office.frames import DO
 from office.library import DEARER, UNCUT, Compared, Desk, Mark
 from office.page import BEGINS, Shown, page
-from office.paper import Paper, Placed, paper_on, placed
+from office.paper import Paper, Placed, loops_told, paper_on, placed
 from office.refusal import Refused
+from office.skipped import relied_on, skipped_told
 from office.trees import beside, drawn
-from office.words import VERDICTS, counted, gaps_named, ranges, runs_of
+from office.words import VERDICTS, counted, gaps_named, spoken, stretches
 
 HELP = 'tells how one placement beats another on a paper, or how it stands beside the key'
 MORE = """  ./desk why paper.hex 4,7                  gaps 4 and 7 beside the key
@@ -75,9 +76,10 @@ def verdict(name: str, mark: Mark) -> str:
 
 def uncut_words(paper: Paper, side: Side, first: int) -> str:
     """That a placement is not correct, by its first uncut dependence."""
-    gaps = ' and '.join(runs_of(paper.dependences[first].gaps))
+    gaps = paper.dependences[first].gaps
+    where = f'its only gap, {gaps[0]}' if len(gaps) == 1 else f'any of its {stretches(gaps)}'
     many = f', the first of {side.uncut},' if side.uncut > 1 else ''
-    return (f'With {side.name} dependence {first}{many} is not cut: no barrier stands in any of its gaps, {gaps}. The '
+    return (f'With {side.name} dependence {first}{many} is not cut: no barrier stands in {where}. The '
             'program could go wrong, so nothing is said about cost.')
 
 
@@ -91,8 +93,7 @@ def decided(paper: Paper, d: int, first: Side, second: Side) -> str:
     elif inside:
         agree = f'Inside loop {d} the counts agree: {", ".join(f"loop {k} has {ours[k]} each" for k in inside)}. '
     if around:
-        rest = f' {"Loop" if len(around) == 1 else "Loops"} {ranges(around)} around it '
-        rest += f'{"is" if len(around) == 1 else "are"} not looked at any more.'
+        rest = f' {spoken("Loop", around)} around it {"is" if len(around) == 1 else "are"} not looked at any more.'
     return f'{agree}Loop {d}: {ours[d]} against {theirs[d]}, and this decides.{rest}'
 
 
@@ -107,7 +108,7 @@ def cost_words(paper: Paper, held: Compared, first: Side, second: Side) -> list[
     d, *others = held.deciding
     told = [INSIDE_OUT, decided(paper, d, first, second)]
     if others:
-        told.append(f'{"Loop" if len(others) == 1 else "Loops"} {ranges(others)} would decide the same way.')
+        told.append(f'{spoken("Loop", others)} would decide the same way.')
     if d != 0:
         told.append(f'A barrier in loop {d} is called in each turn of that loop, one outside it once for all turns.')
     better = (first if held.first else second).name
@@ -148,12 +149,22 @@ def calls_words(paper: Paper, held: Compared, turns: bytes, made: list[int], fir
     return told
 
 
+def side_told(paper: Paper, side: Side) -> dict[str, object]:
+    """A placement for programs."""
+    mark = None if side.mark is None else {**vars(side.mark), 'verdict': VERDICTS[side.mark.verdict]}
+    relied = [(number, relied_on(paper, x, side.placed.gaps)) for number, x in enumerate(paper.dependences)]
+    return {'gaps': side.placed.gaps, 'counts': loops_told(side.placed.counts), 'first_uncut': side.placed.uncut,
+            'uncut': side.uncut, 'mark': mark,
+            'skipped': [{'dependence': number, 'loops': loops} for number, loops in relied if loops]}
+
+
 def arguments(parser: argparse.ArgumentParser) -> None:
     parser.add_argument('paper', metavar='PAPER', help=PAPER_HELP)
     parser.add_argument('gaps', metavar='GAPS', help=GAPS_HELP)
     parser.add_argument('other', metavar='GAPS', nargs='?', help='what to hold it beside; the key if none is named')
     parser.add_argument('--turns', default=TEN, help=f'{TURNS_HELP} ({TEN})')
     parser.add_argument('--html', metavar='FILE', help='writes a page for printing, with both pictures')
+    parser.add_argument('--json', action='store_true', help='an object, for programs')
 
 
 def main(asked: argparse.Namespace) -> None:
@@ -174,6 +185,13 @@ def main(asked: argparse.Namespace) -> None:
     told = [reasons(paper, held, first, second)]
     if correct:
         told.append(calls_words(paper, held, turns, made, first, second))
+        told += skipped_told(paper, first.placed, first.name) + skipped_told(paper, second.placed, second.name)
+    if asked.json:
+        sides = [side_told(paper, side) for side in (first, second)]
+        write_json({'first': sides[0], 'second': sides[1], 'correct': correct, 'first_as_good': held.first,
+                    'second_as_good': held.second, 'deciding': held.deciding, 'turns': list(turns),
+                    'calls': made or None, 'words': told})
+        return
     if asked.html is not None:
         shown = [Shown(side.title, side.placed, tree) for side, tree in zip((first, second), trees)]
         write_over(asked.html, page(asked.paper, paper, shown, told).encode(), begins=BEGINS)

@@ -60,9 +60,26 @@ def runs_of(numbers: list[int]) -> list[str]:
     return [f'{run[0]} to {run[-1]}' if len(run) > 1 else str(run[0]) for run in runs]
 
 
+def in_turn(numbers: list[int]) -> list[str]:
+    """Rising numbers, three and more in a row as a run: 1, then 4 to 7; but 8, then 9."""
+    runs = [run.split(' to ') for run in runs_of(numbers)]
+    return [word for run in runs for word in (run if int(run[-1]) - int(run[0]) < 2 else [' to '.join(run)])]
+
+
 def ranges(numbers: list[int]) -> str:
-    """Rising numbers in words: 1, 4 to 7."""
-    return ', '.join(runs_of(numbers))
+    """Rising numbers as a list: 1, 4 to 7; 8, 9."""
+    return ', '.join(in_turn(numbers))
+
+
+def spoken(one: str, numbers: list[int]) -> str:
+    """Things by their rising numbers in a sentence: gap 6; gaps 8 and 9; loops 1, 4 to 7 and 9."""
+    return f'{one}{"s" if len(numbers) > 1 else ""} {joined(in_turn(numbers))}'
+
+
+def stretches(gaps: list[int]) -> str:
+    """The gaps of a dependence by their stretches: gap 6; gaps 8 and 9; gaps 1 to 2 and 11 to 13."""
+    runs = runs_of(gaps)
+    return spoken('gap', gaps) if len(runs) == 1 else f'gaps {" and ".join(runs)}'
 
 
 def gaps_named(gaps: list[int]) -> str:

@@ -164,7 +164,7 @@ def lost(tally: Tally, seen: Browser, folder: pathlib.Path) -> None:
     seen.click('#hand')
     seen.click('#yes')
     page.handed_in = 'Handed in. '
-    page.shows('until it is answered', 'Handed in: barriers in gaps 5 to 6.')
+    page.shows('until it is answered', 'Handed in: barriers in gaps 5, 6.')
     hall.end()
 
 

@@ -33,7 +33,7 @@ SLIPS = [
     (b'01\n\x1b[31m\x00\xff\n', 1, 2, ['"\\x1b[31m\\x00\\xff"']),
     (b'05\n', 2, 1, ['"05"', 'no line of a paper begins with 05']),
     (b'01\n02\n110001\n03\n', 3, 4, ['"03"', 'a point stands behind line 3']),
-    (b'01\n', 4, 2, ['the end of the text is refused, which counts as line 2', 'loop 0, opened on line 1, is not closed']),
+    (b'01\n', 4, 2, ['the end of the text is refused, which counts as line 2', 'loop 0, opened on line 1,']),
     (b'01\n' + b'03\n' * 300, 5, 257, ['line 257 is refused: "03"', 'at most 256']),
     (b'01\n' * 3000, 5, 0, ['the text is refused as a whole', '9,000 bytes', '8,192']),
     (b'01\n03\n02\n110105\n', 6, 4, ['"110105"', 't is 5', 'there is no such point']),

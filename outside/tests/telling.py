@@ -80,10 +80,21 @@ def usage(tally: Tally) -> None:
     tally.check('--help', told(seen, *COMMANDS, 'Status: 0 done, 1 refused, 2'), seen)
     for name in COMMANDS:
         tally.check(f'{name} --help', told(run(DESK, name, '--help'), f'usage: ./desk {name} ', 'Status: 0'), name)
-    for name, asked in [('nothing', []), ('no command', ['marks']), ('no option', ['key', '--all']),
-                        ('no paper', ['check']), ('too many', ['key', 'a', 'b'])]:
+    for asked in [[], ['help'], ['-h']]:
+        tally.check(f'the help by {asked}', run(DESK, *asked) == seen, asked)
+    tally.check('help of a command', run(DESK, 'help', 'mark') == run(DESK, 'mark', '--help'))
+    for name, asked, word in [
+            ('no command', ['chek'], 'no command chek: did you mean check?'), ('nothing near', ['xyz'], 'command xyz;'),
+            ('no option of all', ['--bogus'], 'no option --bogus;'), ('no option', ['key', '--b'], 'no option --b;'),
+            ('an option in part', ['key', '--word', 'x'], 'no option --word: did you mean --words?'),
+            ('no paper', ['check'], 'required: PAPER'), ('too many', ['key', 'a', 'b\x1b'], 'too many: b?;'),
+            ('a file like an option', ['mark', 'p', '-x.hex'], 'no option -x.hex;')]:
         seen = run(DESK, *asked)
-        tally.check(f'asked wrongly, {name}', seen.failed('--help says how to ask'), seen)
+        tally.check(f'asked wrongly, {name}', seen.failed(word) and '--help says how to ask' in seen.err, seen)
+    for asked in (['join', '-', '-'], ['why', '-', '-'], ['why', '-', '3', '-'], ['check', '-', '-']):
+        seen = run(DESK, *asked, given=EXAMPLES['p'])
+        tally.check(f'{asked}: - twice', '- stands for standard input, and can be named once' in seen.err, seen)
+        tally.check(f'{asked}: nothing else', seen.status == 2 and not seen.out.count(b'\n') > 1, seen)
     for asked in [['--help'], ['--version'], ['key', '--help'], ['key', ROOT / 'examples' / 'p.hex']]:
         seen = run(DESK, *asked, shell=FULL)
         tally.check(f'{asked}, output full', seen.failed('standard output was not written'), seen)
@@ -183,7 +194,7 @@ def listings(tally: Tally, folder: pathlib.Path) -> None:
         seen = run(DESK, 'spell', typed)
         held = f'line {line}, column ' in seen.err and word in seen.err
         tally.check(f'{new!r} for {old!r}', held and (seen.out, seen.status) == (b'', 1), seen)
-    for text, word in [(b'', 'no point'), (b'# nothing\n', 'no point'), (b'DO\n', 'the loop, opened on line 1, is not closed')]:
+    for text, word in [(b'', 'no point'), (b'# nothing\n', 'no point'), (b'DO\n', 'line 1, is not closed')]:
         seen = run(DESK, 'spell', '-', given=text)
         tally.check(f'{text!r} spelled', word in seen.err and (seen.out, seen.status) == (b'', 1), seen)
     many = b'DO\n' + b''.join(b's%d\n' % i for i in range(300)) + b'ENDDO\ns299 -> s299\n'
@@ -276,7 +287,8 @@ def reasons(tally: Tally, folder: pathlib.Path) -> None:
     barred.write_bytes(b'01\n03\n03\n02\n110102\n1301\n')
     tally.check('no calls counted', told(run(DESK, 'why', barred, '2'), 'Calls are not counted'))
     tally.check('two without a key', told(run(DESK, 'why', blocked, '2', '3'), 'With gap 2 dependence 0 is not cut'))
-    for asked, word in [(['14'], 'gap 14 is none of this paper: its gaps are 1 to 13\n'), (['5', '--turns', '0'], '3 numbers of turns from 1 to 16'),
+    for asked, word in [(['14'], 'gap 14 is none of this paper: its gaps are 1 to 13\n'),
+                        (['5', '--turns', '0'], '3 numbers of turns from 1 to 16'),
                         (['5', '--turns', '2,2'], '3 numbers of turns'), (['5', '--turns', 'x'], 'up to 16')]:
         seen = run(DESK, 'why', p, *asked)
         tally.check(f'why {asked}', seen.failed(word), seen)

@@ -33,6 +33,7 @@ def faults(tally: Tally, folder: pathlib.Path) -> None:
             ('one candidate twice', 'two answers of', run(*mark, answer, '--register', register)),
             ('an answer nowhere', 'there is no file', run(*mark, folder / 'bert.hex', '--register', register)),
             ('a pattern that matches none', 'there is no file', run(*mark, f'{wide}/*.hex', '--register', register)),
+            ('a folder with no answers', 'no file *.hex', run(*mark, wide, '--register', register)),
             ('an answer by standard input', 'an answer is a file', run(*mark, '-', '--register', register)),
             ('standard input twice', 'an answer is a file', run(DESK, 'mark', '-', '-')),
             ('slips in a file', 'cannot write in', run(*mark, '--slips', answer, '--register', register)),
@@ -72,7 +73,7 @@ def nobody(tally: Tally, folder: pathlib.Path) -> None:
     strange = [os.path.join(os.fsencode(folder), name) for name in names]
     for file in strange:
         shutil.copy(answer, file)
-    others = [*map(os.fsdecode, strange), folder / 'pipe.hex', folder / 'wide', '/dev/zero']
+    others = [*map(os.fsdecode, strange), folder / 'pipe.hex', '/dev/zero']
     seen = run(DESK, 'mark', folder / 'p.hex', *others, answer, '--slips', folder / 'slips')
     tally.check('one row', [name for name, _ in rows_of(seen.out)] == ['anna'] and seen.status == 2, seen)
     tally.check('each is told', seen.err.count(' is not marked: ') == seen.err.count('\n') == len(others), seen)
