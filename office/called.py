@@ -73,10 +73,9 @@ class Called:
     def address(self) -> str:
         return f'{self.scheme}://{self.host(self.names[0])}/'
 
-    @property
-    def cookie(self) -> str:
-        """The name of the cookie, so that two halls on one machine have two."""
-        return f'{"__Host-" if self.secure else ""}ticket-{self.port}'
+    def cookie(self, of: str) -> str:
+        """The name of a cookie, so that two halls on one machine have two."""
+        return f'{"__Host-" if self.secure else ""}{of}-{self.port}'
 
     def calls(self, request: Request) -> bool:
         """Whether a request comes by one of the names, from no page but one of the same name."""

@@ -203,27 +203,37 @@ class Tickets:
             raise Fault(f'{where} has a ticket that stands above it too; {MEND.format(who)}')
         self.rows[folded(who)] = row | {WHO: who, TICKET: ticket}
 
-    def given(self, who: str, name: str, kept: str) -> str:
+    def given(self, who: str, name: str, kept: str, dead: Collection[str] = ()) -> str:
         """The ticket that a candidate gets now, made where none is in the file; '' where the one whose hash is kept
-        stays good."""
+        stays good. A row with one of before, whose hash is dead, was not written in time, and goes."""
         row = self.rows.get(folded(who))
+        if row and row[TICKET] and hash_of(row[TICKET]) in dead:
+            del self.rows[folded(who)]
+            row, self.changed = None, True
         if row and row[TICKET] and kept not in ('', hash_of(row[TICKET])):
             raise Fault(f'{printable(self.file)}: the ticket of {who} is not the one handed out; {MEND.format(who)}')
         if kept and (row is None or row[TICKET]):
             return ''
         if row is None or not row[TICKET]:
-            self.rows[folded(who)] = {**(row or {}), WHO: who, 'name': name, TICKET: new_ticket()}
-            self.changed = True
+            self.hand_out(who, name, new_ticket())
         return self.rows[folded(who)][TICKET]
+
+    def hand_out(self, who: str, name: str, ticket: str) -> None:
+        """Has a ticket in the row of a candidate, in the place of one of before."""
+        self.rows[folded(who)] = {**self.rows.get(folded(who), {}), WHO: who, 'name': name, TICKET: ticket}
+        self.changed = True
+
+    def text(self) -> bytes:
+        out = io.StringIO(newline='')
+        writer = csv.DictWriter(out, [*dict.fromkeys([*self.columns, *TICKET_COLUMNS])], lineterminator='\n')
+        writer.writeheader()
+        writer.writerows(self.rows.values())
+        return out.getvalue().encode()
 
     def write(self) -> None:
         """Writes the file, if there is something new in it."""
         if self.changed:
-            out = io.StringIO(newline='')
-            writer = csv.DictWriter(out, [*dict.fromkeys([*self.columns, *TICKET_COLUMNS])], lineterminator='\n')
-            writer.writeheader()
-            writer.writerows(self.rows.values())
-            write_over(self.file, out.getvalue().encode(), lasting=True)
+            write_over(self.file, self.text(), lasting=True)
 
     def give_up(self) -> None:
         """Takes away a file that was just made: the start has failed."""

@@ -11,7 +11,7 @@ WHO acts is a candidate, by identity, or the person in charge and the desk itsel
 name their candidate first:
 
   paper LINES                         the paper, its lines with spaces between
-  opened                              a start
+  opened, charge                      a start; the person in charge has come to the page
   candidate ID MINUTES PAPER NAME     a dash where the list has no minutes, and for the paper of the top line
   ticket ID SHA-256                   the only good ticket from now on
   minutes MINUTES, until TIME         how long all have for whom the list has no minutes: from entering, or until then

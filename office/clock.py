@@ -59,7 +59,8 @@ def of_day(at: int) -> str:
 
 def told(at: int) -> str:
     """Day and time where the hall is, and how far that is from UTC."""
-    return f'{local(at):%Y-%m-%d %H:%M:%S} (UTC{local(at):%z})'
+    zone = f'{local(at):%z}'
+    return f'{local(at):%Y-%m-%d %H:%M:%S} (UTC{zone[:3]}:{zone[3:5]})'
 
 
 @dataclass

@@ -3,6 +3,7 @@
 What candidates ask for in one moment is made at once and kept together. What is not kept is not made: as desks are
 values, that of before is put back. The log is the sitting; the files of answers are written from it, afterwards.
 """
+import contextlib
 import enum
 import os
 import pathlib
@@ -18,8 +19,9 @@ from office.command import Fault, mention, printable, read_in, take_away, write_
 from office.logbook import LOG, Logbook, NotKnown
 from office.refusal import Refused
 from office.sittings import COLLECTED, ENTER, HAND_IN, LEAVE, Sitting, Sittings, State, hash_of, made, told_gaps
+from office.tickets_page import tickets_page
 
-TICKETS, ANSWER = 'tickets.csv', '.hex'
+TICKETS, TO_PRINT, ANSWER = 'tickets.csv', 'tickets.html', '.hex'
 MACHINE = re.compile('[!-~]{1,64}')
 # Seconds without a line before a start that are told where a clock runs.
 LONG = 10
@@ -51,9 +53,10 @@ class Hall:
     writes nothing before it is opened."""
 
     def __init__(self, text: bytes, candidates: list[Candidate], answers: str, time: Wanted = Wanted()):
-        self.answers, self.paper = answers, hash_of(text)
+        self.answers, self.paper, self.address = answers, hash_of(text), ''
         self.unkept: list[tuple[Sitting, State]] = []
         self.unwritten: dict[str, bytes | None] = {}
+        self.tickets_unwritten: dict[str, bytes] = {}
         self.told: set[str] = set()
         self.broken = self.uncollected = False
         self.room = Sittings(self.paper)
@@ -180,7 +183,7 @@ class Hall:
         given = {}
         for sitting in self.sittings.values():
             who = sitting.candidate
-            ticket = self.tickets.given(who, sitting.name, sitting.ticket)
+            ticket = self.tickets.given(who, sitting.name, sitting.ticket, sitting.dead)
             if ticket and ticket_hash(ticket) in self.room.by_ticket:
                 raise Fault(f'{printable(self.tickets.file)}: {who} has the ticket of another candidate: clear it, and '
                             f'{who} gets a new one')
@@ -210,6 +213,7 @@ class Hall:
         try:
             self.log.begin()
             self.tickets.write()
+            write_over(os.path.join(self.answers, TO_PRINT), self.printed(), lasting=True)
             for identity, ticket in self.new_tickets.items():
                 self.note(f'ticket {identity} {ticket_hash(ticket)}')
             self.opened = self.now
@@ -225,6 +229,9 @@ class Hall:
 
     def give_up(self) -> None:
         """Takes away what a start has made, which has failed."""
+        if self.tickets.new:
+            with contextlib.suppress(OSError):
+                os.unlink(os.path.join(self.answers, TO_PRINT))
         self.tickets.give_up()
         self.log.give_up()
 
@@ -281,11 +288,12 @@ class Hall:
         self.unkept.append((sitting, before or sitting.state))
         return self.log.add(sitting.candidate, machine if MACHINE.fullmatch(machine) else OFFICE, act, spelled(now))
 
-    # ---- What the desk does
+    # ---- What the desk and the person in charge do
 
-    def do(self, acts: list[str], again: bool = False) -> Kept:
-        """Keeps acts of the desk, and then makes them. Nothing of candidates may be unkept by then."""
-        events = [self.log.add(OFFICE, OFFICE, act) for act in acts]
+    def do(self, acts: list[str], machine: str = OFFICE, again: bool = False) -> Kept:
+        """Keeps acts of the desk or of the person in charge, and then makes them. Nothing of candidates may be unkept
+        by then."""
+        events = [self.log.add(OFFICE, machine if MACHINE.fullmatch(machine) else OFFICE, act) for act in acts]
         kept = self.keep(again)
         if kept is Kept.DONE:
             for event in events:
@@ -301,8 +309,8 @@ class Hall:
     def collect(self) -> None:
         """Collects what stands where the time is over. What cannot be kept is tried again; that is told once."""
         over = self.run_out()
-        acts = [f'{COLLECTED} {sitting.candidate} {hash_of(sitting.desk.sitting())}' for sitting in over]
-        self.uncollected = bool(acts) and self.do(acts, self.uncollected) is not Kept.DONE
+        acts = [*map(collected, over)]
+        self.uncollected = bool(acts) and self.do(acts, again=self.uncollected) is not Kept.DONE
         if not self.uncollected:
             for sitting in over:
                 self.write_soon(sitting)
@@ -345,16 +353,38 @@ class Hall:
 
     @property
     def due(self) -> bool:
-        """Whether files of answers are to be written."""
-        return bool(self.unwritten)
+        """Whether files are to be written."""
+        return bool(self.unwritten or self.tickets_unwritten)
 
     def write_soon(self, sitting: Sitting) -> None:
         """Has the file of an answer written; of a sitting that is not over, there is none."""
         self.unwritten[sitting.candidate] = sitting.desk.sitting() if sitting.handed_in else None
 
+    def hand_out(self, sitting: Sitting, ticket: str) -> None:
+        """Has a new ticket in the file of tickets."""
+        self.tickets.hand_out(sitting.candidate, sitting.name, ticket)
+        self.tickets_unwritten = {TICKETS: self.tickets.text(), TO_PRINT: self.printed()}
+
+    def printed(self) -> bytes:
+        """The tickets on paper, of all whose tickets are in the file."""
+        rows = [(sitting, self.tickets.rows.get(folded(sitting.candidate), {})) for sitting in self.sittings.values()]
+        return tickets_page(self.address, [(sitting, row['ticket']) for sitting, row in rows if row.get('ticket')])
+
+    def write_tickets(self) -> None:
+        for file in [*self.tickets_unwritten]:
+            text = self.tickets_unwritten.pop(file)
+            try:
+                write_over(os.path.join(self.answers, file), text, lasting=True)
+            except Fault as fault:
+                self.tickets_unwritten.setdefault(file, text)
+                if file not in self.told:
+                    mention(f'{fault}; the tickets are good, and the file will be written when it can be')
+                self.told.add(file)
+
     def write_files(self) -> None:
-        """Writes files of what was handed in and kept. One that cannot be written is told once, and stays to be
-        written, unless there is a newer one by then."""
+        """Writes files of what was handed in and kept, and of tickets. One that cannot be written is told once, and
+        stays to be written, unless there is a newer one by then."""
+        self.write_tickets()
         for who in [*self.unwritten]:
             text = self.unwritten.pop(who)
             file = os.path.join(self.answers, f'{who}{ANSWER}')
@@ -369,3 +399,8 @@ class Hall:
                     mention(f'{fault}; {who} has handed in, and the file will be written when it can be' if text is not
                             None else f'{fault}; {who} was reopened, and the file will be removed when it can be')
                 self.told.add(who)
+
+
+def collected(sitting: Sitting) -> str:
+    """The act by which what stands in a sitting is collected."""
+    return f'{COLLECTED} {sitting.candidate} {hash_of(sitting.desk.sitting())}'

@@ -33,6 +33,7 @@ UNCUT_KEY = 'U: the next uncut;'
 ANOTHER = 'This window was of another candidate. In this browser now sits: '
 NOBODY = 'This window was of a candidate who has left this desk in another window.'
 SINCE = ' What was asked for here since then was not done.'
+DEAD = 'The ticket of this window opens nothing any more. Ask the person in charge for the new one.'
 NO_RECEIPT = 'Nothing is handed in here yet, so there is no receipt.'
 
 
@@ -48,10 +49,12 @@ class Pages:
         self.paper, self.name, self.practice, self.called = paper, name, practice, called
         self.ticket, self.words, self.sitting, self.receipt = map(
             template, ('ticket.html', 'words.html', 'sitting.html', 'receipt.html'))
+        self.asks, self.charge = template('secret.html'), template('charge.html')
         self.views: dict[View, string.Template] = {}
-        styles = ((SERVED / f'{of}.css').read_text() for of in ('hall', 'clock'))
-        self.css = ''.join([COLOURS, STYLE, *styles]).encode()
-        self.scripts = {f'/{of}.js': (SERVED / f'{of}.js').read_bytes() for of in ('board', 'sitting', 'clock')}
+        css = ''.join([COLOURS, STYLE, *((SERVED / f'{of}.css').read_text() for of in ('hall', 'clock'))])
+        self.files = {f'/{file}': (CSS if file.endswith('css') else SCRIPT, (SERVED / file).read_bytes())
+                      for file in ('board.js', 'sitting.js', 'clock.js', 'charge.js', 'charge.css')}
+        self.files['/hall.css'] = CSS, css.encode()
 
     def has(self, view: View) -> bool:
         """Whether there is such a view."""
@@ -94,10 +97,22 @@ class Pages:
         page = self.ticket.substitute(said=html.escape(said))
         return Reply(HTTPStatus.FORBIDDEN, HTML, page.encode())
 
-    def another(self, candidate: str | None) -> Reply:
+    def asks_secret(self, said: str = '') -> Reply:
+        return Reply(HTTPStatus.FORBIDDEN, HTML, self.asks.substitute(said=html.escape(said)).encode())
+
+    def of_charge(self, token: str) -> Reply:
+        """The page of the person in charge."""
+        page = self.charge.substitute(paper=html.escape(self.name), token=token)
+        return Reply(HTTPStatus.OK, HTML, page.encode())
+
+    def file(self, path: str) -> Reply:
+        """A script or a style."""
+        return Reply(HTTPStatus.OK, *self.files[path])
+
+    def another(self, candidate: str | None, ticket: str) -> Reply:
         """Says who sits in this browser now, to a window that was of somebody else."""
         if candidate is None:
-            return self.asks_ticket(NOBODY + SINCE)
+            return self.asks_ticket((DEAD if ticket else NOBODY) + SINCE)
         return self.says(HTTPStatus.OK, f'{html.escape(ANOTHER)}<bdi>{html.escape(candidate)}</bdi>.'
                          f'{html.escape(SINCE)}', '/')
 

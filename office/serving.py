@@ -19,12 +19,13 @@ from http import HTTPStatus
 
 from office.called import Called
 from office.candidates import ticket_in
+from office.charge import Charge
 from office.command import mention
 from office.connection import Connection, Connections
 from office.door import Door
 from office.hall import Declined, Hall, Kept
 from office.layout import WHOLE, View
-from office.markup import CSS, SCRIPT, Pages
+from office.markup import Pages
 from office.messages import Reply, Request, Unfit
 from office.room import most_connections
 from office.sittings import HAND_IN, MOVE, Sitting
@@ -36,6 +37,8 @@ VIEW = re.compile('/[?]loop=(0|[1-9][0-9]{0,2})(&unfold)?')
 HANDS_IN = re.compile(f'{HAND_IN}((?: [1-9][0-9]{{0,2}})*)')
 MOVED_ON = ('Not done: the sitting was changed in another window, or by a click that came late. Look at it as it is '
             'now.')
+TICKET, CHARGE = 'ticket', 'charge'
+NO_SECRET = 'This is not the secret that the start of the hall has told.'
 NO_TICKET = 'This ticket is not known here. Look whether it is typed as it was handed out.'
 STRICT = 'Strict-Transport-Security: max-age=86400\n'
 ENDS, LOOK, DIGITS = (signal.SIGINT, signal.SIGTERM, signal.SIGHUP), 1, 16
@@ -59,6 +62,7 @@ class Server:
                  practice: bool):
         self.listening, self.tls, self.called = listening, tls, called
         self.hall, self.pages, self.practice = hall, pages, practice
+        self.charge = Charge(hall)
         self.always = STRICT if called.secure else ''
         self.made: list[Made] = []
         self.seen = 0
@@ -128,11 +132,14 @@ class Server:
             raise Unfit(HTTPStatus.METHOD_NOT_ALLOWED, f'Allow: {"GET, HEAD" if method == "GET" else method}\n')
         return route(self, connection)
 
-    def ticket_of(self, request: Request) -> str:
-        """The ticket in the cookie."""
+    def cookie_of(self, request: Request, of: str) -> str:
+        """What a cookie has: a ticket, or the secret of the person in charge."""
         cookies = [part.strip().partition('=') for part in ';'.join(request.headers.get('cookie', [])).split(';')]
-        tickets = [value for name, _, value in cookies if name == self.called.cookie]
-        return tickets[0] if len(tickets) == 1 else ''
+        values = [value for name, _, value in cookies if name == self.called.cookie(of)]
+        return values[0] if len(values) == 1 else ''
+
+    def ticket_of(self, request: Request) -> str:
+        return self.cookie_of(request, TICKET)
 
     def sitting_of(self, request: Request) -> Sitting | None:
         """The sitting of the candidate who asks. Where there is a clock, one has entered before anything is shown."""
@@ -185,7 +192,7 @@ class Server:
 
     def another(self, connection: Connection) -> Reply:
         sitting = self.sitting_of(connection.request)
-        return self.pages.another(sitting.name if sitting else None)
+        return self.pages.another(sitting.name if sitting else None, self.ticket_of(connection.request))
 
     def receipt(self, connection: Connection) -> Reply:
         sitting = self.sitting_of(connection.request)
@@ -194,14 +201,11 @@ class Server:
     def listing(self, connection: Connection) -> Reply:
         return self.pages.listing() if self.sitting_of(connection.request) else self.pages.asks_ticket()
 
-    def style(self, _: Connection) -> Reply:
-        return Reply(HTTPStatus.OK, CSS, self.pages.css)
-
-    def script(self, connection: Connection) -> Reply:
-        return Reply(HTTPStatus.OK, SCRIPT, self.pages.scripts[connection.request.path])
+    def file(self, connection: Connection) -> Reply:
+        return self.pages.file(connection.request.path)
 
     def enter(self, connection: Connection) -> Reply | None:
-        ticket = ticket_in(field_in(connection.request.body, 'ticket')) or ''
+        ticket = ticket_in(field_in(connection.request.body, TICKET)) or ''
         sitting = self.hall.sitting_with(ticket)
         if sitting is None:
             return self.pages.asks_ticket(NO_TICKET)
@@ -221,7 +225,7 @@ class Server:
         if sitting is None:
             return self.with_cookie('')
         if not self.is_page_of(connection.request, field_in(connection.request.body, 'sitting')):
-            return self.pages.another(sitting.name)
+            return self.pages.another(sitting.name, '')
 
         def leave(sitting: Sitting, machine: str) -> Made:
             self.hall.leave(sitting, machine)
@@ -275,6 +279,7 @@ class Server:
     def done(self, connection: Connection, sitting: Sitting,
              act: Callable[[Sitting, str], Made | Reply]) -> Reply | None:
         """Does something to a sitting, as soon as all of it is kept; what was made is kept before it is told."""
+        self.charge.hears(sitting)
         if sitting.candidate in self.waiting:
             self.waiting[sitting.candidate].append(connection)
             return None
@@ -291,19 +296,66 @@ class Server:
         """The whole of a sitting that may be told, and what is said."""
         return spelled_out(status, sitting_told(sitting, said, self.practice, self.hall.now))
 
-    def with_cookie(self, value: str) -> Reply:
-        """Sends the browser to the page with a ticket, or with none."""
+    def with_cookie(self, value: str, of: str = TICKET, to: str = '/') -> Reply:
+        """Sends the browser to a page with a ticket, or the secret, or with none."""
         ends = ('; Secure' if self.called.secure else '') + ('' if value else '; Max-Age=0')
-        cookie = f'{self.called.cookie}={value}; HttpOnly; SameSite=Strict; Path=/{ends}'
-        return Reply(HTTPStatus.SEE_OTHER, HTML, b'', f'Location: /\nSet-Cookie: {cookie}\n')
+        cookie = f'{self.called.cookie(of)}={value}; HttpOnly; SameSite=Strict; Path=/{ends}'
+        return Reply(HTTPStatus.SEE_OTHER, HTML, b'', f'Location: {to}\nSet-Cookie: {cookie}\n')
+
+    # ---- The routes of the person in charge
+
+    def in_charge(self, connection: Connection) -> bool:
+        return self.charge.knows(self.cookie_of(connection.request, CHARGE))
+
+    def charge_page(self, connection: Connection) -> Reply:
+        if not self.in_charge(connection):
+            return self.pages.asks_secret()
+        return self.pages.of_charge(token_of(self.charge.secret))
+
+    def charge_enter(self, connection: Connection) -> Reply:
+        secret = ticket_in(field_in(connection.request.body, 'secret')) or ''
+        if not self.charge.knows(secret):
+            return self.pages.asks_secret(NO_SECRET)
+        self.settle_all()
+        self.charge.comes(self.called.machine(connection.address, connection.request))
+        return self.with_cookie(secret, CHARGE, '/charge')
+
+    def charge_leave(self, _: Connection) -> Reply:
+        return self.with_cookie('', CHARGE, '/charge')
+
+    def charge_now(self, connection: Connection) -> Reply:
+        return self.charged(connection, lambda: '')
+
+    def charge_act(self, connection: Connection) -> Reply:
+        """Does what the person in charge asks for, behind all that candidates asked for before."""
+        machine = self.called.machine(connection.address, connection.request)
+        return self.charged(connection, lambda: self.charge.act(connection.request.body, machine))
+
+    def charged(self, connection: Connection, act: Callable[[], str]) -> Reply:
+        """What the page of the person in charge is told after an act, or after none."""
+        if not self.in_charge(connection) or connection.request.header('charge') != token_of(self.charge.secret):
+            return Reply(HTTPStatus.FORBIDDEN, DATA, b'{}')
+        self.settle_all()
+        try:
+            said, status = act(), HTTPStatus.OK
+        except ValueError:
+            return Reply(HTTPStatus.BAD_REQUEST, DATA, b'{}')
+        except Declined as declined:
+            said, status = str(declined), HTTPStatus.CONFLICT
+        self.write_files()
+        return spelled_out(status, self.charge.told(said))
 
 
 ROUTES: dict[str, tuple[str, Callable[[Server, Connection], Reply | None]]] = {
     '/': ('GET', Server.page), '/listing': ('GET', Server.listing), '/another': ('GET', Server.another),
-    '/hall.css': ('GET', Server.style), '/board.js': ('GET', Server.script), '/sitting.js': ('GET', Server.script),
-    '/clock.js': ('GET', Server.script), '/sitting': ('GET', Server.now), '/clock': ('GET', Server.time),
-    '/receipt': ('GET', Server.receipt), '/enter': ('POST', Server.enter), '/leave': ('POST', Server.leave),
-    '/move': ('POST', Server.move), '/hand-in': ('POST', Server.hand_in)}
+    '/receipt': ('GET', Server.receipt), '/sitting': ('GET', Server.now), '/clock': ('GET', Server.time),
+    '/enter': ('POST', Server.enter), '/leave': ('POST', Server.leave), '/move': ('POST', Server.move),
+    '/hand-in': ('POST', Server.hand_in),
+    '/charge': ('GET', Server.charge_page), '/charge/now': ('GET', Server.charge_now),
+    '/charge/enter': ('POST', Server.charge_enter), '/charge/leave': ('POST', Server.charge_leave),
+    '/charge/act': ('POST', Server.charge_act),
+    **{path: ('GET', Server.file)
+       for path in ('/hall.css', '/board.js', '/sitting.js', '/clock.js', '/charge.js', '/charge.css')}}
 
 
 def spelled_out(status: HTTPStatus, told: dict[str, object]) -> Reply:

@@ -9,7 +9,7 @@ from office.called import Called, called_by, is_everywhere, is_here, name_of
 from office.candidates import candidates_in
 from office.clock import wanted
 from office.command import Fault, printable, write_out
-from office.hall import TICKETS, Hall
+from office.hall import TICKETS, TO_PRINT, Hall
 from office.paper import paper_on
 from office.words import counted
 
@@ -29,7 +29,7 @@ HERE, PORT = '127.0.0.1', 8000
 
 def arguments(parser: argparse.ArgumentParser) -> None:
     parser.add_argument('paper', metavar='PAPER', help=PAPER_HELP)
-    parser.add_argument('--candidates', metavar='FILE', required=True, 
+    parser.add_argument('--candidates', metavar='FILE', required=True,
                         help='the candidates: an id a line, or CSV with the columns id, name, minutes, paper')
     parser.add_argument('--answers', metavar='DIR', required=True,
                         help='where answers (DIR/NAME.hex), tickets and the log of moves are kept')
@@ -81,13 +81,15 @@ def look_at(asked: argparse.Namespace) -> None:
         raise Fault('with --certificate the hall is called by https, and --address says http')
 
 
-def say_so(hall: Hall, address: str) -> None:
-    """Says that the hall is open. If nobody can be told, it is not."""
+def say_so(hall: Hall, address: str, secret: str) -> None:
+    """Says that the hall is open, and to whoever reads this the secret of the person in charge. If nobody can be told,
+    it is not."""
     try:
         write_out(f'{address} is open for {counted(len(hall.sittings), "candidate")}, '
                   f'{counted(hall.handed_in, "answer")} handed in\n'
-                  f'tickets: {printable(os.path.join(hall.answers, TICKETS))}; Ctrl-C ends the sitting\n'
-                  f'{hall.away and hall.away + chr(10)}'.encode())
+                  f'tickets: {printable(os.path.join(hall.answers, TICKETS))}, to print {TO_PRINT} beside it; Ctrl-C ends '
+                  'the sitting\n'
+                  f'in charge: {address}charge with {secret}\n{hall.away}{chr(10) * bool(hall.away)}'.encode())
     except Fault:
         hall.give_up()
         raise
@@ -108,9 +110,10 @@ def main(asked: argparse.Namespace) -> None:
     with listening_at(asked.bind, asked.port) as listening, \
             Hall(text, candidates, asked.answers, time) as hall:
         here = called(asked, listening.getsockname()[1])
+        hall.address = here.address
         pages = Pages(paper, name, asked.practice, here)
         server = Server(listening, tls, here, hall, pages, asked.practice)
         hall.open()
-        say_so(hall, here.address)
+        say_so(hall, here.address, server.charge.secret)
         signal.signal(signal.SIGPIPE, signal.SIG_IGN)  # a candidate who goes away must not end the hall
         server.serve()

@@ -48,8 +48,8 @@ State = tuple[ctypes.Structure, int, Event | None, str, int | None]
 class Sitting:
     """A candidate's desk, how many moves were made on it, the event that ended it, the machine where it was entered and
     not left, and when it was first. The minutes that the list has for the candidate, those that all have, and those
-    that were given since, each with its time; whether it was closed. The hash of the ticket that opens it, and those of
-    all texts that were handed in."""
+    that were given since, each with its time; whether it was closed; what the person in charge said last. The hash of
+    the ticket that opens it, those of tickets of before, and those of all texts that were handed in."""
     candidate: str
     name: str
     minutes: int | None
@@ -61,7 +61,9 @@ class Sitting:
     begun: int | None = None
     extra: list[tuple[int, int]] = field(default_factory=list)
     closed: bool = False
+    message: Event | None = None
     ticket: str = ''
+    dead: set[str] = field(default_factory=set)
     given: set[str] = field(default_factory=set)
 
     @property
@@ -178,7 +180,8 @@ class Sittings:
     def give_ticket(self, _: Event, told: str) -> None:
         identity, ticket = told.split(' ')
         sitting = self.by_identity[identity]
-        self.by_ticket.pop(sitting.ticket, None)
+        if self.by_ticket.pop(sitting.ticket, None):
+            sitting.dead.add(sitting.ticket)
         sitting.ticket = ticket
         self.by_ticket[ticket] = sitting
 
@@ -212,10 +215,15 @@ class Sittings:
         for sitting in [one] if one else self.by_identity.values():
             sitting.extra.append(given)
 
-    def hear(self, _: Event, told: str) -> None:
-        """What changes no sitting: a start, a message. It must be of somebody who is here, or of all."""
+    def tell(self, event: Event, told: str) -> None:
+        one = self.of(told.split(' ')[0])
+        for sitting in [one] if one else self.by_identity.values():
+            sitting.message = event
+
+    def hear(self, event: Event, told: str) -> None:
+        """What changes no sitting: a start, the person in charge at the page."""
         if told:
-            self.of(told.split(' ')[0])
+            raise ValueError(event.act)
 
     def of(self, identity: str) -> Sitting | None:
         """The sitting of a candidate; none where an act is for all."""
@@ -225,4 +233,4 @@ class Sittings:
 ACTS = {'paper': Sittings.take_paper, 'candidate': Sittings.seat, 'ticket': Sittings.give_ticket,
         'minutes': Sittings.set_minutes, 'until': Sittings.set_until, 'extra': Sittings.give_time,
         'reopen': Sittings.reopen, COLLECTED: Sittings.collect, 'close': Sittings.close, 'opened': Sittings.hear,
-        'message': Sittings.hear}
+        'charge': Sittings.hear, 'message': Sittings.tell}

@@ -24,12 +24,13 @@ receipt. Times are UTC.
 """
 CODE = re.compile('[0-9a-f]{16,64}')
 # What the desk and the person in charge do, by the first word of the act.
-OFFICE_ACTS = {'paper': 'the paper is laid out', 'opened': 'the hall is opened', 'candidate': 'on the list as {}',
+OFFICE_ACTS = {'paper': 'the paper is laid out', 'opened': 'the hall is opened',
+               'charge': 'the person in charge has come', 'candidate': 'on the list as {}',
                'minutes': 'minutes for all: {}', 'until': 'for all until {}', 'ticket': 'a ticket is made',
                'close': 'the sitting is closed', 'extra': 'more minutes: {}', 'message': 'told: {}',
                'reopen': 'reopened', COLLECTED: 'collected'}
 # Those of them that are about the hall and name no candidate.
-OF_THE_HALL = ('paper', 'opened', 'minutes', 'until')
+OF_THE_HALL = ('paper', 'opened', 'charge', 'minutes', 'until')
 
 
 def arguments(parser: argparse.ArgumentParser) -> None:

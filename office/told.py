@@ -1,7 +1,7 @@
 """What a candidate's page is told of a sitting. In an examination that is how many dependences remain uncut; for
 practice also which are cut. What may not be shown is not told."""
 from office.chain import receipt_of
-from office.clock import time_in, told
+from office.clock import of_day, time_in, told
 from office.sittings import Sitting, told_gaps
 
 AT_ONCE = 'Nothing can be changed afterwards.'
@@ -26,9 +26,16 @@ def receipt_told(sitting: Sitting) -> str:
 
 
 def running(sitting: Sitting, now: int) -> dict[str, object]:
-    """What may change though nothing is clicked: the milliseconds that are left, none where no clock runs."""
+    """What may change though nothing is clicked: the milliseconds that are left, none where no clock runs, and what the
+    person in charge said last."""
     left = None if sitting.over is None or sitting.handed_in else max(sitting.over - now, 0)
-    return {'moves': sitting.moves, 'handed_in': sitting.handed_in, 'left': left}
+    return {'moves': sitting.moves, 'handed_in': sitting.handed_in, 'left': left, 'message': message_told(sitting)}
+
+
+def message_told(sitting: Sitting) -> str:
+    if sitting.message is None:
+        return ''
+    return f'{of_day(time_in(sitting.message.at))}, from the person in charge: {sitting.message.act.split(" ", 2)[2]}'
 
 
 def sitting_told(sitting: Sitting, said: str, practice: bool, now: int) -> dict[str, object]:

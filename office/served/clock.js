@@ -1,5 +1,5 @@
-// The clock of a sitting: the time left, as the desk told it last, and the receipt. The desk is asked now and again how
-// long there is; what changed is shown by the page.
+// The clock of a sitting: the time left, as the desk told it last, words of the person in charge, and the receipt. The
+// desk is asked now and again how long there is; what changed is shown by the page.
 'use strict';
 
 {
@@ -42,7 +42,7 @@
         say('left', rest === null ? '' : spelled(rest));
         element('left').classList.toggle('late', words !== '');
         say('warned', words);
-        element('running').hidden = !['warned', 'changed', 'receipt'].some((id) => element(id).textContent);
+        element('running').hidden = !['message', 'warned', 'changed', 'receipt'].some((id) => element(id).textContent);
     }
 
     // What every reply tells beside the sitting.
@@ -53,6 +53,7 @@
         if (rest !== null && left !== null && Math.abs(left - rest) > CHANGED) {
             say('changed', `The time was changed: ${spelled(left)} are left.`);
         }
+        say('message', told.message);
         if (told.receipt !== undefined) {
             say('receipt', told.receipt);
             element('print').hidden = !told.receipt;

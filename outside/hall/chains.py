@@ -128,4 +128,4 @@ def started_again(tally: Tally, folder: pathlib.Path) -> None:
     file.unlink()
     tally.check('no log', 'and no sitting.log' in refused(), refused())
     tally.check('nothing is made', sorted(path.name for path in (folder / 'again').iterdir()) == [
-        'anna.hex', 'tickets.csv'])
+        'anna.hex', 'tickets.csv', 'tickets.html'])

@@ -1,27 +1,25 @@
 """The clock of a hall: how long each candidate has, what is collected at the end, and what a start, a changed clock or
 a bad disk does to it. Time passes here as the test says."""
-import datetime
 import os
 import pathlib
 import re
+import time
 
+from office.clock import of_day
 from office.sittings import hash_of
 from outside.hall.opened import Candidate, Hall, until_there
 from outside.trying import DESK, EXAMPLES, Tally, run
 
-# How much later it is than it is, by the clock that nobody can set and by that of the system.
+# Clocks that stand still: how much later it is than at the beginning, by the one that nobody can set and by the
+# system's, is in files.
 LATER = """
 import office.clock
-def moved(name, read):
+def later(name, begun):
     def reading():
-        try:
-            with open({0!r} + '/' + name) as opened:
-                return read() + int(opened.read())
-        except OSError:
-            return read()
+        with open({0!r} + '/' + name) as opened:
+            return begun + int(opened.read())
     return reading
-office.clock.steady = moved('passed', office.clock.steady)
-office.clock.system = moved('set', office.clock.system)
+office.clock.steady, office.clock.system = later('passed', 0), later('set', {1})
 """
 # A disk that takes nothing while a file is there.
 BROKEN = """
@@ -37,10 +35,16 @@ OVER = 'What stood here was collected at the end. Nothing can be changed any mor
 
 
 class Timed(Hall):
-    """A hall in which time passes as a test says."""
+    """A hall in which time passes as a test says. A word like +90 of its command is the time of day so many minutes
+    later."""
 
     def begin(self) -> 'Timed':
-        self.altered(LATER.format(str(self.folder)))
+        """Opens the hall, at the full minute that has begun."""
+        self.begun = int(time.time()) // 60 * MINUTE
+        self.altered(LATER.format(str(self.folder), self.begun))
+        self.later(0)
+        self.more = [of_day(self.begun + int(word[1:]) * MINUTE)[:5] if word.startswith('+') else word
+                     for word in self.more]
         self.start()
         return self
 
@@ -69,7 +73,7 @@ def minutes(told: dict) -> float:
 
 def from_entering(tally: Tally, folder: pathlib.Path) -> None:
     """So many minutes from entering, for some more; then nothing is taken, and what stands is collected."""
-    hall = Timed(folder / 'entering', EXAMPLES['p'], ['anna', 'bert', 'carl', 'dora'], more=['--minutes', '90'],
+    hall = Timed(folder / 'clock entering', EXAMPLES['p'], ['anna', 'bert', 'carl', 'dora'], more=['--minutes', '90'],
                  listed='id,minutes\nanna,\nbert,120\ncarl,\ndora,\n').begin()
     anna, bert, carl = (Candidate(hall, name) for name in ('anna', 'bert', 'carl'))
     tally.check('nothing is shown before one has entered', anna.ask('/sitting') == (403, {}) == anna.ask('/clock'))
@@ -95,7 +99,7 @@ def from_entering(tally: Tally, folder: pathlib.Path) -> None:
     tally.check('nothing more', (status, told['said'], told['gaps'], told['left'], told['handed_in']) == (
         409, OVER, [5, 11], None, True), told)
     tally.check('it is told so', told['state'] == 'Collected. Barriers: 2. Dependences uncut: 0 of 6.' and bool(
-        re.fullmatch(r'Collected \d{4}-\d\d-\d\d \d\d:\d\d:\d\d \(UTC[+-]\d{4}\): barriers in gaps 5, 11\. Receipt '
+        re.fullmatch(r'Collected \d{4}-\d\d-\d\d \d\d:\d\d:\d\d \(UTC[+-]\d\d:\d\d\): barriers in gaps 5, 11\. Receipt '
                      r'([0-9a-f]{4}-){3}[0-9a-f]{4}\.', told['receipt'])), told)
     tally.check('nor a hand-in', anna.hand_in()[1]['said'] == OVER)
     tally.check('the others go on', bert.move('put 1')[0] == 200 == carl.move('lift 3')[0])
@@ -120,19 +124,18 @@ def from_entering(tally: Tally, folder: pathlib.Path) -> None:
 
 def until(tally: Tally, folder: pathlib.Path) -> None:
     """Until a time of day, for all; a start behind it does not begin the next day."""
-    at = (datetime.datetime.now() + datetime.timedelta(hours=2)).strftime('%H:%M')
-    hall = Timed(folder / 'until', EXAMPLES['p'], ['anna', 'bert', 'carl'], more=['--until', at],
+    hall = Timed(folder / 'clock until', EXAMPLES['p'], ['anna', 'bert', 'carl'], more=['--until', '+120'],
                  listed='id,minutes\nanna,\nbert,300\ncarl,\n').begin()
     anna, bert, carl = (Candidate(hall, name) for name in ('anna', 'bert', 'carl'))
     tally.check('entered', anna.enter() == 303 == bert.enter())
     left = minutes(anna.ask('/clock')[1])
-    tally.check('until then', 118.9 <= left <= 120 and minutes(bert.ask('/clock')[1]) == 300, left)
+    tally.check('until then', left == 120 and minutes(bert.ask('/clock')[1]) == 300, left)
     anna.move('put 5')
     hall.end()
     anna.leave()
     hall.later(60)
     hall.start()
-    tally.check('a start keeps the time', abs(minutes(anna.ask('/clock')[1]) - (left - 60)) < 1, anna.told)
+    tally.check('a start keeps the time', minutes(anna.ask('/clock')[1]) == 60, anna.told)
     tally.check('the break is told', 'before this start nothing was kept since ' in hall.process.stdout.readline())
     hall.end()
     anna.leave()
@@ -142,7 +145,7 @@ def until(tally: Tally, folder: pathlib.Path) -> None:
     tally.check('who never entered does not', carl.enter() == 403 and 'The time of this sitting is over.' in carl.page)
     tally.check('one with minutes goes on', bert.leave() or bert.move('put 1')[0] == 200)
     hall.end()
-    hall.more = ['--until', (datetime.datetime.now() + datetime.timedelta(minutes=180)).strftime('%H:%M')]
+    hall.more = ['--until', of_day(hall.begun + 180 * MINUTE)[:5]]
     hall.start()
     tally.check('another time is taken down', len([act for act in hall.acts() if act.startswith('until')]) == 2)
     tally.check('who never entered may now', carl.enter() == 303)
@@ -151,19 +154,18 @@ def until(tally: Tally, folder: pathlib.Path) -> None:
 
 def before_the_day(tally: Tally, folder: pathlib.Path) -> None:
     """A hall that was opened a day before, for its tickets, has its time on the day."""
-    at = (datetime.datetime.now() + datetime.timedelta(hours=1)).strftime('%H:%M')
-    hall = Timed(folder / 'before', EXAMPLES['p'], ['anna'], more=['--until', at]).begin()
+    hall = Timed(folder / 'clock before', EXAMPLES['p'], ['anna'], more=['--until', '+60']).begin()
     hall.end()
     hall.later(24 * 60)
     hall.start()
     anna = Candidate(hall, 'anna')
-    tally.check('the next day', anna.enter() == 303 and 58.9 <= minutes(anna.ask('/clock')[1]) <= 60, anna.told)
+    tally.check('the next day', anna.enter() == 303 and minutes(anna.ask('/clock')[1]) == 60, anna.told)
     hall.end()
 
 
 def set_back(tally: Tally, folder: pathlib.Path) -> None:
     """Who sets the system's clock changes nobody's time; a start asks for a clock that is right."""
-    hall = Timed(folder / 'set', EXAMPLES['p'], ['anna'], more=['--minutes', '60']).begin()
+    hall = Timed(folder / 'clock set', EXAMPLES['p'], ['anna'], more=['--minutes', '60']).begin()
     anna = Candidate(hall, 'anna')
     anna.enter()
     for later in (-100, 100):
@@ -189,7 +191,7 @@ def set_back(tally: Tally, folder: pathlib.Path) -> None:
 
 def full_disk(tally: Tally, folder: pathlib.Path) -> None:
     """What cannot be collected is so as soon as it can be, and nothing is taken meanwhile."""
-    hall = Timed(folder / 'full', EXAMPLES['p'], ['anna', 'bert'], more=['--minutes', '60'])
+    hall = Timed(folder / 'clock full', EXAMPLES['p'], ['anna', 'bert'], more=['--minutes', '60'])
     hall.altered(BROKEN.format(str(hall.folder))).begin()
     anna, bert = (Candidate(hall, name) for name in hall.names)
     for one, gap in ((anna, 5), (bert, 11)):
@@ -215,8 +217,8 @@ def full_disk(tally: Tally, folder: pathlib.Path) -> None:
 
 def wrong(tally: Tally, folder: pathlib.Path) -> None:
     """What cannot be a time is told."""
-    hall = Hall(folder / 'wrong', EXAMPLES['p'], ['anna'])
-    ahead = (datetime.datetime.now() - datetime.timedelta(minutes=5)).strftime('%H:%M')
+    hall = Hall(folder / 'clock wrong', EXAMPLES['p'], ['anna'])
+    ahead = of_day(int(time.time()) * 1000 - 5 * MINUTE)[:5]
     for more, word in ((['--minutes', '0'], 'from 1 to 9999'), (['--minutes', 'x'], 'from 1 to 9999'),
                        (['--until', '25:00'], 'a time of day like 12:30'), (['--until', 'noon'], 'a time of day'),
                        (['--until', ahead], 'more than 12 hours ahead'),

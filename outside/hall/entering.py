@@ -14,7 +14,7 @@ NO_PAGE = 'There is no such page in this hall.'
 NO_NAME = 'The hall is not called by this address. Use the address that was handed out.'
 TOO_LONG = 'That is longer than anything the hall takes. Nothing was changed.'
 TOLD = {'candidate', 'gaps', 'counts', 'moves', 'handed_in', 'state', 'said', 'question', 'leaving', 'uncut',
-        'receipt', 'left'}
+        'receipt', 'left', 'message'}
 
 
 def typed(tally: Tally, seen: Browser, folder: pathlib.Path) -> None:

@@ -47,6 +47,7 @@ class Hall:
     port: int = 0
     said: str = ''
     address: str = ''
+    secret: str = ''
 
     def __post_init__(self) -> None:
         self.folder.mkdir(exist_ok=True)
@@ -74,11 +75,11 @@ class Hall:
                 env={**os.environ, 'PYTHONPATH': str(self.folder), **self.environment}, text=True,
                 preexec_fn=functools.partial(signal.signal, signal.SIGHUP, signal.SIG_DFL))  # also under nohup
         atexit.register(self.process.kill)
-        self.said = self.process.stdout.readline() + self.process.stdout.readline()
-        opened = re.match(r'(https?://[^/]*?(?::(\d+))?/) is open', self.said)
+        self.said = ''.join(self.process.stdout.readline() for _ in range(3))
+        opened = re.match(r'(https?://[^/]*?(?::(\d+))?/) is open .*\n.*\nin charge: \1charge with (\S+)\n', self.said)
         if not opened:
             raise RuntimeError(f'the hall did not open: {self.complaints()}')
-        self.address, self.port = opened[1], self.port or int(opened[2])
+        self.address, self.port, self.secret = opened[1], self.port or int(opened[2]), opened[3]
         return self
 
     def end(self, by: int = signal.SIGKILL) -> int:
@@ -139,8 +140,9 @@ class Candidate:
                                                              source_address=(self.machine, 0))
             self.connection.request('GET' if body is None else 'POST', path, body, self.headers)
             reply = self.connection.getresponse()
-            self.told = json.loads(reply.read())
-            return reply.status, self.told
+            told = json.loads(reply.read())
+            self.told = self.told | told if path == '/clock' else told
+            return reply.status, told
         except (http.client.HTTPException, ValueError) as fault:
             self.leave()
             raise ConnectionError from fault

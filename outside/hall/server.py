@@ -1,5 +1,5 @@
-"""The hall without a browser: a hundred candidates at once, from handing in to the register, connections of every sort
-and in any number, how it is called, bad requests.
+"""The hall without a browser: a hundred candidates at once, from handing in to the register, the person in charge,
+connections of every sort and in any number, how it is called, bad requests.
 
 Needs the library's archive (rt staticlib host). The last line is 'N passed, M failed'.
 """
@@ -8,6 +8,7 @@ import pathlib
 import signal
 import tempfile
 
+from outside.hall.charged import in_charge
 from outside.hall.connections import connected
 from outside.hall.crowds import crowd, rush
 from outside.hall.encrypted import from_where, over_ipv6, wrong
@@ -45,6 +46,7 @@ def main() -> None:
         crowd(tally, folder)
         rush(tally, folder)
         to_the_register(tally, folder)
+        in_charge(tally, folder)
         connected(tally, folder)
         shares(tally, folder)
         over_ipv6(tally, folder)

@@ -18,6 +18,7 @@ import urllib.request
 from outside.hall import browser
 from outside.hall.boards import boards
 from outside.hall.browser import DOWN, END, ENTER, ESCAPE, HOME, SHIFT, TAB, UP, Browser, Driver, until
+from outside.hall.charge_page import in_charge
 from outside.hall.encrypted import by_itself, in_front
 from outside.hall.entering import entering
 from outside.hall.opened import Candidate, Hall, until_there
@@ -272,6 +273,7 @@ def main() -> None:
         large(tally, seen[0], folder)
         for part in (boards, windows, entering, readers, timed):
             part(tally, Browser(driver), folder)
+        in_charge(tally, driver, folder)
         by_itself(tally, driver, folder)
         in_front(tally, driver, folder)
         driver.close()

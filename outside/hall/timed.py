@@ -15,7 +15,7 @@ return Object.fromEntries(['left', 'warned', 'changed', 'receipt', 'print'].map(
 """
 FIVE = 'Less than five minutes are left. Then what stands here is collected.'
 ONE = 'Less than one minute is left. Then what stands here is collected.'
-RECEIPT = re.compile(r'(Collected|Handed in) \d{4}-\d\d-\d\d \d\d:\d\d:\d\d \(UTC[+-]\d{4}\): (.*)\. Receipt '
+RECEIPT = re.compile(r'(Collected|Handed in) \d{4}-\d\d-\d\d \d\d:\d\d:\d\d \(UTC[+-]\d\d:\d\d\): (.*)\. Receipt '
                      r'((?:[0-9a-f]{4}-){3}[0-9a-f]{4})\.')
 
 
@@ -34,17 +34,16 @@ def runs_out(tally: Tally, seen: Browser, folder: pathlib.Path) -> None:
     page.enter()
     page.shows('nothing put')
     found = shown(seen, {'left': '1:29', 'warned': '', 'receipt': ''})
-    tally.check('the time left', found == {'left': '1:29', 'warned': '', 'receipt': ''}, found)
+    tally.check('the time left, counted down', found == {'left': '1:29', 'warned': '', 'receipt': ''}, found)
     page.turn(5)
     for passed, left, words in ((84.4, '5', ''), (85.2, '4', FIVE), (89.2, '0', ONE)):
         hall.later(passed)
         found = shown(seen, {'left': left, 'warned': words})
         tally.check(f'after {passed} minutes', found == {'left': left, 'warned': words}, found)
     tally.check('heard', ONE in seen.heard() and seen.script('return document.getElementById("warned").role') == 'alert')
-    hall.later(89.95)
-    page.browser.open(hall.address)
+    hall.later(90)
     page.handed_in = 'Collected. '
-    page.shows('collected without a click')
+    page.shows('collected without a click', 'A barrier stands in gap 5.')
     page.browser.click(GAP(2))
     page.shows('nothing is taken', OVER)
     receipt(tally, page, 'Collected', 'a barrier in gap 5')
