@@ -7,9 +7,9 @@ nothing of the board tells it, neither dots nor numbers.
 import html
 from collections.abc import Iterator
 
-from office.layout import ROOM, WHOLE, Bar, Drawn, View
 from office.paper import Paper, Placed
 from office.picture import TALLY, UNCUT, Picture
+from office.sight import ROOM, WHOLE, Bar, Drawn, View
 from office.words import counted
 
 PLAIN_SIGN = 'A black bar is a barrier.'

@@ -5,7 +5,7 @@ import re
 
 from office.asked import GAPS_HELP, PAPER_HELP, loaded, placement_asked, planned
 from office.command import Fault, Parser, printable, write_out, write_over
-from office.layout import View
+from office.sight import View
 from office.paper import Paper, paper_on, placed
 from office.picture import Picture
 from office.result import OUT_HELP

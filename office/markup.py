@@ -9,7 +9,7 @@ from office.called import Called
 from office.chain import receipt_of
 from office.clock import time_in, told
 from office.colours import COLOURS, SERVED
-from office.layout import Drawn, View
+from office.sight import Drawn, View
 from office.messages import Reply
 from office.paper import Paper, Placed
 from office.picture import STYLE

@@ -11,8 +11,8 @@ from collections.abc import Collection
 
 from office.colours import SERVED, in_light
 from office.frames import ENDDO, STATEMENT
-from office.layout import LEFT, STRIP, WHOLE, WIDE_ROOM, Bar, Drawn, Layout, View
 from office.paper import Dependence, Paper, Placed
+from office.sight import LEFT, STRIP, WHOLE, WIDE_ROOM, Bar, Drawn, Layout, View
 from office.words import ranges
 
 NARROWEST, CAPTION, TITLE, EDGE = 560, 460, 1000, 20

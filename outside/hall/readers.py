@@ -11,6 +11,7 @@ from outside.trying import EXAMPLES, ROOT, Tally
 # All words that are seen, with the contrast to what is painted under their middle. Nothing may be hidden from the look.
 WORDS = r"""
 document.styleSheets[0].insertRule('* { pointer-events: auto !important }');
+document.querySelectorAll('details').forEach((part) => { part.open = true; });
 const told = (text) => {
     const [r, g, b, a = 1] = text.match(/[\d.]+/g).map(Number);
     return text.startsWith('color(srgb') ? [r * 255, g * 255, b * 255, a] : [r, g, b, a];
@@ -34,7 +35,7 @@ const over = (top, under) => top.slice(0, 3).map((part, k) => part * top[3] + un
 const found = [];
 for (const piece of document.querySelectorAll('body *')) {
     const words = [...piece.childNodes].filter((node) => node.nodeType === 3).map((node) => node.data).join('').trim();
-    if (!words || !piece.getClientRects().length || piece.closest('script, noscript, dialog:not([open])')) {
+    if (!words || !piece.checkVisibility() || !piece.getClientRects().length || piece.closest('script, noscript, dialog:not([open])')) {
         continue;
     }
     piece.scrollIntoView({ block: 'center', inline: 'center' });

@@ -6,11 +6,11 @@ from html.parser import HTMLParser
 
 from office.board import Board
 from office.called import Called
-from office.layout import ROOM, WHOLE, WIDE_ROOM, Drawn, Layout, View
 from office.library import Desk
 from office.markup import Pages
 from office.paper import Paper, Placed, paper_on
 from office.picture import PLATE
+from office.sight import ROOM, WHOLE, WIDE_ROOM, Drawn, Layout, View
 from outside.measure import papers
 from outside.trying import EXAMPLES, ROOT, Tally
 
