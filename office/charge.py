@@ -135,7 +135,8 @@ class Charge:
         def done() -> str:
             self.to_be_written(again)
             more = counted(int(minutes), 'more minute', 'more minutes')
-            goes_on = f' What was collected goes on: {", ".join(sitting.candidate for sitting in again)}.' if again else ''
+            names = ', '.join(sitting.candidate for sitting in again)
+            goes_on = f' What was collected goes on: {names}.' if again else ''
             return f'{"All have" if who == OFFICE else f"{who} has"} {more}.{goes_on}'
 
         return [f'extra {who} {minutes}',

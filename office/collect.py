@@ -115,10 +115,15 @@ def arguments(parser: argparse.ArgumentParser) -> None:
 
 
 def main(asked: argparse.Namespace) -> None:
-    if asked.replace is not None and not asked.replace.strip():
-        raise Fault('--replace wants the reason')
     with at_rest(asked.answers):
         ended = ended_in(asked.answers, asked.paper)
+    take(ended, asked)
+
+
+def take(ended: Ended, asked: argparse.Namespace) -> None:
+    """Takes a sitting into the register that is asked for."""
+    if asked.replace is not None and not asked.replace.strip():
+        raise Fault('--replace wants the reason')
     with to_write(asked.register, asked.new) as register:
         by = marker(asked.replace and printable(asked.replace), ended.log.head)
         taken, wrong = keep_all(register, ended, by)

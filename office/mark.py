@@ -30,6 +30,7 @@ mark away that is there. The status is then 1, or 2 where something was not read
   ./desk mark paper.hex answers/*.hex --register register.db --new
   ./desk mark paper.hex answers/*.hex --register register.db --candidates names.csv --slips slips
   ./desk mark paper.hex late/anna.hex --register register.db --replace "handed in again, with leave"
+  ./desk mark paper.hex --sitting answers --register register.db
 """
 
 
@@ -179,8 +180,10 @@ def register_asked(asked: argparse.Namespace) -> contextlib.AbstractContextManag
 
 def arguments(parser: argparse.ArgumentParser) -> None:
     parser.add_argument('paper', metavar='PAPER', help=PAPER_HELP)
-    parser.add_argument('answers', metavar='ANSWER', nargs='+',
+    parser.add_argument('answers', metavar='ANSWER', nargs='*',
                         help='a file with a placement text, a folder of these, or @FILE, a list of files, a line each')
+    parser.add_argument('--sitting', metavar='DIR', help='marks a sitting at the screen that has ended, from its log, as '
+                        './desk collect does, if it is over this paper')
     parser.add_argument('--register', metavar='FILE',
                         help='keeps the marks in a register, and writes how many there are to standard output instead')
     parser.add_argument('--new', action='store_true', help='makes the register, where no file is yet')
@@ -193,7 +196,29 @@ def arguments(parser: argparse.ArgumentParser) -> None:
                         help='rows as a list of objects; with a register, how many there are of each verdict')
 
 
+def mark_sitting(asked: argparse.Namespace) -> None:
+    """Takes a sitting over the paper into the register."""
+    from office.collect import at_rest, ended_in, take  # which marks as this does
+    if asked.answers or asked.candidates is not None or asked.slips is not None:
+        raise Fault('--sitting has answers and candidates of its own, and ./desk export writes slips: leave those out')
+    if asked.register is None:
+        raise Fault('a sitting is marked in a register: --register FILE names it')
+    if asked.json:
+        raise Fault('--json has no place beside --sitting: ./desk register --json writes the marks')
+    _, text = planned(asked.paper, asked.blank)
+    with at_rest(asked.sitting):
+        ended = ended_in(asked.sitting, asked.paper)
+    if ended.paper.sha256 != sha256_of(text):
+        raise Fault(f'{printable(asked.sitting)} is a sitting over another paper than {printable(asked.paper)}')
+    take(ended, asked)
+
+
 def main(asked: argparse.Namespace) -> None:
+    if asked.sitting is not None:
+        mark_sitting(asked)
+        return
+    if not asked.answers:
+        raise Fault('name the answers, or a sitting at the screen by --sitting DIR')
     listed = None if asked.candidates is None else listed_in(asked.candidates, paper_name(asked.paper))
     files, wrong = files_of(answers_in(asked.answers), listed)
     desk, text = planned(asked.paper, asked.blank)

@@ -33,8 +33,8 @@ def arguments(parser: argparse.ArgumentParser) -> None:
                         help='the candidates: an id a line, or CSV with the columns id, name, minutes, paper')
     parser.add_argument('--answers', metavar='DIR', required=True,
                         help='where answers (DIR/NAME.hex), tickets and the log of moves are kept')
-    parser.add_argument('--minutes', metavar='N', help='how long a candidate has from entering, where the list does not '
-                        'say otherwise; then what stands is collected')
+    parser.add_argument('--minutes', metavar='N', help='how long a candidate has from entering, where the list does '
+                        'not say otherwise; then what stands is collected')
     parser.add_argument('--until', metavar='HH:MM', help='the time of day at which what stands is collected, for all '
                         'for whom the list has no minutes')
     parser.add_argument('--practice', action='store_true',
@@ -87,8 +87,8 @@ def say_so(hall: Hall, address: str, secret: str) -> None:
     try:
         write_out(f'{address} is open for {counted(len(hall.sittings), "candidate")}, '
                   f'{counted(hall.handed_in, "answer")} handed in\n'
-                  f'tickets: {printable(os.path.join(hall.answers, TICKETS))}, to print {TO_PRINT} beside it; Ctrl-C ends '
-                  'the sitting\n'
+                  f'tickets: {printable(os.path.join(hall.answers, TICKETS))}, to print {TO_PRINT} beside it; '
+                  'Ctrl-C ends the sitting\n'
                   f'in charge: {address}charge with {secret}\n{hall.away}{chr(10) * bool(hall.away)}'.encode())
     except Fault:
         hall.give_up()

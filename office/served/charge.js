@@ -1,4 +1,5 @@
-// The page of the person in charge. Nothing is kept here: every reply has the whole hall, and the page is drawn from it.
+// The page of the person in charge. Nothing is kept here: every reply has the whole hall, and the page is drawn from
+// it.
 'use strict';
 
 const element = (id) => document.getElementById(id);
@@ -13,6 +14,10 @@ const QUESTIONS = {
     ticket: (who) => `A new ticket for ${who}? The old one opens nothing any more.`,
     reopen: (who) => `Reopen the sitting of ${who}? What was handed in counts no longer.`,
     extra: (who, told) => `${told.minutes} more minutes for ${who}?`,
+};
+
+const FIELDS = {
+    late: ['identity', 'name', 'minutes'], extra: ['minutes'], reopen: ['minutes'], message: ['text'],
 };
 
 function spelled(left) {
@@ -117,10 +122,9 @@ function spelledOut(told) {
 function submitted(event) {
     event.preventDefault();
     const act = event.submitter.value;
-    const fields = { late: ['identity', 'name', 'minutes'], extra: ['minutes'], reopen: ['minutes'], message: ['text'] };
     const given = new FormData(event.target);
     const told = { act, who: chosen() };
-    for (const field of fields[act] ?? []) {
+    for (const field of FIELDS[act] ?? []) {
         told[field] = given.get(field).trim();
     }
     const question = QUESTIONS[act]?.(called(), told);

@@ -15,8 +15,8 @@ return Object.fromEntries([...document.querySelectorAll('#candidates tr')].map((
     Object.fromEntries([...row.querySelectorAll('td[data-of]')].map((cell) => [cell.dataset.of, cell.textContent]))]));
 """
 SAID = 'return ["said", "refused"].map((id) => document.getElementById(id)?.textContent).join("")'
-DEAD = ('The ticket of this window opens nothing any more. Ask the person in charge for the new one. What was asked for '
-        'here since then was not done.')
+DEAD = ('The ticket of this window opens nothing any more. Ask the person in charge for the new one. What was asked '
+        'for here since then was not done.')
 
 
 class ChargePage:
@@ -98,7 +98,8 @@ def in_charge(tally: Tally, driver: Driver, folder: pathlib.Path) -> None:
     page.turn(5)
     acted(tally, charge, page)
     charge.act('late', 'late', '', 'No candidate was added: 7 is there already.', asks=False, identity='7', name='')
-    told = charge.act('late', 'late', '', 'carl is on the list. The ticket: ', asks=False, identity='carl', name='Łukasz')
+    told = charge.act('late', 'late', '', 'carl is on the list. The ticket: ', asks=False, identity='carl',
+                      name='Łukasz')
     charge.row('carl', name='Łukasz', presence='not entered')
     tally.check('the ticket', until(lambda: hall.tickets.get('carl'), told[-19:]) == told[-19:])
     tally.check('sits down', Candidate(hall, 'carl').enter() == 303)
@@ -110,7 +111,8 @@ def in_charge(tally: Tally, driver: Driver, folder: pathlib.Path) -> None:
     charge.row('7', moves='3', name=NAME)
     charge.act('end', 'close', '', 'The hall is closed. Collected: 2.')
     page.handed_in = 'Collected. '
-    found = until(lambda: page.browser.script('return document.getElementById("state")?.textContent')[:10], 'Collected.')
+    state = 'return document.getElementById("state")?.textContent.slice(0, 10)'
+    found = until(lambda: page.browser.script(state), 'Collected.')
     tally.check('the candidate sees it', found == 'Collected.', found)
     charge.seen.new_window()
     charge.seen.open(f'file://{hall.answers}/tickets.html')

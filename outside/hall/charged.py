@@ -66,7 +66,8 @@ def secret(tally: Tally, folder: pathlib.Path) -> None:
             ('POST', '/charge/enter', f'secret={asked}'))] == [403] * 4)
     tally.check('the candidate is not in charge', 'candidates' not in Person(hall, 'x').ask(
         'GET', '/charge/now', Cookie=f'ticket-{hall.port}={first}; charge-{hall.port}={hall.tickets["anna"]}')[1])
-    tally.check('nor the other way round', person.ask('GET', '/sitting', Cookie=f'ticket-{hall.port}={first}')[0] == 403)
+    cookie = f'ticket-{hall.port}={first}'
+    tally.check('nor the other way round', person.ask('GET', '/sitting', Cookie=cookie)[0] == 403)
     typed = first.upper().replace('-', '+')
     tally.check('the secret', person.ask('POST', '/charge/enter', f'secret={typed}')[0] == 303)
     tally.check('it is in the log', hall.acts()[-1] == 'charge' and '\t127.0.0.1\tcharge\t' in hall.log.read_text())
@@ -229,7 +230,7 @@ def closed(tally: Tally, folder: pathlib.Path) -> None:
     status, said = person.act('close')
     tally.check('closed', (status, said) == (200, 'The hall is closed. Collected: 2.') and person.told['closed'], said)
     tally.check('once', person.act('close')[0] == 409)
-    tally.check('nothing more', bert.move('put 6') [1]['said'] == OVER and dora.enter() == 403, bert.told)
+    tally.check('nothing more', bert.move('put 6')[1]['said'] == OVER and dora.enter() == 403, bert.told)
     status, said = person.act('late', identity='eva', name='', minutes='')
     tally.check('a late one sits down all the same', until_there(lambda: 'eva' in hall.tickets) and
                 Candidate(hall, 'eva').enter() == 303)
@@ -246,7 +247,8 @@ def closed(tally: Tally, folder: pathlib.Path) -> None:
     hall.end(signal.SIGINT)
     register = folder / 'closed.db'
     seen = run(DESK, 'collect', hall.answers, '--register', register, '--new')
-    tally.check('who goes on is told', seen.status == 1 and 'bert entered' in seen.err and 'eva entered' in seen.err, seen)
+    tally.check('who goes on is told', seen.status == 1 and all(
+        f'{who} entered' in seen.err for who in ('bert', 'eva')), seen)
     tally.check('the marks', seen.out.startswith(b'2 answers: 1 Best, 1 Dearer; 1 Absent\n'), seen)
     story = run(DESK, 'story', hall.answers, '--candidate', 'anna').out.decode()
     tally.check('the story', all(word in story for word in ('reopened', 'the sitting is closed', 'hands in at')), story)
@@ -274,7 +276,8 @@ def not_kept(tally: Tally, folder: pathlib.Path) -> None:
         'POST', '/charge/enter', f'secret={hall.secret}')[0] == 303 and len(person.now()['candidates']) == 2)
     tally.check('nothing is changed', (hall.log.read_bytes(), hall.tickets) == (log, file))
     tally.check('for nobody', anna.ask('/sitting')[0] == 200 and minutes(anna.told) == 60 and not anna.told['message'])
-    tally.check('what was handed in stays', bert.ask('/sitting')[1]['handed_in'] and (hall.answers / 'bert.hex').exists())
+    tally.check('what was handed in stays', bert.ask('/sitting')[1]['handed_in'] and (
+        hall.answers / 'bert.hex').exists())
     (hall.folder / 'is full').unlink()
     for act, who, more in acts:
         tally.check(f'{act} is done', person.act(act, who, **more)[0] == 200, person.told)

@@ -20,7 +20,8 @@ from outside.trying import Tally
 def main() -> None:
     tally = Tally()
     with tempfile.TemporaryDirectory() as name:
-        for some in (listed, chained, started_again, started, stays_ours, on_bad_disks, told_again, by_the_clock, killed):
+        for some in (listed, chained, started_again, started, stays_ours, on_bad_disks, told_again, by_the_clock,
+                     killed):
             some(tally, pathlib.Path(name))
     tally.close()
 

@@ -40,7 +40,8 @@ def runs_out(tally: Tally, seen: Browser, folder: pathlib.Path) -> None:
         hall.later(passed)
         found = shown(seen, {'left': left, 'warned': words})
         tally.check(f'after {passed} minutes', found == {'left': left, 'warned': words}, found)
-    tally.check('heard', ONE in seen.heard() and seen.script('return document.getElementById("warned").role') == 'alert')
+    role = seen.script('return document.getElementById("warned").role')
+    tally.check('heard', ONE in seen.heard() and role == 'alert', role)
     hall.later(90)
     page.handed_in = 'Collected. '
     page.shows('collected without a click', 'A barrier stands in gap 5.')
@@ -67,7 +68,8 @@ def receipt(tally: Tally, page: Page, how: str, what: str) -> None:
     tally.check('on one sheet', seen.sheets() == 1, seen.sheets())
     found = run(DESK, 'story', page.hall.answers, '--code', words[3])
     verb = 'collected' if how == 'Collected' else 'hands in'
-    tally.check('the code is found', found.status == 0 and verb.encode() in found.out and what.encode() in found.out, found)
+    tally.check('the code is found', found.status == 0 and all(
+        word.encode() in found.out for word in (verb, what)), found)
     seen.click('.back a')
     page.shows('the way back')
 

@@ -108,6 +108,29 @@ def collected(tally: Tally, folder: pathlib.Path) -> None:
     tally.check('audited in the end', run(DESK, 'audit', register).status == 0, run(DESK, 'audit', register))
 
 
+def by_mark(tally: Tally, folder: pathlib.Path) -> None:
+    """./desk mark --sitting does the same, for a sitting over the paper that is named."""
+    answers, register, other = folder / 'by mark', folder / 'mark.db', folder / 'collect.db'
+    sit(answers)
+    for name, text in EXAMPLES.items():
+        (folder / f'{name}.hex').write_bytes(text)
+    mark = [DESK, 'mark', folder / 'p.hex', '--sitting', answers, '--register', register]
+    seen, wanted = run(*mark, '--new'), run(DESK, 'collect', answers, '--register', other, '--paper', 'p', '--new')
+    tally.check('as collect does', (seen.err, seen.status, seen.out.splitlines()[0]) == (
+        wanted.err, wanted.status, wanted.out.splitlines()[0]) and added(seen) == 4, seen)
+    columns = ('candidate', 'verdict', 'paper', 'name', 'answer_sha256', 'sitting')
+    ours, theirs = ([[row[column] for column in columns] for row in table(file)] for file in (register, other))
+    tally.check('the same marks', ours == theirs, ours)
+    tally.check('again', added(run(*mark)) == 0)
+    for more, words in [(['--candidates', folder / 'p.hex'], 'leave those out'), (['--slips', folder], 'leave those out'),
+                        (['--replace', ' '], 'wants the reason')]:
+        tally.check(f'{more[0]}', run(*mark, *more).failed(words), run(*mark, *more))
+    for command, words in [([DESK, 'mark', folder / 'q.hex', *mark[3:]], 'a sitting over another paper than'),
+                           (mark[:5], '--register FILE names it'), (mark[:3], 'name the answers, or a sitting'),
+                           ([*mark[:3], folder / 'q.hex', *mark[3:]], 'leave those out')]:
+        tally.check(words, run(*command).failed(words), run(*command))
+
+
 def refused(tally: Tally, folder: pathlib.Path) -> None:
     """A hall that is open, a log that is changed or of nothing: nothing is taken in."""
     answers, register = folder / 'answers', folder / 'register.db'
@@ -175,7 +198,7 @@ def changed(tally: Tally, folder: pathlib.Path) -> None:
 
 def main() -> None:
     tally = Tally()
-    for part in (collected, refused, changed):
+    for part in (collected, by_mark, refused, changed):
         with tempfile.TemporaryDirectory() as name:
             part(tally, pathlib.Path(name))
     tally.close()
