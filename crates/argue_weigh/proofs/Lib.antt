@@ -1,0 +1,3 @@
+-- Why the code for one step does what the definition says.
+pub mod Steps
+pub mod Stepping
