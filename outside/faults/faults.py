@@ -22,7 +22,7 @@ from outside.checks.repository import edges
 from outside.trying import ROOT
 
 # The judge's threads, and the seconds of the processor that it may take for its first scripts and for shortening one.
-JUDGES, SPARE = 2, 40
+JUDGES, SPARE = 2, 15
 RUSTC = ['rustc', '--edition', '2021', '-O', '-A', 'warnings', '-C', 'panic=abort']
 
 
