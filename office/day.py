@@ -5,16 +5,17 @@ from typing import Any
 
 from office.command import REFUSED, Fault, Parser, nearest, printable, write_json, write_out
 
-HELP = """The office's day, over the proved library: the setter checks a text, the desk works out the key, answers are
+ABOUT = """The office's day, over the proved library: the setter checks a text, the desk works out the key, answers are
 marked as they come in, and the day ends in the register. Gaps, loops and points are decimal in words and arguments,
 hexadecimal in texts."""
+VERSION_HELP = 'says which desk this is: version, commit and library'
 STATUS = 'Status: 0 done, 1 refused, 2 bad usage or a file that cannot be read or written.'
 # The commands, each with its module.
 COMMANDS = {'check': 'check', 'show': 'show', 'spell': 'spell', 'key': 'key', 'mark': 'mark', 'collect': 'collect',
             'register': 'view', 'export': 'export', 'slip': 'slip', 'certificate': 'certificate', 'verify': 'verify',
             'audit': 'audit', 'take-in': 'take_in', 'why': 'why', 'draw': 'draw', 'program': 'c_program', 'join': 'join',
             'calls': 'calls', 'textbook': 'textbook', 'missing': 'missing', 'improve': 'improve', 'sheet': 'sheet',
-            'sit': 'sit', 'story': 'story'}
+            'sit': 'sit', 'story': 'story', 'manual': 'manual'}
 ASKS_HELP = ('help', '--help', '-h')
 
 
@@ -34,8 +35,8 @@ def command_parser(name: str) -> Parser:
 
 def whole_parser() -> Parser:
     """All commands with a line each, for the help."""
-    made = Parser(prog='./desk', description=HELP, epilog=STATUS)
-    made.add_argument('--version', action='store_true', help='says which desk this is: version, commit and library')
+    made = Parser(prog='./desk', description=ABOUT, epilog=STATUS)
+    made.add_argument('--version', action='store_true', help=VERSION_HELP)
     commands = made.add_subparsers(title='commands', metavar='COMMAND')
     for name in COMMANDS:
         commands.add_parser(name, help=module_of(name).HELP)

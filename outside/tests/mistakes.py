@@ -464,10 +464,21 @@ def at_once(tally: Tally, folder: pathlib.Path) -> None:
     tally.check('what was done is said', b'desk: ended: nothing was written' in err and desk.returncode == 130, err)
 
 
+def examples(tally: Tally) -> None:
+    """The answer with its slip, and the timing sheet, are what the desk makes of them."""
+    folder = ROOT / 'examples'
+    desk, _ = planned(str(P))
+    slip = desk.candidate_slip((folder / 'answers' / 'bert.hex').read_bytes())
+    tally.check("bert's slip", slip == (folder / 'slips' / 'bert.candidate.hex').read_bytes(), slip)
+    seen = run(DESK, 'sheet', folder / 'sheet.txt')
+    tally.check('a timing sheet', seen.out.startswith(b'with its waits the run ends at 14\n'), seen)
+
+
 def main() -> None:
     tally = Tally()
     with tempfile.TemporaryDirectory() as name:
         folder = pathlib.Path(name)
+        examples(tally)
         causes(tally, folder)
         listings(tally, folder)
         others(tally, folder)

@@ -8,6 +8,7 @@ import math
 import pathlib
 import random
 import re
+import shutil
 import subprocess
 import tempfile
 
@@ -15,15 +16,22 @@ from office.day import COMMANDS
 from office.frames import BARRED, CARRIED, FLAGGED, placement_text, text_of
 from office.header import DECLARED, HEADER
 from office.library import Desk, Nest
-from office.listing import spelled
+from office.listing import Listing, spelled, words_of
 from office.paper import paper_on, placed
 from office.refusal import Refused
 from office.show import listing_of
-from office.words import RULES
+from office.words import RULES, spoken
 from outside.measure import papers
 from outside.trying import DESK, DRAW, EXAMPLES, PROGRAM, ROOT, VERSION, Seen, Tally, run
 
 FULL = '"$@" > /dev/full'
+# The programs in examples/programs: how many barriers of the key each loop has of its own, if any.
+PROGRAMS = {
+    'jacobi': {'step': 2}, 'red_black': {'sweep': 3}, 'wavefront': {'diagonal': 1}, 'lu': {'k': 3},
+    'fft': {'signal': 2, 'stage': 1}, 'double_buffer': {'frame': 2}, 'lulesh': {'cycle': 4}, 'swim': {'step': 3},
+    'locks': {'turn': 3}, 'refinement': {'step': 1, 'level': 1}, 'matrix_product': {'tile': 2},
+    'conjugate_gradient': {'iteration': 3}, 'n_body': {'step': 2}, 'monte_carlo': {'batch': 2},
+    'multigrid': {'cycle': 1, 'down': 2, 'up': 2}}
 KINDS = ['deep', 'one', 'many', 'mixed', 'carried', 'tails', 'pairs', 'barred']
 
 # Papers with a fault: the text, the number, the line or 0, and words that quote the line or say what is missing. Which
@@ -98,6 +106,49 @@ def usage(tally: Tally) -> None:
     for asked in [['--help'], ['--version'], ['key', '--help'], ['key', ROOT / 'examples' / 'p.hex']]:
         seen = run(DESK, *asked, shell=FULL)
         tally.check(f'{asked}, output full', seen.failed('standard output was not written'), seen)
+
+
+def manual(tally: Tally, folder: pathlib.Path) -> None:
+    """Pages for man, of ./desk and of each command, with the texts of the help; groff has nothing to say to them."""
+    seen = run(DESK, 'manual', '--into', folder / 'man1')
+    pages = sorted(path.name for path in (folder / 'man1').iterdir())
+    tally.check('a page each', pages == sorted(['desk.1', *(f'desk-{name}.1' for name in COMMANDS)]), (seen, pages))
+    tally.check('one alone', run(DESK, 'manual', 'mark').out == (folder / 'man1' / 'desk-mark.1').read_bytes())
+    tally.check('no such command', run(DESK, 'manual', 'marks').failed('there is no command marks'))
+    other = folder / 'man1' / 'desk.1'
+    other.write_text('a letter')
+    seen = run(DESK, 'manual', '--into', folder / 'man1')
+    tally.check('a letter is left alone', seen.failed('left alone') and other.read_text() == 'a letter', seen)
+    other.unlink()
+    run(DESK, 'manual', '--into', folder / 'man1')
+    if shutil.which('groff'):
+        seen = run('groff', '-man', '-Tutf8', '-ww', *(folder / 'man1' / page for page in pages))
+        shown = ' '.join(re.sub(r'\x1b\[[0-9;]*m|.\x08', '', seen.out.decode()).split())
+        tally.check('groff reads them', (seen.err, seen.status) == ('', 0), seen.err)
+        for word in ('desk-spell - writes the text of a paper', './desk check papers', '--over', 'A -> B round LOOP'):
+            tally.check(f'shown: {word}', word in shown.replace('‐', '-').replace('−', '-'), shown[:300])
+
+
+def programs(tally: Tally) -> None:
+    """The listings of real programs have the keys that their remarks say, with the barriers in the loops that are named
+    here; where a loop may not run, it is the one that the remark names."""
+    folder = ROOT / 'examples' / 'programs'
+    tally.check('fifteen', sorted(path.stem for path in folder.iterdir()) == sorted(PROGRAMS), [*folder.iterdir()])
+    for name, wanted in PROGRAMS.items():
+        text = (folder / f'{name}.txt').read_bytes()
+        desk, read = Desk(), Listing()
+        desk.load(spelled(text, name))
+        desk.plan()
+        for number, line in enumerate(text.decode().splitlines(), 1):
+            read.read(number, words_of(line.partition('#')[0]))
+        names = {one.point: called for called, those in read.named.items() for one in those}
+        key = placed(desk, desk.key())
+        said = re.search(r'^# Key: (.*?)\.', text.decode(), re.M)
+        tally.check(f'{name}: the key', said is not None and said[1] == spoken('gap', key.gaps), key.gaps)
+        counts = {names[d]: count for d, count in key.counts.items() if count}
+        tally.check(f'{name}: the loops of its barriers', counts == wanted, counts)
+        missing = [names[d] for d in desk.missing_runs()]
+        tally.check(f'{name}: missing runs', missing == ['level'] * (name == 'refinement'), missing)
 
 
 def form(tally: Tally, folder: pathlib.Path) -> None:
@@ -315,6 +366,8 @@ def main() -> None:
     with tempfile.TemporaryDirectory() as name:
         folder = pathlib.Path(name)
         usage(tally)
+        manual(tally, folder)
+        programs(tally)
         form(tally, folder)
         numbers(tally, folder)
         listings(tally, folder)
