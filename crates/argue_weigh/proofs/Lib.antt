@@ -1,3 +1,5 @@
--- Why the code for one step does what the definition says.
+-- Why the code for one step, and for the end of a claim, does what the definition says.
 pub mod Steps
 pub mod Stepping
+pub mod Strikes
+pub mod Excluding

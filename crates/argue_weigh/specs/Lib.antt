@@ -1,2 +1,3 @@
--- The steps of a claim over tables: what the code for one step promises.
+-- A claim over tables: what the code for one step, and for the end of a claim, promises.
 pub mod Naming
+pub mod Striking

@@ -102,7 +102,8 @@ returns c =
     let lies = c .before .lies-at in
     let left = c .before .before .left-at in (
       name-stop (l .inv) (at-gap .loop-test .taken)
-          (fine-by (a .set .words) (a .d) (a .e) (l .g) (a .owners .now) (left .result) (a .gone .words) (a .struck .now)
+          (fine-by (a .set .words) (a .d) (a .e) (l .g) (a .owners .now) (left .result)
+          (a .gone .words) (a .struck .now)
           (lies .result) false (left .ensures) (lies .ensures) (c .if1 .left)),
       λ z. never z,
     )
