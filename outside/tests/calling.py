@@ -39,6 +39,18 @@ def missing(tally: Tally, folder: pathlib.Path) -> None:
     tally.check('its key', run(DESK, 'key', paper) == Seen(b'2104\n220000\n220201\n', '', 0))
     tally.check('missing', run(DESK, 'missing', paper) == Seen(b'loop 2\n', '', 0), run(DESK, 'missing', paper))
     tally.check('none missing', run(DESK, 'missing', ROOT / 'examples' / 'p.hex') == Seen(b'', '', 0))
+    for frames, where in [
+            ('01 04 03 02 03 02 12000204 12010202', 'from 2 in one turn of loop 0 to 4 in the next, with one end alone'),
+            ('01 03 04 03 02 02 12000103', 'to 3 in the next, with one end alone in loop 2: where that is skipped in'),
+            ('01 04 03 02 04 03 02 02 12000205', 'one end alone in each of the loops 1, 4: ')]:
+        seen = run(DESK, 'missing', '-', given=frames.replace(' ', '\n').encode() + b'\n')
+        tally.check(f'told of {frames}', where in seen.err and seen.err.startswith('desk: dependence 0 goes '), seen)
+        tally.check('one sentence, and no loop', (seen.out, seen.err.count('\n'), seen.status) == (b'', 1, 0), seen)
+    # Independent, back into the next turn, both ends in the loop, the loop's own DO and ENDDO, a loop that runs.
+    for frames in ['01 04 03 02 03 02 110204 12000402', '01 04 03 03 02 03 02 12000203',
+                   '01 04 03 02 03 02 12000104 12000203', '01 01 03 02 03 02 12000204']:
+        seen = run(DESK, 'missing', '-', given=frames.replace(' ', '\n').encode() + b'\n')
+        tally.check(f'not told of {frames}', (seen.err, seen.status) == ('', 0), seen)
     seen = run(DESK, 'missing', '-', given=b'01\n')
     tally.check('missing of a bad paper', 'number 4' in seen.err and (seen.out, seen.status) == (b'', 1), seen)
 
