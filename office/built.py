@@ -26,6 +26,8 @@ STAMPS, LIST = TARGET / 'built', ROOT / 'crates.txt'
 PARTS = ('src', 'specs', 'proofs', 'stdin', 'stdout', 'args', 'data')
 # A file that was changed so shortly before it was noted may be changed again without another time, in nanoseconds.
 SETTLED = 2 * 10 ** 9
+# Before the tool that built a thing, in its stamp.
+BY = 'by '
 
 
 @dataclass(frozen=True)
@@ -150,7 +152,7 @@ def make_anew(made: Made, name: str, reason: str) -> None:
     if {path: sha256_of(path) for path in made.sources()} != {path: noted.sha256 for path, noted in before.items()}:
         raise Fault(f'sources of the {made.what} were changed while it was being built: try again')
     file = str(made.file)
-    note(made, before | {file: noted_now(file, sha256_of(file))})
+    note(made, before | {file: noted_now(file, sha256_of(file))}, tool_here(made))
 
 
 @contextlib.contextmanager
@@ -175,18 +177,36 @@ def noted_of(made: Made) -> dict[str, Noted]:
         lines = made.stamp.read_text().splitlines()
     except (OSError, ValueError):
         return {}
-    found = [re.fullmatch(r'([0-9a-f]{64}) (\d+) (\d+) (.+)', line) for line in lines]
+    found = [re.fullmatch(r'([0-9a-f]{64}) (\d+) (\d+) (.+)', line) for line in lines if not line.startswith(BY)]
     if not all(found):
         return {}
     return {f'{ROOT}/{line[4]}': Noted(line[1], int(line[2]), int(line[3])) for line in found if line}
 
 
-def note(made: Made, files: dict[str, Noted]) -> None:
-    """Writes a stamp; at every moment the old one or the new one is there, whole."""
+def note(made: Made, files: dict[str, Noted], by: str = '') -> None:
+    """Writes a stamp, of the same tool as before if no other is named; at every moment the old one or the new one is
+    there, whole."""
     beside = STAMPS / f'{made.file.name}.{os.getpid()}'
-    beside.write_text(''.join(f'{noted.sha256} {noted.size} {noted.changed} {called(path)}\n'
+    beside.write_text(f'{BY}{by or built_by(made)}\n' + ''.join(f'{noted.sha256} {noted.size} {noted.changed} {called(path)}\n'
                               for path, noted in sorted(files.items())))
     os.replace(beside, made.stamp)
+
+
+def built_by(made: Made) -> str:
+    """The tool that built a thing, as it names itself."""
+    try:
+        with open(made.stamp) as opened:
+            first = opened.readline()
+            return first.removeprefix(BY).strip() if first.startswith(BY) else ''
+    except OSError:
+        return ''
+
+
+def tool_here(made: Made) -> str:
+    """The tool that would build a thing here."""
+    asked = {'rt': ['rt', 'version'], 'gcc': ['gcc', '--version']}[made.tool]
+    told = subprocess.run(asked, stdin=subprocess.DEVNULL, capture_output=True, text=True, check=False).stdout
+    return told.splitlines()[0] if told else made.tool
 
 
 def called(path: str) -> str:

@@ -12,6 +12,8 @@ from collections.abc import Callable, Iterable
 from typing import NoReturn
 
 ROOT = pathlib.Path(__file__).resolve().parent.parent
+# A clone has its sources, and builds. What a release installs has none, and nothing is written beside it.
+CLONE = (ROOT / 'crates.txt').exists()
 REFUSED, FAILED, INTERRUPTED = 1, 2, 130
 # More bytes than any text, listing or sheet has.
 ENOUGH = 1 << 20
@@ -52,7 +54,17 @@ class Parser(argparse.ArgumentParser):
         raise Fault(f'{message}; {self.prog} --help says how to ask')
 
     def _print_message(self, message: str, file: object = None) -> None:
-        write_out(message.encode())
+        write_out(as_called(message).encode())
+
+
+def as_installed(words: str) -> str:
+    """Words about the commands for those who have them installed."""
+    return words.replace('./desk', 'desk').replace('./key', 'key')
+
+
+def as_called(words: str) -> str:
+    """Words about the commands as they are called here."""
+    return words if CLONE else as_installed(words)
 
 
 def nearest(word: str, names: Iterable[str]) -> str:
@@ -70,7 +82,7 @@ def printable(name: str) -> str:
 
 def tell(name: str, message: str) -> None:
     """Says something on standard error, a sentence a line. Where nobody can be told, the status still tells."""
-    lines = ''.join(f'{name}: {sentence}\n' for sentence in message.splitlines()).encode('utf-8', 'replace')
+    lines = ''.join(f'{name}: {sentence}\n' for sentence in as_called(message).splitlines()).encode('utf-8', 'replace')
     with contextlib.suppress(OSError):
         while lines:
             lines = lines[os.write(2, lines):]
@@ -78,7 +90,7 @@ def tell(name: str, message: str) -> None:
 
 def mention(message: str) -> None:
     """Says something on standard error while others wait for an answer: if it is not taken at once, it is not said."""
-    lines = ''.join(f'desk: {sentence}\n' for sentence in message.splitlines()).encode('utf-8', 'replace')
+    lines = ''.join(f'desk: {sentence}\n' for sentence in as_called(message).splitlines()).encode('utf-8', 'replace')
     with contextlib.suppress(OSError):
         if select.select([], [2], [], 0)[1]:
             os.write(2, lines[:select.PIPE_BUF])

@@ -8,10 +8,10 @@ import sys
 from collections.abc import Callable
 from dataclasses import dataclass
 
-from office.command import Fault
+from office.command import CLONE, Fault
 from office.frames import DO
 from office.header import DECLARED
-from office.places import CLONE, SHARED
+from office.places import SHARED
 from office.refusal import Refusal, Refused
 
 TEXT, SLIP = DECLARED.numbers['DESK_TEXT'], DECLARED.numbers['DESK_SLIP']

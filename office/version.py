@@ -13,8 +13,8 @@ from collections.abc import Sequence
 from typing import Any
 
 from office.built import LIBRARY, wanting
-from office.command import ROOT, Fault, run, write_out
-from office.places import CLONE, SHARED
+from office.command import CLONE, ROOT, Fault, run, write_out
+from office.places import SHARED
 
 VERSION, COMMIT = ROOT / 'VERSION', ROOT / 'COMMIT'
 UNKNOWN, SHORT = 'unknown', 12

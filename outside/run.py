@@ -66,6 +66,7 @@ def parts(scripts: int = SCRIPTS, programs: int = PROGRAMS) -> dict[str, Part]:
         'book': module('./desk: the register', 'tests.book'),
         'slips': module('./desk: slips, notes and certificates for people', 'tests.slips'),
         'collecting': module('./desk: sittings taken into the register', 'tests.collecting'),
+        'release': module('./release: unpacked and installed elsewhere', 'tests.release'),
         'log': module('the hall: its log, disks, kills and starts', 'hall.log'),
         'server': module('the hall: its server', 'hall.server'),
         'sitting': module('the hall: its page in a browser', 'hall.sitting'),

@@ -13,7 +13,7 @@ import sys
 from outside.trying import ROOT, installed
 
 PACKAGES = ['mypy']
-MYPY = ['mypy', '--strict', '--config-file=', '--no-color-output', '--cache-dir', 'target/mypy', 'office']
+MYPY = ['mypy', '--strict', '--config-file=', '--no-color-output', '--cache-dir', 'target/mypy', 'office', 'releasing']
 
 
 def main() -> None:
