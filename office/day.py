@@ -49,9 +49,9 @@ def main(arguments: list[str]) -> None:
         from office.version import told  # which knows the library
         write_out(f'desk {told()}\n'.encode())
     elif name in ASKS_HELP and rest[:1] and rest[0] in COMMANDS:
-        write_out(command_parser(rest[0]).format_help().encode())
+        command_parser(rest[0]).print_help()
     elif name in ASKS_HELP:
-        write_out(whole_parser().format_help().encode())
+        whole_parser().print_help()
     elif name in COMMANDS:
         run(name, command_parser(name).asked(rest))
     else:

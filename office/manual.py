@@ -65,6 +65,11 @@ def whole_page() -> bytes:
                    [typed(ABOUT), '.SH COMMANDS', *listed], [f'desk-{name}' for name in COMMANDS])
 
 
+def pages() -> dict[str, bytes]:
+    """All pages, by their names."""
+    return {'desk': whole_page(), **{f'desk-{name}': command_page(name) for name in COMMANDS}}
+
+
 def main(asked: argparse.Namespace) -> None:
     if asked.command is not None and asked.command not in COMMANDS:
         raise Fault(f'there is no command {printable(asked.command)}')
@@ -77,6 +82,5 @@ def main(asked: argparse.Namespace) -> None:
         os.makedirs(asked.into, exist_ok=True)
     except OSError as fault:
         raise Fault(f'cannot write in {printable(asked.into)}: {fault.strerror}') from fault
-    pages = {'desk': whole_page(), **{f'desk-{name}': command_page(name) for name in COMMANDS}}
-    for name, page in pages.items():
+    for name, page in pages().items():
         write_over(os.path.join(asked.into, f'{name}.1'), page, begins=BEGINS)

@@ -57,7 +57,7 @@ def tree_of(release: Release) -> Tree:
     for path in tracked('README.md', 'CHANGELOG.md', 'docs', 'examples'):
         tree[f'{DOC}/{path}'] = File((ROOT / path).read_bytes())
     asked = subprocess.run([str(ROOT / 'key'), '--help'], capture_output=True, text=True, check=True)
-    return tree | manuals.manuals(release.version, release.date, asked.stdout) | manuals.completion()
+    return tree | manuals.manuals(asked.stdout) | manuals.completion()
 
 
 def filled(name: str, release: Release) -> File:
