@@ -7,6 +7,7 @@ last, and t as it is passed first after that: in the same turn of the innermost 
 the loop that carries the dependence. A DO is a source on entering its loop, an ENDDO a target after leaving it.
 """
 import json
+import textwrap
 from collections.abc import Iterable, Iterator
 from dataclasses import dataclass
 
@@ -14,10 +15,10 @@ from office.frames import DO, ENDDO
 from office.paper import Paper
 from office.words import gaps_named
 
-TURNS, INDENT = 2, '    '
+TURNS, INDENT, WIDE = 2, '    ', 116
 # By this a program is known as one.
-BEGINS = '/* Written by ./desk program: '
-HEAD = f'''{BEGINS}%(title)s, with barriers in %(gaps)s.
+BEGINS = '/* Written by ./desk program:'
+HEAD = '''%(what)s
  *
  * Every thread runs the nest. Each dependence is a row of cells: thread 0 writes one at s, the others read it at t, and
  * there is a fresh cell for each time that the dependence occurs. Point s is meant as it is passed last, t as it is
@@ -245,7 +246,8 @@ def program(title: str, paper: Paper, gaps: list[int], listed: list[int], calls:
                  *(f'#define RUNS_{d} 1' for d in sorted(paper.flagged))]
     counted = '' if calls is None else (
         f'\n * With {TURNS} turns of each loop the desk counts {calls:,} barrier calls of each thread.')
-    parts = [HEAD % {'title': title, 'gaps': gaps_named(gaps), 'counted': counted},
+    what = textwrap.wrap(f'{BEGINS} {title}, with barriers in {gaps_named(gaps)}.', WIDE)
+    parts = [HEAD % {'what': '\n * '.join(what), 'counted': counted},
              CONSTANTS % {'flagged': FLAGGED if paper.flagged else '', 'constants': '\n'.join(constants)}]
     if rows:
         told = ',\n'.join(INDENT + json.dumps(paper.told(x)) for x in paper.dependences)

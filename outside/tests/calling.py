@@ -40,7 +40,7 @@ def missing(tally: Tally, folder: pathlib.Path) -> None:
     tally.check('missing', run(DESK, 'missing', paper) == Seen(b'loop 2\n', '', 0), run(DESK, 'missing', paper))
     tally.check('none missing', run(DESK, 'missing', ROOT / 'examples' / 'p.hex') == Seen(b'', '', 0))
     for frames, where in [
-            ('01 04 03 02 03 02 12000204 12010202', 'from 2 in one turn of loop 0 to 4 in the next, with one end alone'),
+            ('01 04 03 02 03 02 12000204 12010202', 'from 2 in one turn of loop 0 to 4 in the next, with one end'),
             ('01 03 04 03 02 02 12000103', 'to 3 in the next, with one end alone in loop 2: where that is skipped in'),
             ('01 04 03 02 04 03 02 02 12000205', 'one end alone in each of the loops 1, 4: ')]:
         seen = run(DESK, 'missing', '-', given=frames.replace(' ', '\n').encode() + b'\n')

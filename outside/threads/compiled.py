@@ -77,6 +77,7 @@ def examples(tally: Tally, programs: Programs) -> None:
     for name, gaps, uncut, calls in [('p', ['3,9'], [4], 8), ('p', [], [], 8), ('p', ['3,11'], [5], 8),
                                      ('p', [''], [*range(6)], 0), ('q', ['4,7'], [], 12), ('r', ['1'], [0, 1], 2)]:
         source = programs.written(EXAMPLES[name], *gaps)
+        tally.check('lines to read', max(map(len, source.splitlines())) <= 120, source)
         tally.check('the desk counts too', f'the desk counts {calls} barrier calls' in source, source[:1500])
         for compiler in compilers:
             for options in (['-O0', '-DTHREADS=2'], ['-O2', '-DTHREADS=8']):

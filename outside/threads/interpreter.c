@@ -163,12 +163,12 @@ static int shared(int s, int t)
     return count;
 }
 
-static void gets(int event, int cell, int writes)
+/* Gives an event the write or the read of a cell. */
+static void give(int event, int cell, int writes)
 {
-    static int many;
-    many = cell == 0 && writes ? 0 : many;
-    accesses[many] = (struct access){ cell, writes, events[event].access };
-    events[event].access = many++;
+    int place = 2 * cell + writes;
+    accesses[place] = (struct access){ cell, writes, events[event].access };
+    events[event].access = place;
 }
 
 /* Chooses the accesses: s as it is passed last in a turn of the innermost loop around both ends, or of the loop that
@@ -198,8 +198,9 @@ static void choose(void)
                 stop("there are too many cells");
             owner[occurred] = k;
             raced[occurred] = 0;
-            gets(i, occurred, 1);
-            gets(target, occurred++, 0);
+            give(i, occurred, 1);
+            give(target, occurred, 0);
+            occurred++;
         }
     }
 }

@@ -10,6 +10,7 @@ gaps and two to four threads; flagged loops that are skipped (request 10); barri
 Needs gcc with ThreadSanitizer and the library's archive (rt staticlib host). Where ThreadSanitizer is missing or cannot
 run nothing is tried, which is told; where CI is true it is a failure.
 """
+import contextlib
 import itertools
 import pathlib
 import random
@@ -130,21 +131,21 @@ def any_paper(tally: Tally, unlike: Unlike, interpreters: list[Interpreter], man
         desk.load(nest.text)
         free = [gap for gap in range(1, len(nest.points)) if gap not in nest.barred]
         thinly = rng.random()
-        placements = [[gap for gap in free if rng.random() < thinly] for _ in range(3)]
-        try:
+        placements, key = [[gap for gap in free if rng.random() < thinly] for _ in range(3)], None
+        with contextlib.suppress(Refused):  # a dependence has all its gaps barred
             desk.plan()
-            placements.append(key_of(desk))
-        except Refused:
-            pass  # a dependence has all its gaps barred
+            key = key_of(desk)
+            placements.append(key)
         for gaps in placements:
             for gap in gaps:
                 desk.put(gap)
             cuts = desk.standing().cuts
             for gap in gaps:
                 desk.lift(gap)
-            run = Run(gaps, {d: rng.randrange(1, 4) for d in nest.ends})
-            counts = not nest.barred and not nest.flagged
-            calls = desk.placement_calls(placement_text(gaps), bytes(run.turns.values())) if counts else None
+            run, calls = Run(gaps, {d: rng.randrange(2 if gaps is key else 1, 4) for d in nest.ends}), None
+            if not nest.barred and not nest.flagged:
+                turns = bytes(run.turns.values())
+                calls = desk.count_calls(turns) if gaps is key else desk.placement_calls(placement_text(gaps), turns)
             interpreters[number % len(interpreters)].ask(nest, run, held(tally, unlike, nest, run, cuts, calls))
     for interpreter in interpreters:
         interpreter.play(tally, 'random papers')
