@@ -1,0 +1,2 @@
+-- Why arguments are worth that.
+pub mod Kept

@@ -1,0 +1,24 @@
+-- Arguments beside the page of the demands (crate pages, specs/Demands): what stands there about keys is here of every
+-- set of gaps with an argument that holds. What it is for an argument to hold is `holds` (crate argue_claims,
+-- specs/Arguments), which computes; who found the set and the argument, and how, plays no part.
+-- Main definition: `Argued`.
+use mathlib.Core.Path.{_≡_}
+use mathlib.Core.Bool.{true}
+use mathlib.Core.List.{List}
+use Prim.Native.Nat.{ℕ}
+use Rattle.paper_nests.specs.Stored.{nestIn}
+use Rattle.desk.specs.declared.Desk.{Desk}
+use Rattle.argue_claims.specs.Arguments.{Claim, holds}
+use Rattle.pages.specs.Demands.{paperIn, Key, Reached, Since, KeyOn}
+
+-- cs is an argument for the set gs of gaps of the desk's paper
+abbrev pub Argues : Desk → List ℕ → List Claim → Type 0
+Argues d gs cs = holds (nestIn (d .nest)) gs cs ≡ true
+
+pub record Argued : Type 0 where
+  -- of the paper that the last accepted Load read: a set with an argument is a key
+  pub sound
+      : (t : List ℕ) (d : Desk) (gs : List ℕ) (cs : List Claim) → Since t d → Argues d gs cs
+      → Key (paperIn (d .nest)) gs
+  -- the key of every desk has one
+  pub planned : (d : Desk) (gs : List ℕ) → Reached d → KeyOn d gs → (cs : List Claim) × Argues d gs cs
