@@ -111,9 +111,14 @@ def planned(file: str, blank: bool = True) -> tuple[Desk, bytes]:
     return desk, text
 
 
+def is_file(argument: str) -> bool:
+    """Whether an argument for a placement names a file: it is no list of gaps."""
+    return not re.fullmatch('[0-9, ]*', argument)
+
+
 def placement_asked(argument: str, desk: Desk) -> bytes:
     """The placement text that an argument names: a list of gaps in decimal, or a file with such a list or a text."""
-    if re.fullmatch('[0-9, ]*', argument):
+    if not is_file(argument):
         words = re.findall('[0-9]+', argument)
         if any(len(word) > LONG for word in words):
             raise Fault(f'a number of more than {LONG} digits is no gap: {gaps_told(len(desk.nest.points), texts=False)}')

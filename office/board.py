@@ -8,11 +8,10 @@ import html
 from collections.abc import Iterator
 
 from office.paper import Paper, Placed
-from office.picture import TALLY, UNCUT, Picture
+from office.picture import BAR_SIGN, PLAIN_SIGN, TALLY, Picture
 from office.sight import ROOM, WHOLE, Bar, Drawn, View
 from office.words import counted
 
-PLAIN_SIGN = 'A black bar is a barrier.'
 # From so many rows on there is a map; its width in its own units.
 MAPPED, MAP = 31, 60
 
@@ -32,9 +31,9 @@ class Board(Picture):
     """A picture for a page. Whatever changes with the sitting carries the gap, the dependence or the loop it is of."""
 
     def __init__(self, paper: Paper, empty: Placed, name: str, practice: bool, view: View = WHOLE):
-        super().__init__(paper, empty, name, view=view, room=ROOM)
+        super().__init__(paper, empty, name, view=view, room=ROOM, known=False)
         self.practice = practice
-        self.bar_sign = super().bar_sign if practice else PLAIN_SIGN
+        self.bar_sign = BAR_SIGN if practice else PLAIN_SIGN
         self.links: list[tuple[int, float, float, str]] = []
 
     # ---- What changes with the sitting
@@ -53,10 +52,7 @@ class Board(Picture):
         self.out.append(f'<g class="{self.kind(bar)}" data-bar="{members}" data-x="{self.x(bar):g}">')
 
     def open_numbers(self, members: list[int], cls: str) -> None:
-        self.out.append(f'<g class="{cls.removesuffix(UNCUT)}" data-number="{" ".join(map(str, members))}">')
-
-    def kind(self, bar: Bar) -> str:
-        return super().kind(bar).removesuffix(UNCUT)
+        self.out.append(f'<g class="{cls}" data-number="{" ".join(map(str, members))}">')
 
     def named(self, point: int, x: float, y: float) -> None:
         """The name of a loop leads to its view."""

@@ -6,18 +6,31 @@ from office.asked import PAPER_HELP, paper_in, refused_paper
 from office.command import Fault, done, files_in, printable, tell, write_json, write_out
 from office.frames import DO
 from office.library import Desk
-from office.paper import paper_on
+from office.paper import Paper, paper_on
 from office.refusal import Refused
 from office.skipped import missing_told
 from office.words import counted, spoken
 
 HELP = 'tells whether papers are accepted, and what is wrong with them in words'
 MORE = """A paper that is accepted but can have no key is told as well, and has status 1 too. A folder stands for the
-files *.hex in it.
+files *.hex in it. That a paper is hard for people is advice, and no fault.
 
   ./desk check paper.hex
   ./desk check papers
 """
+# Gaps of its own and dependences at home in one loop: what a person can look over.
+GAPS, DEPENDENCES = 25, 40
+
+
+def advice(paper: Paper) -> list[str]:
+    """The loops that are hard for people."""
+    told = []
+    for d in paper.end:
+        own, home = [*paper.owner.values()].count(d), len(paper.at_home[d])
+        if own > GAPS or home > DEPENDENCES:
+            told.append(f'hard for people: loop {d} has {counted(own, "gap")} of its own and '
+                        f'{counted(home, "dependence")} at home in it; {GAPS} and {DEPENDENCES} can be looked over')
+    return told
 
 
 def arguments(parser: argparse.ArgumentParser) -> None:
@@ -54,9 +67,10 @@ class Checked:
         if flagged:
             parts.append(f'{counted(len(flagged), "loop")} that may not run ({spoken("loop", flagged)})')
         empty = '' if text else 'an empty text is the blank paper: '
-        self.words.append(f'accepted: {empty}{", ".join(parts)}')
+        hard = advice(paper)
+        self.words += [f'accepted: {empty}{", ".join(parts)}', *hard]
         self.has = {'points': len(paper.points), 'loops': loops, 'deep': deep, 'dependences': len(paper.dependences),
-                    'barred': barred, 'may_not_run': flagged, 'blank': not text}
+                    'barred': barred, 'may_not_run': flagged, 'blank': not text, 'advice': hard}
         try:
             desk.plan()
         except Refused as refusal:

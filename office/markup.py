@@ -4,18 +4,20 @@ import html
 import string
 from http import HTTPStatus
 
+from office.atlas import atlas, is_whole
 from office.board import Board
 from office.called import Called
 from office.chain import receipt_of
 from office.clock import time_in, told
 from office.colours import COLOURS, SERVED
-from office.sight import Drawn, View
 from office.messages import Reply
 from office.paper import Paper, Placed
 from office.picture import STYLE
 from office.printed import facts
 from office.show import listing_of
+from office.sight import Drawn, View
 from office.sittings import Sitting, hash_of, told_gaps
+from office.words import counted
 
 HTML, CSS, SCRIPT, PLAIN = (f'text/{kind}; charset=utf-8' for kind in ('html', 'css', 'javascript', 'plain'))
 BACK, UNREAD = 'To the sitting', 'The desk could not make sense of what the browser sent. Nothing was changed.'
@@ -28,6 +30,7 @@ REFUSED = {
 }
 PRACTICE = ', practice'
 LARGE = ' This paper is large: the name of a loop shows that loop alone, the loops inside it folded.'
+IN_LOOPS = ' A figure a loop, from the inside out, each with the dependences at home in it.'
 FILTER = '<p><label><input type="checkbox" id="only"> Only uncut ones</label></p>'
 UNCUT_KEY = 'U: the next uncut;'
 ANOTHER = 'This window was of another candidate. In this browser now sits: '
@@ -51,6 +54,7 @@ class Pages:
             template, ('ticket.html', 'words.html', 'sitting.html', 'receipt.html'))
         self.asks, self.charge = template('secret.html'), template('charge.html')
         self.views: dict[View, string.Template] = {}
+        self.printed = b''
         css = ''.join([COLOURS, STYLE, *((SERVED / f'{of}.css').read_text() for of in ('hall', 'clock'))])
         self.files = {f'/{file}': (CSS if file.endswith('css') else SCRIPT, (SERVED / file).read_bytes())
                       for file in ('board.js', 'sitting.js', 'clock.js', 'charge.js', 'charge.css')}
@@ -88,6 +92,17 @@ class Pages:
             loops=len(self.paper.end), tree=board.loops_told(), shown=len(board.shown),
             filter=FILTER * self.practice, homes=board.homes, dependences=board.told(),
             signs=html.escape(' '.join(board.signs())), uncut_key=UNCUT_KEY * self.practice))
+
+    def to_print(self) -> Reply:
+        """The paper for print, a figure a loop if it is too large for a sheet. It has nothing of a candidate."""
+        if not self.printed:
+            empty = Placed([], dict.fromkeys(self.paper.end, 0), None)
+            figures = atlas(self.paper, empty, self.name, self.paper.end, known=False)
+            about = f'{counted(len(self.paper.points), "point")}, {counted(len(self.paper.dependences), "dependence")}.'
+            self.printed = template('print.html').substitute(
+                paper=html.escape(self.name), about=about + IN_LOOPS * (not is_whole(figures)),
+                figures='\n'.join(f'<section>\n{figure.svg(style=False)}</section>' for figure in figures)).encode()
+        return Reply(HTTPStatus.OK, HTML, self.printed)
 
     def listing(self) -> Reply:
         """The paper as a listing."""

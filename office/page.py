@@ -1,24 +1,26 @@
 """A page to print: two placements on a paper, their pictures, their cost trees and the reasons. It needs no network."""
 import base64
 import html
-import pathlib
 from dataclasses import dataclass
 
-from office.command import printable
+from office.atlas import atlas, is_whole
 from office.paper import Paper, Placed
 from office.picture import Picture
-from office.printed import STYLE, TOP
+from office.printed import STYLE, TOP, facts
 
-NARROW = 700
 # By this a page is known as one; it names no kind, as those of before do not.
 BEGINS = f'{TOP}<title>'.encode()
 SIGN = ('Each loop stands under the one around it, by the point of its DO, with the count of its own barriers. A loop '
         'marked &lt; decides. Gaps, points and counts are decimal on this page, hexadecimal in texts.')
+IN_LOOPS = ('The paper is too large for a sheet: these are the loops that the reasons speak of, from the inside out, '
+            'each with the dependences at home in it.')
 OF_PICTURES = """
 .two { display: grid; grid-template-columns: 1fr 1fr; gap: 8mm }
-figure { margin: 0 0 5mm 0; break-inside: avoid }
+figure { margin: 0 0 5mm 0; break-inside: avoid; overflow-x: auto }
 figcaption { font-weight: bold; margin-bottom: 2mm }
-img { max-width: 100%; height: auto }
+@media print { img { max-width: 100%; height: auto } }
+@media screen { body { padding: 0 3mm } }
+@media (max-width: 600px) { .two { grid-template-columns: 1fr } }
 """
 
 
@@ -37,15 +39,22 @@ def figure(drawing: Picture, caption: str) -> str:
             f'<img alt="{html.escape(drawing.title)}" src="data:image/svg+xml;base64,{data}"></figure>\n')
 
 
-def page(file: str, paper: Paper, shown: list[Shown], told: list[str]) -> str:
-    """The page. Pictures stand side by side where they are narrow enough to be read so."""
-    name = printable(pathlib.Path(file).stem)
+def figures(paper: Paper, shown: list[Shown], name: str, loops: list[int]) -> str:
+    """Both placements on the whole paper, or on the loops that the reasons speak of."""
+    drawings = [atlas(paper, side.placed, name, loops) for side in shown]
+    if all(map(is_whole, drawings)):
+        return ''.join(figure(one, side.title) for (one,), side in zip(drawings, shown))
+    pairs = [figure(one, f'Loop {one.view.loop}, {side.title}') for both in zip(*drawings)
+             for one, side in zip(both, shown)]
+    return f'<p class="small">{IN_LOOPS}</p>\n{"".join(pairs)}' if pairs else ''
+
+
+def page(name: str, head: dict[str, str], paper: Paper, shown: list[Shown], told: list[str], loops: list[int]) -> str:
+    """The page, with a head of what is known, and the loops that the reasons speak of."""
     title = html.escape(f'{name}: {" and ".join(side.title for side in shown)}')
-    drawings = [Picture(paper, side.placed, name) for side in shown]
-    columns = 'two' if max(drawing.width for drawing in drawings) <= NARROW else 'one'
-    pictures = ''.join(figure(drawing, side.title) for drawing, side in zip(drawings, shown))
     trees = ''.join('<pre>{}</pre>\n'.format(html.escape('\n'.join([side.title, '', *side.tree]))) for side in shown)
     reasons = ''.join(f'<p>{html.escape(words)}</p>\n' for words in told)
-    return (f'{BEGINS.decode()}{title}</title>\n<style>{STYLE}{OF_PICTURES}</style>\n</head>\n<body>\n'
-            f'<h1>{title}</h1>\n{reasons}<div class="two">\n{trees}</div>\n<p class="small">{SIGN}</p>\n'
-            f'<div class="{columns}">\n{pictures}</div>\n</body>\n</html>\n')
+    return (f'{BEGINS.decode()}{title}</title>\n<meta name="viewport" content="width=device-width">\n'
+            f'<style>{STYLE}{OF_PICTURES}</style>\n</head>\n<body>\n<h1>{title}</h1>\n{facts(head)}{reasons}'
+            f'<div class="two">\n{trees}</div>\n<p class="small">{SIGN}</p>\n{figures(paper, shown, name, loops)}'
+            '</body>\n</html>\n')

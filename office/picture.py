@@ -23,6 +23,7 @@ TALLY, TALLY_BAR, LABELS = 58, 32, 620
 UNCUT = ' u'
 GAP_SIGN = 'Small numbers are gaps, in the column of the loop they belong to.'
 BAR_SIGN = 'A black bar is a barrier; a dot marks each dependence that it cuts. A hollow number: uncut.'
+PLAIN_SIGN = 'A black bar is a barrier.'
 LANE_SIGN = ('A bar at the right is a dependence, over all its gaps; blue: independent, brown: carried, its two parts '
              'joined by a thin line. Its block is that of the outermost loop that has one of its gaps.')
 THICK_SIGN = 'Thick: uncut.'
@@ -36,13 +37,13 @@ STYLE = (SERVED / 'drawing.css').read_text().partition('\n')[2]
 
 
 class Picture(Layout):
-    """Drawn piece by piece into a list of elements."""
-    bar_sign = BAR_SIGN
+    """Drawn piece by piece into a list of elements. Unless it is known which dependences are cut, nothing tells it."""
 
     def __init__(self, paper: Paper, placed: Placed, name: str, missing: tuple[int, ...] = (), view: View = WHOLE,
-                 room: int = WIDE_ROOM, only: Collection[int] | None = None):
+                 room: int = WIDE_ROOM, only: Collection[int] | None = None, known: bool = True):
         super().__init__(paper, view, room, only)
-        self.barriers, self.counts, self.missing = placed.gaps, placed.counts, missing
+        self.barriers, self.counts, self.missing, self.known = placed.gaps, placed.counts, missing, known
+        self.bar_sign = BAR_SIGN if known else PLAIN_SIGN
         self.out: list[str] = []
         parts = [name, *[f'loop {view.loop}'] * (view.loop is not None),
                  *[f'dependences {ranges(sorted(only or []))}'] * (only is not None)]
@@ -176,8 +177,11 @@ class Picture(Layout):
 
     def kind(self, bar: Bar) -> str:
         """Independent or carried; uncut, if no barrier cuts one of its members."""
-        cut = all(self.cutting(self.paper.dependences[number]) for number in bar.members)
-        return ('c' if bar.turn else 'i') + ('' if cut else UNCUT)
+        return ('c' if bar.turn else 'i') + ('' if all(map(self.is_cut, bar.members)) else UNCUT)
+
+    def is_cut(self, number: int) -> bool:
+        """Whether a dependence is cut, or it is not known."""
+        return not self.known or bool(self.cutting(self.paper.dependences[number]))
 
     def open_bar(self, bar: Bar) -> None:
         self.out.append(f'<g class="{self.kind(bar)}">')
@@ -239,9 +243,8 @@ class Picture(Layout):
 
     def badges(self, number: int, places: list[tuple[float, float]]) -> None:
         """A dependence's number in some places; hollow if no barrier cuts it."""
-        dependence = self.paper.dependences[number]
-        kind = 'i' if dependence.d is None else 'c'
-        self.open_numbers([number], kind + ('' if self.cutting(dependence) else UNCUT))
+        kind = 'i' if self.paper.dependences[number].d is None else 'c'
+        self.open_numbers([number], kind + ('' if self.is_cut(number) else UNCUT))
         wide = max(18, 6 + 6.6 * len(str(number)))
         for x, y in places:
             self.add('rect', cls='b', x=round(x - wide / 2, 1), y=y - 9, width=float(wide), height=18, rx=9)
@@ -287,7 +290,7 @@ class Picture(Layout):
                 if any(gap in self.paper.dependences[number].gaps for number in bar.members)})
             self.add('path', cls='across', d=f'M-{self.nest_width - self.edges(self.paper.owner[gap])[1]:g} {y:g}'
                      f'H{max(cut, default=self.lanes_width if self.drawn is Drawn.STRIPS else 0.0):g}')
-            if cut:
+            if cut and self.known:
                 self.dots(cut, y)
 
     def dots(self, places: list[float], y: float) -> None:
@@ -338,12 +341,15 @@ class Picture(Layout):
         dependence = self.paper.dependences[number]
         cutting = ranges(self.cutting(dependence))
         self.badges(number, [(x, y)])
-        words = f'{self.paper.told(dependence)}; {f"cut by {cutting}" if cutting else "UNCUT"}'
+        words = self.paper.told(dependence)
+        if self.known:
+            words += f'; cut by {cutting}' if cutting else '; UNCUT'
         return max(self.wrapped(x + 21, y, words, wide - 40, 'word', 12), y + 18)
 
     # ---- The whole
 
-    def svg(self) -> str:
+    def svg(self, style: bool = True) -> str:
+        """The picture, with its style unless it stands where that is."""
         top = self.wrapped(EDGE, 18, self.title, min(self.width - 40, TITLE), 'title', 15)
         title = self.taken()
         self.nest()
@@ -356,12 +362,14 @@ class Picture(Layout):
         lanes, beside = self.taken(), self.nest_width + TALLY * (self.drawn is Drawn.STRIPS)
         height = self.words(top + self.height + 8)
         size = f'width="{self.width:g}" height="{height:g}" viewBox="0 0 {self.width:g} {height:g}"'
+        kind = f'{self.lanes_kind()}{" known" * self.known}'
         return '\n'.join([
             f'<svg xmlns="http://www.w3.org/2000/svg" {size} role="img" font-family="Helvetica, Arial, sans-serif">',
-            f'<title>{html.escape(self.title)}</title>', f'<style>\n{in_light(STYLE)}</style>',
-            '<rect width="100%" height="100%" fill="white"/>', *title, f'<g transform="translate(0 {top:g})">', *nest,
+            f'<title>{html.escape(self.title)}</title>', *[f'<style>\n{in_light(STYLE)}</style>'] * style,
+            *['<rect width="100%" height="100%" fill="white"/>'] * style, *title,
+            f'<g transform="translate(0 {top:g})">', *nest,
             *[f'<g class="tally" transform="translate({self.nest_width:g} 0)">', *tally, '</g>'] * bool(tally),
-            f'<g class="{self.lanes_kind()} known" transform="translate({beside:g} 0)">', *lanes, '</g>', '</g>',
+            f'<g class="{kind}" transform="translate({beside:g} 0)">', *lanes, '</g>', '</g>',
             *self.taken(), '</svg>', ''])
 
     def lanes_kind(self) -> str:

@@ -201,6 +201,9 @@ class Server:
     def listing(self, connection: Connection) -> Reply:
         return self.pages.listing() if self.sitting_of(connection.request) else self.pages.asks_ticket()
 
+    def to_print(self, connection: Connection) -> Reply:
+        return self.pages.to_print() if self.sitting_of(connection.request) else self.pages.asks_ticket()
+
     def file(self, connection: Connection) -> Reply:
         return self.pages.file(connection.request.path)
 
@@ -347,10 +350,10 @@ class Server:
 
 
 ROUTES: dict[str, tuple[str, Callable[[Server, Connection], Reply | None]]] = {
-    '/': ('GET', Server.page), '/listing': ('GET', Server.listing), '/another': ('GET', Server.another),
-    '/receipt': ('GET', Server.receipt), '/sitting': ('GET', Server.now), '/clock': ('GET', Server.time),
-    '/enter': ('POST', Server.enter), '/leave': ('POST', Server.leave), '/move': ('POST', Server.move),
-    '/hand-in': ('POST', Server.hand_in),
+    '/': ('GET', Server.page), '/listing': ('GET', Server.listing), '/print': ('GET', Server.to_print),
+    '/another': ('GET', Server.another), '/receipt': ('GET', Server.receipt), '/sitting': ('GET', Server.now),
+    '/clock': ('GET', Server.time), '/enter': ('POST', Server.enter), '/leave': ('POST', Server.leave),
+    '/move': ('POST', Server.move), '/hand-in': ('POST', Server.hand_in),
     '/charge': ('GET', Server.charge_page), '/charge/now': ('GET', Server.charge_now),
     '/charge/enter': ('POST', Server.charge_enter), '/charge/leave': ('POST', Server.charge_leave),
     '/charge/act': ('POST', Server.charge_act),

@@ -1,11 +1,15 @@
 """./desk why: how one placement beats another on a paper: both cost trees, the loop that decides, calls, in words."""
 import argparse
 import contextlib
+import hashlib
+import pathlib
 import textwrap
+import time
 from dataclasses import dataclass
 
-from office.asked import GAPS_HELP, PAPER_HELP, TURNS, TURNS_HELP, loaded, placement_asked, planned, turns_asked
-from office.command import Fault, write_json, write_out, write_over
+from office.asked import (GAPS_HELP, PAPER_HELP, TURNS, TURNS_HELP, is_file, loaded, placement_asked, planned,
+                          turns_asked)
+from office.command import Fault, printable, write_json, write_out, write_over
 from office.frames import DO
 from office.library import DEARER, UNCUT, Compared, Desk, Mark
 from office.page import BEGINS, Shown, page
@@ -158,6 +162,14 @@ def side_told(paper: Paper, side: Side) -> dict[str, object]:
             'skipped': [{'dependence': number, 'loops': loops} for number, loops in relied if loops]}
 
 
+def head_of(asked: argparse.Namespace, name: str, text: bytes) -> dict[str, str]:
+    """What a page to print says of itself: the paper, the files of placements, the day."""
+    files = [printable(pathlib.Path(given).stem) for given in (asked.gaps, asked.other) if given and is_file(given)]
+    return {'Paper': name, 'SHA-256 of the paper': hashlib.sha256(text).hexdigest(),
+            **({'Placement of' if len(files) == 1 else 'Placements of': ', '.join(files)} if files else {}),
+            'Made on': time.strftime('%Y-%m-%d', time.gmtime())}
+
+
 def arguments(parser: argparse.ArgumentParser) -> None:
     parser.add_argument('paper', metavar='PAPER', help=PAPER_HELP)
     parser.add_argument('gaps', metavar='GAPS', help=GAPS_HELP)
@@ -168,7 +180,7 @@ def arguments(parser: argparse.ArgumentParser) -> None:
 
 
 def main(asked: argparse.Namespace) -> None:
-    desk, _ = planned(asked.paper) if asked.other is None else loaded(asked.paper)
+    desk, text = planned(asked.paper) if asked.other is None else loaded(asked.paper)
     with contextlib.suppress(Refused):  # two placements can be compared on a paper that has no key
         desk.plan()
     paper = paper_on(desk)
@@ -194,7 +206,11 @@ def main(asked: argparse.Namespace) -> None:
         return
     if asked.html is not None:
         shown = [Shown(side.title, side.placed, tree) for side, tree in zip((first, second), trees)]
-        write_over(asked.html, page(asked.paper, paper, shown, told).encode(), begins=BEGINS)
+        name = printable(pathlib.Path(asked.paper).stem)
+        uncut = [side.placed.uncut for side in (first, second) if side.placed.uncut is not None]
+        loops = held.deciding if correct else sorted({paper.home[number] for number in uncut})
+        made_page = page(name, head_of(asked, name, text), paper, shown, told, loops)
+        write_over(asked.html, made_page.encode(), begins=BEGINS)
         return
     left, right = ([side.title, '', *tree] for side, tree in zip((first, second), trees))
     paragraphs = ['\n'.join(beside(left, right)), *('\n'.join(textwrap.wrap(words, WIDE)) for words in told)]

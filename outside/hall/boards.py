@@ -226,9 +226,38 @@ def narrow(tally: Tally, seen: Browser, folder: pathlib.Path) -> None:
     hall.end()
 
 
+def printed(tally: Tally, seen: Browser, folder: pathlib.Path) -> None:
+    """The paper for print: whole if a sheet has room for it, else a figure for each loop where a dependence is at home,
+    from the inside out. No type is under 7 points, and nothing is told of what is cut."""
+    for name, paper in (('p', EXAMPLES['p']), ('large', papers.text('mixed', 80))):
+        hall = Hall(folder / f'printed {name}', paper, ['anna'], more=['--practice']).start()
+        page = Page(tally, seen, hall, 'anna')
+        page.enter()
+        page.shows('nothing put')
+        seen.click('a[href="/print"]')
+        until(lambda: seen.script('return document.querySelectorAll("section").length > 0'), True)
+        found = seen.script("""
+            const sizes = [...document.querySelectorAll('svg text')].map((text) => parseFloat(getComputedStyle(
+                text).fontSize));
+            return [[...document.querySelectorAll('svg title')].map((title) => title.textContent), Math.min(...sizes),
+                Math.max(...[...document.querySelectorAll('svg')].map((svg) => svg.width.baseVal.value)),
+                document.querySelectorAll('.u, .dots').length, document.body.textContent.includes('UNCUT')];""")
+        loops = sorted((d for d, mine in page.paper.at_home.items() if mine),
+                       key=lambda d: (-page.paper.depth[d], d))
+        figures = [''] if name == 'p' else [f', loop {d}' for d in loops]
+        titles = [f'paper{loop}, barriers none' for loop in figures]
+        tally.check(f'{name} to print', found == [titles, 11, found[2], 0, False] and found[2] <= 800, found)
+        sheets = seen.sheets()
+        tally.check(f'{name}: sheets', sheets <= max(2 * len(figures), 2), (sheets, len(figures)))
+        told = complaints(seen)
+        tally.check(f'{name}: the browser does not complain', told == [], told)
+        hall.end()
+
+
 def boards(tally: Tally, seen: Browser, folder: pathlib.Path) -> None:
     seen.screen(1366, 768, 1)
     small(tally, seen, folder)
     for practice in (False, True):
         keys(tally, seen, folder, practice)
     narrow(tally, seen, folder)
+    printed(tally, seen, folder)

@@ -35,7 +35,8 @@ const over = (top, under) => top.slice(0, 3).map((part, k) => part * top[3] + un
 const found = [];
 for (const piece of document.querySelectorAll('body *')) {
     const words = [...piece.childNodes].filter((node) => node.nodeType === 3).map((node) => node.data).join('').trim();
-    if (!words || !piece.checkVisibility() || !piece.getClientRects().length || piece.closest('script, noscript, dialog:not([open])')) {
+    const seen = piece.checkVisibility() && piece.getClientRects().length;
+    if (!words || !seen || piece.closest('script, noscript, dialog:not([open])')) {
         continue;
     }
     piece.scrollIntoView({ block: 'center', inline: 'center' });

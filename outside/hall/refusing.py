@@ -108,7 +108,7 @@ def off_the_routes(hall: Hall) -> list[Case]:
              '//?loop=1', '/listing?', '/listing?loop=1',
              f'http://127.0.0.1:{hall.port}/desk', '/\\..\\desk', '*')
     others = [('GET', '/move'), ('HEAD', '/hand-in'), *(
-        ('POST', path) for path in ('/', '/?loop=1', '/listing', '/sitting')), *(
+        ('POST', path) for path in ('/', '/?loop=1', '/listing', '/print', '/sitting')), *(
         (method, '/sitting') for method in ('PUT', 'DELETE', 'OPTIONS', 'TRACE', 'CONNECT', 'PATCH'))]
     return [*((404, path, 'GET', path, b'', {}) for path in paths),
             *((404, path, 'POST', path, b'put 5 at 1', {}) for path in ('/move/', '/../move')),

@@ -2,6 +2,7 @@
 
 Needs gcc, target/bin/key and the library's archive (rt staticlib host).
 """
+import base64
 import ctypes
 import hashlib
 import math
@@ -193,6 +194,10 @@ def numbers(tally: Tally, folder: pathlib.Path) -> None:
         seen = run(DESK, 'check', ROOT / 'examples' / f'{name}.hex')
         tally.check(f'{name} checked', seen == Seen(f'accepted: {parts}\n'.encode(), '', 0), seen)
     tally.check('the blank paper', told(run(DESK, 'check', '/dev/null'), 'blank paper', '2 points'))
+    seen = run(DESK, 'check', '-', given=papers.text('mixed'))
+    hard = b'loop 0 has 19 gaps of its own and 153 dependences at home in it; 25 and 40 can be looked over\n'
+    tally.check('hard for people', hard in seen.out and (seen.err, seen.status) == ('', 0), seen)
+    tally.check('not hard for people', b'hard' not in run(DESK, 'check', '-', given=papers.text('mixed', 20)).out)
     tally.check('a paper by standard input', told(run(DESK, 'check', '-', given=EXAMPLES['q']), '10 points'))
     for call, refusals in {Desk.plan: [10], Desk.key: [10, 11], Desk.take_back: [10, 13]}.items():
         desk = Desk()
@@ -348,8 +353,20 @@ def reasons(tally: Tally, folder: pathlib.Path) -> None:
     html = page.read_text()
     tally.check('a page', seen == Seen(b'', '', 0) and html.count('src="data:image/svg+xml;base64,') == 2, seen)
     tally.check('no network, no script', not re.search(r'https?:|<script|<link|@import', html), html[:300])
-    for word in ['size: A4', 'and this decides', 'loop 2: 1  &lt;', 'alt="q, barriers 4, 7"', '1,100 times']:
+    paper_hash = hashlib.sha256(q.read_bytes()).hexdigest()
+    for word in ['size: A4', 'and this decides', 'loop 2: 1  &lt;', 'alt="q, barriers 4, 7"', '1,100 times',
+                 paper_hash]:
         tally.check(f'the page has {word}', word in html, html[:300])
+    large, answer = folder / 'large.hex', folder / 'anna.hex'
+    large.write_bytes(papers.text('mixed'))
+    answer.write_bytes(placement_text(range(1, 256)))
+    run(DESK, 'why', large, answer, '--html', page)
+    html = page.read_text()
+    drawn = [base64.b64decode(data).decode() for data in re.findall(r'base64,([A-Za-z0-9+/=]+)"', html)]
+    tally.check('whose placement it is', '<th>Placement of</th><td><bdi>anna</bdi></td>' in html, html[:900])
+    sizes = [float(size) for one in drawn for size in re.findall(r'<svg [^>]*? width="([0-9.]+)"', one)]
+    titles = [re.search('<title>large, loop ([0-9]+),', one) for one in drawn]
+    tally.check('a large paper by the loops that decide', all(titles) and 0 < len(drawn) and max(sizes) <= 800, sizes)
     seen = run(DESK, 'why', q, '4,7', '--html', folder)
     tally.check('no page', seen.failed('no plain file'), seen)
     tally.check('a page over a page', run(DESK, 'why', q, '4,7', '--html', page).status == 0)
