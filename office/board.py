@@ -59,7 +59,7 @@ class Board(Picture):
         if point not in self.paper.end or point == self.view.loop or len(self.paper.end) == 1:
             super().named(point, x, y)
         else:
-            self.links.append((point, x, y, '\u25b8 ' * (point in self.folds) + self.called(point)))
+            self.links.append((point, x, y, self.shortened(point)))
 
     def strip(self, d: int) -> None:
         self.out.append(f'<a href="{address(View(d))}" tabindex="-1" data-strip="{d}" data-x="{self.strip_x(d)}">')

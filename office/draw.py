@@ -5,10 +5,11 @@ import re
 
 from office.asked import GAPS_HELP, PAPER_HELP, loaded, placement_asked, planned
 from office.command import Fault, Parser, printable, write_out, write_over
-from office.sight import View
-from office.paper import Paper, paper_on, placed
+from office.names import named_paper
+from office.paper import Paper, placed
 from office.picture import Picture
 from office.result import OUT_HELP
+from office.sight import View
 from office.version import Told
 
 HELP = 'draws a paper as SVG, with the barriers of its key or with those that are named'
@@ -63,12 +64,12 @@ def arguments(parser: argparse.ArgumentParser) -> None:
 
 def main(asked: argparse.Namespace) -> None:
     if asked.gaps is None:
-        desk, _ = planned(asked.paper)
+        desk, read = planned(asked.paper)
         text, missing = desk.key(), desk.missing_runs()
     else:
-        desk, _ = loaded(asked.paper)
+        desk, read = loaded(asked.paper)
         text, missing = placement_asked(asked.gaps, desk), []
-    paper = paper_on(desk)
+    paper = named_paper(desk, asked.paper, read)
     view = view_asked(paper, asked)
     drawing = Picture(paper, placed(desk, text), printable(pathlib.Path(asked.paper).stem), tuple(missing), view,
                       only=only_asked(paper, view, asked.only))

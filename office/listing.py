@@ -322,6 +322,11 @@ class Typed:
 
 def spelled(text: bytes, file: str) -> bytes:
     """The text of a listing, which the desk accepts."""
+    return spelled_with_names(text, file)[0]
+
+
+def spelled_with_names(text: bytes, file: str) -> tuple[bytes, dict[int, str]]:
+    """The text of a listing, which the desk accepts, and the names of its points, but for those that loops share."""
     if is_utf16(text):
         raise Fault(f'{printable(file)}: {SAVED}', REFUSED)
     typed = Typed(printable(file), in_one_form(text.decode('utf-8-sig', 'replace')).split('\n'))
@@ -342,4 +347,4 @@ def spelled(text: bytes, file: str) -> bytes:
     refusal = refusal_of(Desk().load, result)
     if refusal is not None:
         raise typed.refused(listing, frames, refusal)
-    return result
+    return result, {those[0].point: name for name, those in listing.named.items() if len(those) == 1}

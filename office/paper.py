@@ -1,5 +1,5 @@
 """A paper as the calls tell of it: its loops, the loop of each gap, the gaps of each dependence; placements on it."""
-from dataclasses import dataclass
+from dataclasses import dataclass, field
 from functools import cached_property
 
 from office.frames import INDEPENDENT, NONE, frames_of
@@ -19,7 +19,7 @@ class Dependence:
 @dataclass(frozen=True)
 class Paper:
     """Kinds of the points, the ENDDO of each DO, how many loops each point is in, the loop of each gap; the gaps where
-    no barrier may stand, and the DOs of loops that may not run."""
+    no barrier may stand, and the DOs of loops that may not run; names of statements and DOs, if they are known."""
     points: list[int]
     end: dict[int, int]
     depth: list[int]
@@ -27,6 +27,7 @@ class Paper:
     dependences: list[Dependence]
     barred: set[int]
     flagged: set[int]
+    names: dict[int, str] = field(default_factory=dict)
 
     def inside(self, d: int) -> list[int]:
         """The loops inside a loop."""
@@ -51,8 +52,9 @@ class Paper:
     def told(self, x: Dependence) -> str:
         """A dependence in words: its kind, its gaps, and which of them are barred."""
         kind = 'independent' if x.d is None else f'carried by loop {x.d}'
+        s, t = (f'{self.names[point]} {point}' if point in self.names else str(point) for point in (x.s, x.t))
         barred = ranges([gap for gap in x.gaps if gap in self.barred])
-        return f'{kind}, {x.s} to {x.t}: {stretches(x.gaps)}{f"; barred {barred}" if barred else ""}'
+        return f'{kind}, {s} to {t}: {stretches(x.gaps)}{f"; barred {barred}" if barred else ""}'
 
 
 @dataclass(frozen=True)
@@ -76,9 +78,10 @@ def placed(desk: Desk, text: bytes) -> Placed:
     return Placed(gaps, {d: count for _, d, count in counts}, None if first == NONE else first)
 
 
-def paper_on(desk: Desk) -> Paper:
-    """The paper of the nest on a desk."""
+def paper_on(desk: Desk, names: dict[int, str] | None = None) -> Paper:
+    """The paper of the nest on a desk, with the names of its points, if they are known."""
     nest, shape = desk.nest, desk.shape()
     dependences = [Dependence(None if kind == INDEPENDENT else d, s, t, desk.gaps(number))
                    for number, (kind, d, s, t) in enumerate(nest.dependences)]
-    return Paper(nest.points, shape.end, shape.depth, shape.owner, dependences, set(nest.barred), set(nest.flagged))
+    return Paper(nest.points, shape.end, shape.depth, shape.owner, dependences, set(nest.barred), set(nest.flagged),
+                 names or {})

@@ -15,6 +15,8 @@ from office.paper import Dependence, Paper, Placed
 from office.sight import LEFT, STRIP, WHOLE, WIDE_ROOM, Bar, Drawn, Layout, View
 from office.words import ranges
 
+# The width of a letter, and of the count at the end of a row.
+LETTER, COUNT = 7.6, 56
 NARROWEST, CAPTION, TITLE, EDGE = 560, 460, 1000, 20
 # A plate for a number: its height, and how it is moved where others stand in its way.
 PLATE, MOVES = 13, (0, -7, 7, -14, 14)
@@ -121,19 +123,26 @@ class Picture(Layout):
         self.label(x, self.y(d), f'{many} inside' if many else '', 'word end', 12)
 
     def named(self, point: int, x: float, y: float) -> None:
-        words = f'\u25b8 {self.called(point)}' if point in self.folds else self.called(point)
-        self.label(x, y, words, '' if self.paper.points[point] == STATEMENT else 'bold')
+        self.label(x, y, self.shortened(point), '' if self.paper.points[point] == STATEMENT else 'bold')
+
+    def shortened(self, point: int) -> str:
+        """A point in as many words as its row has room for."""
+        left, right = self.edges(point)
+        words, most = self.called(point), int((right - left - 20 - COUNT * (point in self.paper.end)) / LETTER)
+        words = words if point not in self.paper.names or len(words) <= most else f'{words[:most - 1]}\u2026'
+        return f'\u25b8 {words}' if point in self.folds else words
 
     def called(self, point: int) -> str:
         """A point in words."""
+        name = self.paper.names.get(point, '')
         if self.paper.points[point] == STATEMENT:
-            return f'statement {point}'
+            return name or f'statement {point}'
         if self.paper.points[point] == ENDDO:
             return f'ENDDO loop {self.paper.owner[point]}'
         skipped = ', may not run' * (point in self.paper.flagged)
         if point in self.folds:
-            return f'loop {point}, {point} to {self.paper.end[point]}{skipped}'
-        return f'DO loop {point}{skipped}'
+            return f'loop {point}{f" {name}" if name else ""}, {point} to {self.paper.end[point]}{skipped}'
+        return f'DO loop {point}{f" {name}" if name else ""}{skipped}'
 
     def gap(self, gap: int) -> None:
         """A gap; with a barrier, if one stands there."""

@@ -10,7 +10,7 @@ from office.candidates import candidates_in
 from office.clock import wanted
 from office.command import Fault, printable, write_out
 from office.hall import TICKETS, TO_PRINT, Hall
-from office.paper import paper_on
+from office.names import named_paper
 from office.words import counted
 
 HELP = 'serves a sitting on a page, where candidates put and lift barriers and hand in'
@@ -104,7 +104,7 @@ def main(asked: argparse.Namespace) -> None:
     time = wanted(asked.minutes, asked.until)
     os.umask(0o077)  # what is kept is nobody else's to read
     desk, text = loaded(asked.paper, asked.blank)
-    paper, name = paper_on(desk), printable(pathlib.Path(asked.paper).stem)
+    paper, name = named_paper(desk, asked.paper, text), printable(pathlib.Path(asked.paper).stem)
     candidates = candidates_in(asked.candidates, [name])
     tls = tls_with(asked.certificate, asked.key) if asked.certificate else None
     with listening_at(asked.bind, asked.port) as listening, \

@@ -1,9 +1,11 @@
 """./desk spell: from a listing, as ./desk show writes it, to the text of a paper."""
 import argparse
+import os
 
 from office.asked import is_paper
-from office.command import read_in
-from office.listing import spelled
+from office.command import read_in, write_over
+from office.listing import spelled_with_names
+from office.names import BEGINS, SUFFIX, names_text
 from office.result import hand_over, result_arguments
 
 HELP = 'writes the text of a paper from a listing, so that no points need be counted'
@@ -22,8 +24,15 @@ MORE = """a listing, a line each:
 
 def arguments(parser: argparse.ArgumentParser) -> None:
     parser.add_argument('listing', metavar='LISTING', help='a file with a listing; - for standard input')
+    parser.add_argument('--names', metavar='FILE', help='where the names go; with -o, if none is named, beside the text: '
+                        'paper.names for paper.hex, where ./desk show, draw, why and sit find them')
     result_arguments(parser, 'another paper')
 
 
 def main(asked: argparse.Namespace) -> None:
-    hand_over(asked, spelled(read_in(asked.listing), asked.listing), 'paper', is_paper)
+    text, names = spelled_with_names(read_in(asked.listing), asked.listing)
+    hand_over(asked, text, 'paper', is_paper)
+    beside = None if asked.output in (None, '-') else os.path.splitext(asked.output)[0] + SUFFIX
+    place = asked.names or (beside if names else None)
+    if place is not None:
+        write_over(place, names_text(text, names), begins=BEGINS)

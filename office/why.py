@@ -12,8 +12,9 @@ from office.asked import (GAPS_HELP, PAPER_HELP, TURNS, TURNS_HELP, is_file, loa
 from office.command import Fault, printable, write_json, write_out, write_over
 from office.frames import DO
 from office.library import DEARER, UNCUT, Compared, Desk, Mark
+from office.names import named_paper
 from office.page import BEGINS, Shown, page
-from office.paper import Paper, Placed, loops_told, paper_on, placed
+from office.paper import Paper, Placed, loops_told, placed
 from office.refusal import Refused
 from office.skipped import relied_on, skipped_told
 from office.trees import beside, drawn
@@ -183,7 +184,7 @@ def main(asked: argparse.Namespace) -> None:
     desk, text = planned(asked.paper) if asked.other is None else loaded(asked.paper)
     with contextlib.suppress(Refused):  # two placements can be compared on a paper that has no key
         desk.plan()
-    paper = paper_on(desk)
+    paper = named_paper(desk, asked.paper, text)
     first = side_of(desk, 'the first placement', placement_asked(asked.gaps, desk))
     if asked.other is None:
         second = side_of(desk, KEY, desk.key())

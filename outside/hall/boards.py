@@ -1,5 +1,6 @@
 """The board in Chromium, by real keys and a real mouse: views, what is lit, gaps compared, ways through the paper, in
 an examination and for practice. What is seen is held against the gaps that the calls tell."""
+import hashlib
 import pathlib
 
 from outside.hall.browser import DOWN, END, ENTER, ESCAPE, HOME, LEFT, PAGE_DOWN, PAGE_UP, RIGHT, UP, Browser, until
@@ -254,6 +255,22 @@ def printed(tally: Tally, seen: Browser, folder: pathlib.Path) -> None:
         hall.end()
 
 
+def named(tally: Tally, seen: Browser, folder: pathlib.Path) -> None:
+    """Names that lie beside the paper are on the page, in the drawing and for a screen reader."""
+    hall = Hall(folder / 'named', EXAMPLES['p'], ['anna'])
+    bound = hashlib.sha256(EXAMPLES['p']).hexdigest()
+    (hall.folder / 'paper.names').write_text(f'sha256 {bound}\n0 sweep\n2 update\n5 copy\n')
+    page = Page(tally, seen, hall.start(), 'anna')
+    page.enter()
+    page.shows('with names')
+    heard = seen.heard()
+    wanted = ('gap 2 of loop 1, before update, 2 dependences', 'gap 5 of loop 1, before copy, 3 dependences')
+    tally.check('names are heard', all(heard.get(gap) == ('button', 'false') for gap in wanted), heard)
+    item = seen.script('return document.querySelector("#dependences li").textContent')
+    tally.check('names in words', item == '0 independent, update 2 to copy 5: gaps 3 to 5', item)
+    hall.end()
+
+
 def boards(tally: Tally, seen: Browser, folder: pathlib.Path) -> None:
     seen.screen(1366, 768, 1)
     small(tally, seen, folder)
@@ -261,3 +278,4 @@ def boards(tally: Tally, seen: Browser, folder: pathlib.Path) -> None:
         keys(tally, seen, folder, practice)
     narrow(tally, seen, folder)
     printed(tally, seen, folder)
+    named(tally, seen, folder)

@@ -1,7 +1,7 @@
 """The sitting on its page, in Chromium: what a candidate does, and what is then seen, beside the library's sitting.
 
   python3 -m outside.hall.sitting                       the last line is 'N passed, M failed'
-  python3 -m outside.hall.sitting --screenshot FILE     a picture of the page, for the documents
+  python3 -m outside.hall.sitting --screenshots DIR     pictures of the page, for the documents
 
 Needs the library's archive (rt staticlib host) and a browser, which is installed where that may be done. Without one
 the page is not tried, which is told; where CI is true it is a failure.
@@ -240,18 +240,34 @@ def two(tally: Tally, seen: list[Browser], folder: pathlib.Path) -> None:
     hall.end()
 
 
-def screenshot(file: str, folder: pathlib.Path) -> None:
-    """P with two barriers."""
-    hall = Hall(folder / 'p', EXAMPLES['p'], ['anna'], 'p.hex').start()
+def few(paper: bytes) -> bytes:
+    """A paper of 40 points with as many dependences as one that is set, 32."""
+    return b''.join(paper.splitlines(keepends=True)[:72])
+
+
+def screenshots(into: pathlib.Path, folder: pathlib.Path) -> None:
+    """P with two barriers; a paper of 40 points for practice; of one of 256 a loop with two gaps compared."""
     driver = Driver()
-    page = Page(Tally(), Browser(driver), hall, 'anna')
-    page.browser.screen(640, 826, 1)
-    page.enter()
-    page.shows('nothing put')
-    for gap in (5, 9):
-        page.turn(gap)
-    page.browser.script('document.querySelector("main").scrollTo(0, 0)')
-    pathlib.Path(file).write_bytes(page.browser.picture())
+    for name, paper, more, view, gaps, look in (
+            ('sitting', EXAMPLES['p'], [], '', (5, 9), 9),
+            ('sitting-40', few(papers.text('mixed', 40)), ['--practice'], '', (5, 22), 5),
+            ('sitting-256', papers.text('mixed'), [], '?loop=113', (153, 131), 181)):
+        hall = Hall(folder / name, paper, ['anna'], 'p.hex' if name == 'sitting' else 'paper.hex', more).start()
+        page = Page(Tally(), Browser(driver), hall, 'anna')
+        page.browser.screen(1366, 800, 1)
+        page.enter()
+        page.shows('nothing put')
+        for gap in gaps:
+            page.turn(gap)
+        page.browser.open(f'{hall.address}{view}#g{gaps[0]}')
+        until(lambda: page.browser.at(GAP(gaps[0])), True)
+        if view:
+            page.browser.press('c')
+        page.browser.point(700, 20)
+        page.browser.script('document.querySelector(arguments[0]).focus()', GAP(look))
+        page.browser.script('document.querySelector("main").scrollTo(0, 0)')
+        (into / f'{name}.png').write_bytes(page.browser.picture())
+        hall.end()
     driver.close()
 
 
@@ -263,8 +279,8 @@ def main() -> None:
         tally.close()
     with tempfile.TemporaryDirectory() as name:
         folder = pathlib.Path(name)
-        if sys.argv[1:2] == ['--screenshot']:
-            screenshot(sys.argv[2], folder)
+        if sys.argv[1:2] == ['--screenshots']:
+            screenshots(pathlib.Path(sys.argv[2]), folder)
             return
         driver = Driver()
         seen = [Browser(driver), Browser(driver)]

@@ -257,6 +257,42 @@ def listings(tally: Tally, folder: pathlib.Path) -> None:
     tally.check('300 statements', 'line 257' in run(DESK, 'spell', '-', given=many).err)
 
 
+def names(tally: Tally, folder: pathlib.Path) -> None:
+    """Names go along in a file beside the text, for that text alone; listing, picture and page have them."""
+    listing, paper, beside = folder / 'nest.txt', folder / 'nest.hex', folder / 'nest.names'
+    listing.write_text('DO year\nrent\nDO\nbread\nL2\nENDDO\nENDDO year\nrent -> bread\nL2 -> rent round year\n')
+    spelt = run(DESK, 'spell', listing, '--names', beside)
+    paper.write_bytes(spelt.out)
+    text = f'sha256 {hashlib.sha256(spelt.out).hexdigest()}\n0 year\n1 rent\n3 bread\n4 L2\n'
+    tally.check('names are written', beside.read_text() == text and (spelt.err, spelt.status) == ('', 0), spelt)
+    shown = run(DESK, 'show', paper)
+    tally.check('shown', told(shown, 'DO year', '1 | rent', 'DO L2_', '0: rent -> bread', 'rent 1 to bread 3'), shown)
+    tally.check('and read again', spelled(shown.out, '') == spelt.out, shown)
+    drawn = run(DESK, 'draw', paper).out.decode()
+    words = ('rent', 'bread', 'DO loop 0 year', 'ENDDO loop 0')
+    tally.check('drawn', all(f'>{word}<' in drawn for word in words), drawn)
+    page = folder / 'named.html'
+    run(DESK, 'why', paper, '1', '--html', page)
+    pictures = re.findall(r'base64,([A-Za-z0-9+/=]+)"', page.read_text())
+    tally.check('on the page', len(pictures) == 2 and all(b'>bread<' in base64.b64decode(one) for one in pictures))
+    beside.write_text(text.replace('rent', 'r' * 200))
+    drawn = run(DESK, 'draw', paper).out.decode()
+    tally.check('a long name is shortened', 'r\u2026<' in drawn and f'>{"r" * 200}<' not in drawn, drawn[:300])
+    for wrong, word in ((text.replace('0 year', '0 ye-ar'), 'line 2 is not a point and a name'),
+                        (text.replace('4 L2', '4 rent'), 'line 5: the point or the name is there already'),
+                        (text.replace('4 L2', '6 L2'), 'line 5: point 6 is no statement and no DO'),
+                        (text.replace('4 L2', '99 L2'), 'point 99 is no statement'), ('', 'is no file of names')):
+        beside.write_text(wrong)
+        seen = run(DESK, 'show', paper)
+        tally.check(f'names: {word}', seen.failed(word, 1), seen)
+    beside.write_text(f'sha256 {"0" * 64}\n1 rent\n')
+    seen = run(DESK, 'show', paper)
+    tally.check('of another paper', b'S1' in seen.out and 'is of another paper' in seen.err and seen.status == 0, seen)
+    kept = paper.read_bytes()
+    seen = run(DESK, 'spell', listing, '--names', paper)
+    tally.check('no names over a paper', seen.failed('left alone') and paper.read_bytes() == kept, seen)
+
+
 def keys(tally: Tally, folder: pathlib.Path) -> None:
     """The program's bytes, refusals too; in words; the textbook's placement; the picture."""
     paper = folder / 'paper.hex'
@@ -388,6 +424,7 @@ def main() -> None:
         form(tally, folder)
         numbers(tally, folder)
         listings(tally, folder)
+        names(tally, folder)
         keys(tally, folder)
         trees(tally)
         reasons(tally, folder)
