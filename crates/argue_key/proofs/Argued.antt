@@ -30,7 +30,8 @@ unfolding argumentOf
 argument-plain n none = rw none
 
 argument-barred : (n : Nest) → 0 < length (n .barred) →
-    argumentOf n ≡ plainArgument (reduced (n .points) (n .barred) (n .deps) .points) (reduced (n .points) (n .barred) (n .deps) .deps)
+    argumentOf n ≡ plainArgument (reduced (n .points) (n .barred) (n .deps) .points)
+    (reduced (n .points) (n .barred) (n .deps) .deps)
 unfolding argumentOf
 argument-barred n some = rw (ne-eqb (length (n .barred)) 0 (λ z. omega arith))
 

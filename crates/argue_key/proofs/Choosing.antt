@@ -68,7 +68,8 @@ pub last-back : (ps : List ℕ) (d f : ℕ) (ds : List Dep) → LastBack ps d f 
 unfolding lastBack
 last-back ps d f [] = record { found = λ z. absurd (omega arith); most = λ e m h. absurd m }
 last-back ps d f (x ∷ xs) =
-    go (isBack ps d f x && ltb (lastBack ps d f xs .at) (suc (x .s))) refl (lastBack ps d f xs) refl (last-back ps d f xs)
+    go (isBack ps d f x && ltb (lastBack ps d f xs .at) (suc (x .s))) refl (lastBack ps d f xs) refl
+    (last-back ps d f xs)
   where
     go : (b : Bool) → (isBack ps d f x && ltb (lastBack ps d f xs .at) (suc (x .s))) ≡ b → (r : Start) →
         lastBack ps d f xs ≡ r → LastBack ps d f xs r →
@@ -97,7 +98,8 @@ last-back ps d f (x ∷ xs) =
               (λ (q : Among e xs). l .most e q k) m;
         }
 
-module _ (n : Nest) (key : List ℕ) (k : Claim) (laws : Lawful (worldOf (n .points) (n .deps)) (linesIn (n .points) (n .deps)))
+module _ (n : Nest) (key : List ℕ) (k : Claim) (laws : Lawful (worldOf (n .points) (n .deps))
+    (linesIn (n .points) (n .deps)))
     (fit : AllFit (n .points) (n .deps)) (is-do : isDo (n .points) (k .loop) ≡ true)
     (from-low : 0 < k .from → k .loop < k .from) (from-high : k .from ≤ endOf (n .points) (k .loop)) where
   abbrev ps : List ℕ
@@ -160,7 +162,8 @@ module _ (n : Nest) (key : List ℕ) (k : Claim) (laws : Lawful (worldOf (n .poi
   suffix-is f = go (lastBack ps d f ds) (last-back ps d f ds) (ltb (k .from) (lastBack ps d f ds .at)) refl
     where
       back-is : (a t : ℕ) (b : BackAt ps ds d a t) → t < f → isBack ps d f (b .e) ≡ true
-      back-is a t b h = rw (b .kind-is) (and-intro (eq-eqb (b .e .d) d (b .home-is)) (lt-ltb (b .e .t) f (omega (arith, b .ends, h))))
+      back-is a t b h = rw (b .kind-is) (and-intro (eq-eqb (b .e .d) d (b .home-is))
+          (lt-ltb (b .e .t) f (omega (arith, b .ends, h))))
 
       go : (r : Start) → LastBack ps d f ds r → (u : Bool) → ltb (k .from) (r .at) ≡ u →
           Suffix f (pick u (starting (r .at) (suc (suc (r .num)))) (starting (k .from) 0))
@@ -197,7 +200,8 @@ module _ (n : Nest) (key : List ℕ) (k : Claim) (laws : Lawful (worldOf (n .poi
         is-set = lt-ltb m (length ds) (c .short);
         low = λ g h. ⊎-elim
             (λ (z : (depAt ds m .d < g) × (g ≤ depAt ds m .t)). omega (arith, z .0, c .home-is))
-            (λ (z : (depAt ds m .s < g) × (g ≤ endOf ps (depAt ds m .d))). omega (arith, z .0, c .starts, c .low)) (gap g h);
+            (λ (z : (depAt ds m .s < g) × (g ≤ endOf ps (depAt ds m .d))). omega (arith, z .0, c .starts, c .low))
+            (gap g h);
         high = λ g h. ⊎-elim
             (λ (z : (depAt ds m .d < g) × (g ≤ depAt ds m .t)). omega (arith, z .1, before))
             (λ (z : (depAt ds m .s < g) × (g ≤ endOf ps (depAt ds m .d))). omega (arith, z .1, end-is)) (gap g h);
@@ -253,7 +257,8 @@ module _ (n : Nest) (key : List ℕ) (k : Claim) (laws : Lawful (worldOf (n .poi
       m : ℕ
       m = lineNum ps d a (reachOf ps ds d a) ds
 
-      go : LineAt ps ds d a (reachOf ps ds d a) → One f a (reachOf ps ds d a) (suc (suc (lineNum ps d a (reachOf ps ds d a) ds)))
+      go : LineAt ps ds d a (reachOf ps ds d a) →
+          One f a (reachOf ps ds d a) (suc (suc (lineNum ps d a (reachOf ps ds d a) ds)))
       go l = made (line-num ps d a (reachOf ps ds d a) ds (l .e) (l .among) (and-intro
           (and-intro (eq-eqb (l .e .kind) INDEPENDENT (l .kind-is)) (and-intro
           (eq-eqb (homeOf ps (l .e)) d (home l)) (eq-eqb (suc (l .e .s)) a (l .starts))))

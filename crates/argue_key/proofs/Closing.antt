@@ -1,5 +1,6 @@
--- A lap that ends before the front it began with, or is closed by a barrier right after the DO, lays a placement that is
--- settled in the loop: so it counts the loop's cost at least, and where it counts just that the row's front is no later.
+-- A lap that ends before the front it began with, or is closed by a barrier right after the DO, lays a placement that
+-- is settled in the loop: so it counts the loop's cost at least, and where it counts just that, the row's front is no
+-- later.
 -- Main statements: `near`, `far`.
 use mathlib.Core.Path.{_≡_, refl, _∙_}
 use mathlib.Core.Bool.{true}
@@ -21,7 +22,8 @@ use Rattle.plan_method.proofs.Theorem.{claim}
 module _
     (W : World) (N : Lines) (laws : Lawful W N) (T : Tables) (table : IsTable (W .loops) N T)
     (d : ℕ) (is-do : W .loops .isDo d ≡ true) (busy : 0 < T .left d (suc d))
-    (q f : ℕ) (q-low : 0 < q → d < q) (q-high : q ≤ W .loops .stop d) (f-low : d < f) (f-high : f ≤ suc (W .loops .stop d))
+    (q f : ℕ) (q-low : 0 < q → d < q) (q-high : q ≤ W .loops .stop d) (f-low : d < f)
+    (f-high : f ≤ suc (W .loops .stop d))
     (covers : (a t : ℕ) → W .Back d a t → t < f → a ≤ q) where
   abbrev e : ℕ
   e = W .loops .stop d
@@ -82,8 +84,14 @@ module _
     back : (a t : ℕ) → W .Back d a t → Hit (v .w) (suc d) t ⊎ Hit (v .w) a e
     back a t k = ⊎-elim
         (λ (z : f ≤ t). (
-        let there : v .w (v .f) ≡ true = laid .front .holds (omega (arith, within, z, laws .of-lines .back-high d a t is-do k)) in
-        inl (record { gap = v .f; low = laid .front .low (v .f) there; high = omega (arith, within, z); holds = there })))
+        let there : v .w (v .f) ≡ true = laid .front .holds
+        (omega (arith, within, z, laws .of-lines .back-high d a t is-do k)) in
+        inl (record {
+          gap = v .f;
+          low = laid .front .low (v .f) there;
+          high = omega (arith, within, z);
+          holds = there;
+        })))
         (λ (z : t < f). inr (suffix a (laws .of-lines .back-low d a t is-do k) (covers a t k z)))
         (le-or f t)
 
@@ -119,10 +127,14 @@ module _
     leads : v .c ≡ T .cost d → (a : ℕ) → d < a → Hit (v .w) a e → (0 < T .left d a) × (T .left d a ≤ v .f)
     leads z a u h =
         let l : Leads W T d a (v .w) =
-        mine .leftmost (v .w) a (record { settled = settled; exact = laid .body .mine ∙ z }) u h in
-        (l .there, l .least (v .f) (laid .front .low (v .f) front-there) (laid .front .high (v .f) front-there) front-there)
+        mine .leftmost (v .w) a (record { settled = settled; exact = laid .body .mine ∙ z }) u h in (
+          l .there,
+          l .least (v .f) (laid .front .low (v .f) front-there) (laid .front .high (v .f) front-there)
+              front-there,
+        )
 
-    pub leads-from : v .c ≡ T .cost d → (a : ℕ) → d < a → (a ≤ q) ⊎ (a ≡ suc d) → (0 < T .left d a) × (T .left d a ≤ v .f)
+    pub leads-from : v .c ≡ T .cost d → (a : ℕ) → d < a → (a ≤ q) ⊎ (a ≡ suc d) →
+        (0 < T .left d a) × (T .left d a ≤ v .f)
     leads-from z a u (inl h) = leads z a u (suffix a u h)
     leads-from z a u (inr h) = leads z a u (rw h some)
 
@@ -138,4 +150,8 @@ module _
   far h =
       let laid : Swept W T need d d (put d s) =
       put-swept W (laws .of-loops) T d kids need needs d s at-first (raised (omega (arith, h, f-low))) in
-      record { at-least = at-cost (put d s) laid (omega (arith, f-low)); front = leads-from (put d s) laid (omega (arith, f-low)) }
+      record {
+        at-least = at-cost (put d s) laid (omega (arith, f-low));
+        front = leads-from (put d s) laid
+            (omega (arith, f-low));
+      }

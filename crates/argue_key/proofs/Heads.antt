@@ -119,7 +119,8 @@ module _
         (λ (y : (h .from ≡ 0) × (z .at ≡ suc (h .loop))). omega (arith, y .0)) (z .from-is)) kind
 
     -- no front, and nothing up to; or up to right before the front
-    pub side-cases : (z : Side h) → ((T .left d (z .at) ≡ 0) × (h .upto ≡ 0)) ⊎ ((suc (h .upto) ≡ T .left d (z .at)) × (0 < h .upto))
+    pub side-cases : (z : Side h) →
+        ((T .left d (z .at) ≡ 0) × (h .upto ≡ 0)) ⊎ ((suc (h .upto) ≡ T .left d (z .at)) × (0 < h .upto))
     side-cases z = ⊎-elim
         (λ (y : T .left d (z .at) ≤ 0). (
         let w : T .left d (z .at) ≡ 0 = omega (arith, y) in
@@ -170,13 +171,17 @@ module _
       abbrev s : State
       s = sweep (loopsIn ps) T (needOf (reachOf ps ds d) q e) d
 
-      near : s .f ≤ f → C.Costs (worldOf ps ds) (linesIn ps ds) laws T table d is-do busy q f (suf .low) (suf .high) f-low f-high
+      near : s .f ≤ f → C.Costs (worldOf ps ds) (linesIn ps ds) laws T table d is-do busy q f (suf .low)
+          (suf .high) f-low f-high
           (suf .covers) (s .c) (s .f)
-      near = C.near (worldOf ps ds) (linesIn ps ds) laws T table d is-do busy q f (suf .low) (suf .high) f-low f-high (suf .covers)
+      near = C.near (worldOf ps ds) (linesIn ps ds) laws T table d is-do busy q f (suf .low) (suf .high) f-low f-high
+          (suf .covers)
 
-      far : f < s .f → C.Costs (worldOf ps ds) (linesIn ps ds) laws T table d is-do busy q f (suf .low) (suf .high) f-low f-high
+      far : f < s .f → C.Costs (worldOf ps ds) (linesIn ps ds) laws T table d is-do busy q f (suf .low)
+          (suf .high) f-low f-high
           (suf .covers) (suc (s .c)) (suc d)
-      far = C.far (worldOf ps ds) (linesIn ps ds) laws T table d is-do busy q f (suf .low) (suf .high) f-low f-high (suf .covers)
+      far = C.far (worldOf ps ds) (linesIn ps ds) laws T table d is-do busy q f (suf .low) (suf .high) f-low f-high
+          (suf .covers)
 
       record Bad (v : State) : Type 0 where
         at-least : few ≤ v .c
@@ -199,13 +204,15 @@ module _
       far-side : (z : Side h) → ((T .left d (z .at) ≡ 0) ⊎ (suc d < T .left d (z .at))) → f < s .f → T .cost d ≤ s .c
       far-side z o y =
           let w : suc (s .c) ≡ T .cost d → ⊥ = λ u. (let v = far y .front u (z .at) (z .low) (at-is z) in
-          ⊎-elim (λ (p : T .left d (z .at) ≡ 0). omega (arith, v .0, p)) (λ (p : suc d < T .left d (z .at)). omega (arith, v .1, p)) o) in
+          ⊎-elim (λ (p : T .left d (z .at) ≡ 0). omega (arith, v .0, p)) (λ (p : suc d < T .left d (z .at)). omega
+          (arith, v .1, p)) o) in
           omega (arith, far y .at-least, w)
 
       near-side : (z : Side h) → ((T .left d (z .at) ≡ 0) ⊎ (s .f < T .left d (z .at))) → s .f ≤ f → T .cost d < s .c
       near-side z o y =
           let w : s .c ≡ T .cost d → ⊥ = λ u. (let v = near y .front u (z .at) (z .low) (at-is z) in
-          ⊎-elim (λ (p : T .left d (z .at) ≡ 0). omega (arith, v .0, p)) (λ (p : s .f < T .left d (z .at)). omega (arith, v .1, p)) o) in
+          ⊎-elim (λ (p : T .left d (z .at) ≡ 0). omega (arith, v .0, p)) (λ (p : s .f < T .left d (z .at)). omega
+          (arith, v .1, p)) o) in
           omega (arith, near y .at-least, w)
 
       kept-side : (z : Side h) → ((T .left d (z .at) ≡ 0) ⊎ (suc d < T .left d (z .at))) →
@@ -225,10 +232,12 @@ module _
       bad : ((0 < h .upto) → d < h .upto) → Bad (closeUp d (h .upto) s)
       unfolding put
       bad proper = ⊎-elim
-          (λ (z : Low h). close-up-cases Bad d (h .upto) s (λ a b. absurd (omega (arith, a, z .upto-is))) (λ o. low-bad z))
+          (λ (z : Low h). close-up-cases Bad d (h .upto) s (λ a b. absurd (omega (arith, a, z .upto-is)))
+          (λ o. low-bad z))
           (λ (z : Side h). ⊎-elim
           (λ (y : (T .left d (z .at) ≡ 0) × (h .upto ≡ 0)).
-          close-up-cases Bad d (h .upto) s (λ a b. absurd (omega (arith, a, y .1))) (λ o. kept-side z (inl (y .0)) (inl (y .0))))
+          close-up-cases Bad d (h .upto) s (λ a b. absurd (omega (arith, a, y .1)))
+          (λ o. kept-side z (inl (y .0)) (inl (y .0))))
           (λ (y : (suc (h .upto) ≡ T .left d (z .at)) × (0 < h .upto)).
           (let far-on : suc d < T .left d (z .at) = omega (arith, y .0, proper (y .1)) in
           close-up-cases Bad d (h .upto) s
@@ -244,7 +253,9 @@ module _
         Worse n key k ks (laws .of-loops) T is-do lead few kids f
     unfolding lapEnd lapSwept lapNeed
     worse proper f u w =
-        let b : Bad f u w (closeUp d (h .upto) (sweep (loopsIn ps) T (needOf (reachOf ps ds d) (suffixOf ps ds d (h .from) f .at) e) d)) =
+        let b : Bad f u w
+        (closeUp d (h .upto) (sweep (loopsIn ps) T (needOf (reachOf ps ds d) (suffixOf ps ds d (h .from) f .at) e)
+        d)) =
         bad f u w proper in
         record { at-least = b .at-least; further = b .further }
 
@@ -277,10 +288,12 @@ module _
     pub head-holds : ended n key k (run n key k ks (k .steps) begun) ≡ true
     head-holds =
         let x : Count = run n key k ks (stepsFor ps ds T lead h) begun in
-        and-intro (all-steps .fine) (and-intro is-do (lt-ltb _ _ (enough (run n key k ks (stepsFor ps ds T lead h) begun) all-steps)))
+        and-intro (all-steps .fine)
+        (and-intro is-do (lt-ltb _ _ (enough (run n key k ks (stepsFor ps ds T lead h) begun) all-steps)))
       where
         enough : (x : Count) → Enough n key k ks (laws .of-loops) T is-do lead few kids x →
-            lots (greatest (x .times) (length ps)) (loopCount n key d) < x .c + when (isLow k) (greatest (x .times) (length ps))
+            lots (greatest (x .times) (length ps)) (loopCount n key d) < x .c + when (isLow k)
+            (greatest (x .times) (length ps))
         enough x r =
             let m : greatest (x .times) (length ps) ≤ r .laps = greatest-in (x .times) (r .laps) (length ps) (r .pos)
             (λ g p q. r .most g) in
@@ -290,13 +303,16 @@ module _
             ⊎-elim
             (λ (z : Low h). (
             let c : loopCount n key d ≡ suc few = costs d is-do ∙ sym (few-low z) in
-            let o : lots (greatest (x .times) (length ps)) (loopCount n key d) ≡ lots (greatest (x .times) (length ps)) (suc few) =
+            let o : lots (greatest (x .times) (length ps)) (loopCount n key d) ≡ lots
+            (greatest (x .times) (length ps)) (suc few) =
             ap (lots (greatest (x .times) (length ps))) c in
-            let w : when (isLow k) (greatest (x .times) (length ps)) ≡ greatest (x .times) (length ps) = rw (low-test z) in
+            let w : when (isLow k) (greatest (x .times) (length ps)) ≡ greatest (x .times) (length ps) = rw
+            (low-test z) in
             omega (arith, u, v, r .enough, o, w, lots-suc (greatest (x .times) (length ps)) few)))
             (λ (z : Side h). (
             let c : loopCount n key d ≡ few = costs d is-do ∙ sym (few-side z) in
-            let o : lots (greatest (x .times) (length ps)) (loopCount n key d) ≡ lots (greatest (x .times) (length ps)) few =
+            let o : lots (greatest (x .times) (length ps)) (loopCount n key d) ≡ lots
+            (greatest (x .times) (length ps)) few =
             ap (lots (greatest (x .times) (length ps))) c in
             omega (arith, u, v, r .enough, o)))
             kind

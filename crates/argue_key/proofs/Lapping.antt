@@ -55,7 +55,11 @@ module _
       record {
         is-set = λ a u w z. lt-ltb 0 (k .upto) pos;
         low = λ a g u w z h. leb-true (suc d) g (and-true (leb (suc d) g) (leb g (k .upto)) h .0);
-        high = λ a g u w z h. omega (arith, leb-true g (k .upto) (and-true (leb (suc d) g) (leb g (k .upto)) h .1), high);
+        high = λ a g u w z h. omega (
+          arith,
+          leb-true g (k .upto) (and-true (leb (suc d) g) (leb g (k .upto)) h .1),
+          high,
+        );
         shape = λ a g u w z h. inl (at a g z (leb-true (suc d) g (and-true (leb (suc d) g) (leb g (k .upto)) h .0))
             (leb-true g (k .upto) (and-true (leb (suc d) g) (leb g (k .upto)) h .1)));
       }
@@ -97,7 +101,8 @@ module _
       pub fits : s .f ≤ suc e
       pub between : Between (suc i) (s .f) y
 
-    close-ended : (s : State) (y : Count) → Traced n key k ks laws T is-do need set lead before i (x .c) sets kids d s y →
+    close-ended : (s : State) (y : Count) → Traced n key k ks laws T is-do need set lead before i (x .c) sets kids d s
+        y →
         Ended (closeUp d (k .upto) s) (run n key k ks (closeStep (k .upto) (s .f)) y)
     unfolding closeUp closeStep put
     close-ended s y t = go (ltb 0 (k .upto) && ltb (k .upto) (s .f)) refl
@@ -144,10 +149,12 @@ module _
               above = omega arith;
               fits = omega (arith, long);
               between = record {
-                fine = step-fine n key k ks laws T is-do up-need (λ a. 1) lead before i (x .c) us kids d (suc d) 0 (suc d) s y w
+                fine = step-fine n key k ks laws T is-do up-need (λ a. 1) lead before i (x .c) us kids d (suc d) 0
+                    (suc d) s y w
                     (omega arith) long cut refl rest front;
                 outs = λ g a c u o. absurd (omega (arith, a, c));
-                most = step-most n key k ks laws T is-do up-need (λ a. 1) lead before i (x .c) us kids d (suc d) 0 (suc d) s y w
+                most = step-most n key k ks laws T is-do up-need (λ a. 1) lead before i (x .c) us kids d (suc d) 0
+                    (suc d) s y w
                     (omega arith) long cut refl rest front;
                 fewer = λ g a c. absurd (omega (arith, a, c));
               };
@@ -187,7 +194,8 @@ module _
         rw (run-joined n key k ks (trace B T (lapNeed (n .points) (n .deps) d (k .from) f)
         (lapSet (n .points) (n .deps) d (k .from) f) lead d e e (start e))
         (closeStep (k .upto) (sweep B T (lapNeed (n .points) (n .deps) d (k .from) f) d .f)) x)
-        (close-ended f (lapNeed (n .points) (n .deps) d (k .from) f) (lapSet (n .points) (n .deps) d (k .from) f) (sets f u w)
+        (close-ended f (lapNeed (n .points) (n .deps) d (k .from) f) (lapSet (n .points) (n .deps) d (k .from) f)
+        (sets f u w)
         upto-in i x b w _ _
         (swept f (lapNeed (n .points) (n .deps) d (k .from) f) (lapSet (n .points) (n .deps) d (k .from) f) (sets f u w)
         upto-in i x b w))
@@ -200,7 +208,8 @@ module _
         go (ltb few (endAt f .c)) refl (lap-ended f u w i x b) (laps-enough j (suc i) (endAt f .f))
       where
         go : (t : Bool) → ltb few (endAt f .c) ≡ t →
-            Ended f (lapNeed (n .points) (n .deps) d (k .from) f) (lapSet (n .points) (n .deps) d (k .from) f) (sets f u w)
+            Ended f (lapNeed (n .points) (n .deps) d (k .from) f) (lapSet (n .points) (n .deps) d (k .from) f)
+            (sets f u w)
             upto-in i x b w (endAt f) (run n key k ks (stepsAt f) x) →
             ((x : Count) → suc e < endAt f .f + j → d < endAt f .f → endAt f .f ≤ suc e → x .c ≡ lots few (suc i) →
             Between (suc i) (endAt f .f) x → Enough (run n key k ks (allLaps j (endAt f .f)) x)) →

@@ -27,7 +27,7 @@ use Rattle.plan_theorem.proofs.PlainKey.{fitting-key}
 use Rattle.plan_theorem.proofs.Predicates.{memberOf, same-count, list-count}
 use Rattle.argue_claims.specs.Arguments.{holds}
 use Rattle.argue_key.specs.Laps.{plainArgument}
-use Rattle.argue_key.proofs.Known.{all-claims}
+use Rattle.argue_key.proofs.AllClaims.{all-claims}
 
 module _ (n : Nest) (shape : isShape (n .points) ≡ true) (fit : AllFit (n .points) (n .deps)) where
   abbrev T : Tables
@@ -44,7 +44,8 @@ module _ (n : Nest) (shape : isShape (n .points) ≡ true) (fit : AllFit (n .poi
   laid : (m : ℕ) → isDo (n .points) m ≡ true → count (loopsIn (n .points)) (keyIn (n .points) (n .deps)) m ≡ T .cost m
   unfolding keyIn keyOf
   laid m h =
-      PT.laid (worldOf (n .points) (n .deps)) (linesIn (n .points) (n .deps)) laws T table 0 (starts-with-do (n .points) shape)
+      PT.laid (worldOf (n .points) (n .deps)) (linesIn (n .points) (n .deps)) laws T table 0
+      (starts-with-do (n .points) shape)
       .done m (in-outermost (n .points) shape m h) .exact
 
   costs : (m : ℕ) → isDo (n .points) m ≡ true → loopCount n (plainKey n) m ≡ T .cost m

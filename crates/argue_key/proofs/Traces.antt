@@ -1,5 +1,5 @@
--- The steps of a sweep are fine: what each names is left to the loop's own gaps, and no gap is named more often than laps
--- were run.
+-- The steps of a sweep are fine: what is left of each set are own gaps of the loop, and no gap is named more often than
+-- laps were run.
 -- Main definitions: `Sets`, `KidSays`, `Traced`. Main statement: `traced`.
 use mathlib.Core.Path.{_≡_, refl, ap, _∙_}
 use mathlib.Core.Bool.{Bool, true, false, _&&_, _||_, not}
@@ -67,7 +67,8 @@ pub record Sets (n : Nest) (key : List ℕ) (k : Claim) (need set : ℕ → ℕ)
   pub high : (a g : ℕ) → k .loop < a → a ≤ endOf (n .points) (k .loop) → need a ≤ endOf (n .points) (k .loop) →
       inSet n key k (set a) g ≡ true → g ≤ endOf (n .points) (k .loop)
   pub shape : (a g : ℕ) → k .loop < a → a ≤ endOf (n .points) (k .loop) → need a ≤ endOf (n .points) (k .loop) →
-      inSet n key k (set a) g ≡ true → ((a ≤ g) × (g ≤ need a)) ⊎ ((need a ≡ endOf (n .points) (k .loop)) × (g < before))
+      inSet n key k (set a) g ≡ true →
+      ((a ≤ g) × (g ≤ need a)) ⊎ ((need a ≡ endOf (n .points) (k .loop)) × (g < before))
 
 -- what the claims known say of a child l, as its row does
 pub record KidSays (n : Nest) (key : List ℕ) (d : ℕ) (ks : List Known) (T : Tables) (lead : ℕ → ℕ → ℕ) (l : ℕ) : Type 0
@@ -77,7 +78,8 @@ pub record KidSays (n : Nest) (key : List ℕ) (d : ℕ) (ks : List Known) (T : 
     pub led : (b : ℕ) → l < b → b ≤ endOf (n .points) l → suc l < T .left l b → isLed n key d ks (suc (lead l b)) ≡ true
     pub loop : (b : ℕ) → l < b → b ≤ endOf (n .points) l → suc l < T .left l b → knownAt ks (lead l b) .loop ≡ l
     pub from : (b : ℕ) → l < b → b ≤ endOf (n .points) l → suc l < T .left l b → knownAt ks (lead l b) .from ≤ b
-    pub upto : (b : ℕ) → l < b → b ≤ endOf (n .points) l → suc l < T .left l b → suc (knownAt ks (lead l b) .upto) ≡ T .left l b
+    pub upto : (b : ℕ) → l < b → b ≤ endOf (n .points) l → suc l < T .left l b →
+        suc (knownAt ks (lead l b) .upto) ≡ T .left l b
     pub none-from : (fs : List Fact) (b g : ℕ) → l < b → b ≤ g → g ≤ endOf (n .points) l → T .left l b ≡ 0 →
         isOut n key d ks fs g ≡ true
     pub none-upto : (fs : List Fact) (g : ℕ) → l < g → g ≤ endOf (n .points) l →
@@ -110,7 +112,8 @@ module _
     pub fewer : (g : ℕ) → d < g → g < s .f → x .times g ≤ laps
     pub most : (g : ℕ) → x .times g ≤ suc laps
     pub fresh : s .f ≡ suc e → (g : ℕ) → d < g → g < before → x .times g < laps
-    pub fresh-outs : s .f ≡ suc e → (g : ℕ) → d < g → g < before → (own g ≡ d → ⊥) → isOut n key d ks (x .facts) g ≡ true
+    pub fresh-outs : s .f ≡ suc e → (g : ℕ) → d < g → g < before → (own g ≡ d → ⊥) →
+        isOut n key d ks (x .facts) g ≡ true
 
   -- a step with the set from b, by a claim or none, and the front after it
   module _ (p b v f : ℕ) (s : State) (x : Count) (i : Traced p s x) (low : d < b) (high : b ≤ e) (uncut : need b < s .f)
@@ -144,7 +147,8 @@ module _
     left-own : (g : ℕ) → isLeft n key k ks (x .facts) (st (set b) v) g ≡ true → own g ≡ d
     left-own g h =
         ⊎-elim (λ (z : own g ≡ d). z)
-        (λ (z : own g ≡ d → ⊥). absurd (gone (inSet n key k (set b) g) (isOut n key d ks (x .facts) g) (leads n key ks v g)
+        (λ (z : own g ≡ d → ⊥). absurd (gone (inSet n key k (set b) g) (isOut n key d ks (x .facts) g)
+        (leads n key ks v g)
         (not-left g (and-true (inSet n key k (set b) g) _ h .0) z) h))
         (eq-or (own g) d)
 
@@ -154,7 +158,8 @@ module _
         (λ g p q. and-intro
         (implies-by (inSet n key k (set b) g) (isAround (n .points) g d) (λ h.
         and-intro (lt-ltb d g (sets .low b g low high short h)) (le-leb g e (sets .high b g low high short h))))
-        (implies-by (isLeft n key k ks (x .facts) (st (set b) v) g) (eqb (own g) d) (λ h. eq-eqb (own g) d (left-own g h)))))))
+        (implies-by (isLeft n key k ks (x .facts) (st (set b) v) g) (eqb (own g) d)
+        (λ h. eq-eqb (own g) d (left-own g h)))))))
 
     -- a gap that is named lies below the front so far
     named-below : (g : ℕ) → inSet n key k (set b) g ≡ true → g < s .f
@@ -179,8 +184,13 @@ module _
         go true z =
             let h = and-true (inSet n key k (set b) g) _ z in
             ⊎-elim
-            (λ (y : (b ≤ g) × (g ≤ need b)). absurd (omega (arith, w, front g (y .0) (sets .high b g low high short (h .0)) (left-own g z))))
-            (λ (y : (need b ≡ e) × (g < before)). omega (arith, i .fresh (omega (arith, y .0, uncut, i .fits)) g u (y .1)))
+            (λ (y : (b ≤ g) × (g ≤ need b)). absurd
+            (omega (arith, w, front g (y .0) (sets .high b g low high short (h .0)) (left-own g z))))
+            (λ (y : (need b ≡ e) × (g < before)). omega (
+              arith,
+              i .fresh (omega (arith, y .0, uncut, i .fits)) g u
+                  (y .1),
+            ))
             (sets .shape b g low high short (h .0))
         go false z = omega (arith, i .fewer g u (omega (arith, le, w)))
 
@@ -191,7 +201,8 @@ module _
   plain-traced p s x at i = go (ltb (need (suc p)) (s .f)) refl
     where
       other : (g : ℕ) → suc p ≤ g → (own g ≡ d → ⊥) → suc p < g
-      other g h o = ⊎-elim (λ (z : g ≡ suc p). absurd (o (ap own z ∙ at .owner))) (λ (z : g ≡ suc p → ⊥). omega (arith, h, z))
+      other g h o = ⊎-elim (λ (z : g ≡ suc p). absurd (o (ap own z ∙ at .owner)))
+          (λ (z : g ≡ suc p → ⊥). omega (arith, h, z))
           (eq-or g (suc p))
 
       go : (t : Bool) → ltb (need (suc p)) (s .f) ≡ t →
@@ -243,7 +254,8 @@ module _
         omega (arith, laws .owner l g (at .child .is-do) a (omega (arith, b, ends)) .from, at .child .below, o)
 
     beyond : (g : ℕ) → p < g → (own g ≡ d → ⊥) → suc p < g
-    beyond g h o = ⊎-elim (λ (z : g ≡ suc p). absurd (o (ap own z ∙ at .owner))) (λ (z : g ≡ suc p → ⊥). omega (arith, h, z))
+    beyond g h o = ⊎-elim (λ (z : g ≡ suc p). absurd (o (ap own z ∙ at .owner)))
+        (λ (z : g ≡ suc p → ⊥). omega (arith, h, z))
         (eq-or g (suc p))
 
     left-high : (b : ℕ) → l < b → b ≤ p → T .left l b ≤ p
@@ -282,7 +294,8 @@ module _
               (λ (z : p < g). i .outs g (beyond g z o)
               (omega (arith, b, first-high (T .left l (suc l)) refl (s .f) (omega (arith, i .above)))) u o)
               (le-or g p);
-          fewer = λ g a b. i .fewer g a (omega (arith, b, first-high (T .left l (suc l)) refl (s .f) (omega (arith, i .above))));
+          fewer = λ g a b. i .fewer g a
+              (omega (arith, b, first-high (T .left l (suc l)) refl (s .f) (omega (arith, i .above))));
           most = i .most;
           fresh = λ z. i .fresh (stays (T .left l (suc l)) refl z);
           fresh-outs = λ z. i .fresh-outs (stays (T .left l (suc l)) refl z);
@@ -302,7 +315,8 @@ module _
       over g h a o = i .outs g (beyond g h o) (omega (arith, a, uncut)) (omega (arith, a, reached)) o
 
       own-over : (g : ℕ) → b ≤ g → own g ≡ d → p < g
-      own-over g h o = ⊎-elim (λ (z : g ≤ p). absurd (in-child g (omega (arith, low, h)) z o)) (λ (z : p < g). z) (le-or g p)
+      own-over g h o = ⊎-elim (λ (z : g ≤ p). absurd (in-child g (omega (arith, low, h)) z o)) (λ (z : p < g). z)
+          (le-or g p)
 
       inner-traced : b ≤ p → suc l < T .left l b →
           Traced l (inner (T .left l) (T .lay l) b s) (step n key k ks (st (set b) (suc (lead l b))) x)
@@ -331,7 +345,11 @@ module _
             fits = omega (arith, lh, at .high);
             fine = step-fine (suc p) b (suc (lead l b)) (T .left l b) s x i above-d within uncut led rest front;
             c-is = i .c-is;
-            outs = λ g a c u o. out-fact n key d ks record { loop = knownAt ks (lead l b) .loop; upto = knownAt ks (lead l b) .upto }
+            outs = λ g a c u o. out-fact n key d ks record {
+              loop = knownAt ks (lead l b) .loop;
+              upto = knownAt ks
+                  (lead l b) .upto;
+            }
                 (x .facts) g (omega (arith, a, loop-is)) (omega (arith, c, lh, end-is)) (omega (arith, c, upto-is));
             fewer = step-fewer (suc p) b (suc (lead l b)) (T .left l b) s x i above-d within uncut led rest front
                 (omega (arith, lh, i .above));
@@ -362,7 +380,8 @@ module _
       unfolding outer
       outer-traced lacks =
           let f : ℕ = firstOf (T .left l (suc l)) (suc p) in
-          let fh : firstOf (T .left l (suc l)) (suc p) ≤ suc p = first-high (T .left l (suc l)) refl (suc p) (omega arith) in
+          let fh : firstOf (T .left l (suc l)) (suc p) ≤ suc p = first-high (T .left l (suc l)) refl (suc p)
+          (omega arith) in
           let rest : (g : ℕ) → b ≤ g → g ≤ need b → (own g ≡ d → ⊥) →
           (isOut n key d ks (x .facts) g ≡ true) ⊎ (leads n key ks 0 g ≡ true) =
           λ g a c o. inl (⊎-elim
@@ -374,12 +393,15 @@ module _
           record {
             above = first-low (T .left l (suc l)) refl (suc p) (omega arith);
             fits = omega (arith, fh, at .high);
-            fine = step-fine (suc p) b 0 (firstOf (T .left l (suc l)) (suc p)) s x i above-d within uncut refl rest front;
+            fine = step-fine (suc p) b 0 (firstOf (T .left l (suc l)) (suc p)) s x i above-d within uncut refl rest
+                front;
             c-is = omega (arith, i .c-is);
             outs = λ g a c u o. child-out [] (T .left l (suc l)) refl g (suc p) a (omega (arith, c, fh)) c;
-            fewer = step-fewer (suc p) b 0 (firstOf (T .left l (suc l)) (suc p)) s x i above-d within uncut refl rest front
+            fewer = step-fewer (suc p) b 0 (firstOf (T .left l (suc l)) (suc p)) s x i above-d within uncut refl rest
+                front
                 (omega (arith, fh, i .above));
-            most = step-most (suc p) b 0 (firstOf (T .left l (suc l)) (suc p)) s x i above-d within uncut refl rest front;
+            most = step-most (suc p) b 0 (firstOf (T .left l (suc l)) (suc p)) s x i above-d within uncut refl rest
+                front;
             fresh = λ y. absurd (omega (arith, y, fh, at .high));
             fresh-outs = λ y. absurd (omega (arith, y, fh, at .high));
           }
@@ -398,11 +420,13 @@ module _
         go false y true w true v =
             let pos : 0 < b = omega (arith, eqb-false b 0 y) in
             let j = and-true (leb b p) (ltb 0 (T .left l b)) w in
-            inner-traced b (z .low pos) (z .high) (z .uncut pos) (leb-true b p (j .0)) (ltb-true (suc l) (T .left l b) v)
+            inner-traced b (z .low pos) (z .high) (z .uncut pos) (leb-true b p (j .0))
+            (ltb-true (suc l) (T .left l b) v)
         go false y true w false v =
             let pos : 0 < b = omega (arith, eqb-false b 0 y) in
             let j = and-true (leb b p) (ltb 0 (T .left l b)) w in
-            passed-traced b (z .low pos) (z .high) (z .uncut pos) (leb-true b p (j .0)) (ltb-true 0 (T .left l b) (j .1))
+            passed-traced b (z .low pos) (z .high) (z .uncut pos) (leb-true b p (j .0))
+            (ltb-true 0 (T .left l b) (j .1))
             (ltb-false (suc l) (T .left l b) v)
         go false y false w r v =
             let pos : 0 < b = omega (arith, eqb-false b 0 y) in

@@ -1,5 +1,6 @@
--- The argument of a nest's key. A lap of a loop, with the front of the lap before, is the planner's sweep for the suffix
--- that this front leaves uncut; its steps are one for each barrier it counts and one for each child it enters.
+-- The argument of a nest's key. A lap of a loop, with the front of the lap before, is the planner's sweep for the
+-- suffix that this front leaves uncut; its steps are one for each barrier that it counts and one for each child that it
+-- enters.
 -- Main definitions: `trace`, `lapEnd`, `laps`, `stepsFor`.
 use mathlib.Core.Bool.{Bool, _&&_, _||_, not}
 use mathlib.Core.List.{List, [], _∷_, _++_}
@@ -133,7 +134,8 @@ stepsFor ps ds T lead h =
 unfoldable pub findClaim : List Claim → ℕ → ℕ → ℕ → ℕ
 findClaim [] l a t = 0
 findClaim (k ∷ ks) l a t =
-    pick (eqb (k .loop) l && ((ltb 0 (k .from) && leb (k .from) a) && eqb (suc (k .upto)) t)) 0 (suc (findClaim ks l a t))
+    pick (eqb (k .loop) l && ((ltb 0 (k .from) && leb (k .from) a) && eqb (suc (k .upto)) t)) 0
+    (suc (findClaim ks l a t))
 
 abbrev pub leadIn : Tables → List Claim → ℕ → ℕ → ℕ
 leadIn T cs l b = findClaim cs l b (T .left l b)
