@@ -8,6 +8,8 @@ import random
 import sys
 
 from outside import argument
+from outside.measure import papers
+from outside.tests.arguer import Arguer, Head, Step, lines
 from outside.trying import EXAMPLES, ROOT, Tally, run
 
 CHECKER = ROOT / 'outside' / 'argument.py'
@@ -33,6 +35,37 @@ WRONG = [
 UNREAD = [b'31000000', b'3100000\n', b'310000A0\n', b'\n', b'330000\n', b'320000\n', b'34\n', b'31000000\n3300\n',
           b'31000000\n320000\n', b'31000000\n320000\n320000\n330000\n', b'31000000\n320000\n31000000\n330000\n',
           b'310000\n', b'36\n', b'2105\n', b'31000000\n' * 4097, b'31000000\n' + b'330000\n' * 1025]
+
+# Papers on which a rule that forgets one condition would take a placement for a key that is none, by the condition: the
+# points and the dependences from s to t, or from s to t round d; the placement; its claims and their steps.
+Claims = list[tuple[Head, list[Step]]]
+INNER, LOW, HALF = '01 01 03 02 02', ((1, 0, 0), [(2, 0)]), ((1, 3, 2), [(2, 0), (0, 0)])
+OTHER = ((1, 3, 2), [(2, 0), (1, 0)])
+NEEDED: list[tuple[str, str, list[int], Claims]] = [
+    ('correct', '01 03 02 110001', [], []), ('a low claim for each loop', '01 03 02 110001', [1, 2], []),
+    ('the set is there', '01 03 02 110001', [1, 2], [((0, 0, 0), [(0, 0), (0, 0)])]),
+    ('in the range', '01 01 02 02 110103', [2], [LOW]),
+    ('own gaps', '01 01 02 02 110102', [1, 2], [LOW, ((0, 0, 0), [(2, 0)])]),
+    ('facts are forgotten', INNER + ' 110102 110204', [1, 2, 4], [LOW, HALF, ((0, 0, 0), [(3, 2), (2, 0), (2, 0)])]),
+    ('a leading step does not count', INNER + ' 110203', [1, 3], [LOW, OTHER, ((0, 0, 0), [(2, 2)])]),
+    ('from on', INNER + ' 110102', [1, 2], [LOW, HALF, ((0, 0, 0), [(2, 2), (2, 0)])]),
+    ('in the loop that leads', INNER + ' 110102 110204', [1, 2, 4],
+     [LOW, HALF, ((0, 0, 0), [(3, 0), (3, 2), (2, 0)])]),
+    ('the end of a low claim', '01 03 02 110001', [1, 2], [((0, 0, 0), [(2, 0)])]),
+    ('the end of one for more', INNER + ' 110103', [1, 2],
+     [LOW, ((1, 0, 2), [(2, 0)]), ((1, 3, 0), [(2, 0)]), ((0, 0, 0), [(2, 0)])]),
+    ('the most times', '01 03 02 110001', [1, 2], [((0, 0, 0), [(2, 0), (2, 0)])]),
+    ('exact', '01 01 03 03 03 02 02 110103 110204 12010302 110406', [2, 3, 6],
+     [((1, 0, 0), [(2, 0), (3, 0), (4, 0)]), ((0, 0, 0), [(5, 0)])]),
+    ('the own gaps of its loop', '01 01 03 01 03 02 02 02 110102 110305 110407', [2, 4, 7],
+     [((3, 0, 0), [(3, 0)]), LOW, ((0, 0, 0), [(4, 0)])]),
+    ('a fact of its loop', INNER + ' 110002 110203', [1, 3, 4],
+     [((1, 0, 0), [(3, 0)]), ((1, 3, 2), [(3, 0), (1, 0)]), ((0, 0, 0), [(2, 0), (3, 2), (2, 0)])]),
+    ('a fact up to', INNER + ' 110203', [1, 3], [LOW, OTHER, ((0, 0, 0), [(2, 2), (2, 0)])]),
+    ('a claim of its loop', INNER + ' 110004', [1, 4],
+     [((1, 0, 2), [(1, 0)]), ((1, 3, 0), [(0, 0)]), ((0, 0, 0), [(2, 0), (2, 0)])]),
+    ('none from on', INNER + ' 110102', [1, 2], [LOW, HALF, ((0, 0, 0), [(2, 0)])]),
+    ('none up to', INNER + ' 110203', [1, 3], [LOW, OTHER, ((0, 0, 0), [(2, 0)])])]
 
 
 def placement(gaps: list[int]) -> bytes:
@@ -60,6 +93,13 @@ def known_papers(tally: Tally) -> None:
         tally.check(f'{name} {gaps} {lines!r}', said is not None and said[0] == line and why in said[1], said)
     for lines in UNREAD:
         tally.check(f'{lines[:40]!r} is not read', reads(EXAMPLES['p'], KEYS['p'], lines) is None)
+
+
+def needed(tally: Tally) -> None:
+    """Every condition counts: without it an argument for a placement that is no key would hold."""
+    for name, paper, gaps, claims in NEEDED:
+        said = reads(paper.replace(' ', '\n').encode() + b'\n', gaps, lines(claims))
+        tally.check(f'{name}: {said}', said is not None and said[1] != '')
 
 
 def typed(tally: Tally, folder: pathlib.Path) -> None:
@@ -167,13 +207,58 @@ def sound(tally: Tally, papers: int) -> None:
     tally.check('and that do not', refused > papers, refused)
 
 
+def argued(tally: Tally, many: int) -> None:
+    """Small papers: the argument of the key holds, and no damage makes one hold of a placement that is no key."""
+    rng, damaged = random.Random('argued'), 0
+    for _ in range(many):
+        small = Small(rng)
+        if b'\n13' in small.text:
+            continue
+        made = Arguer(small.text)
+        said = reads(small.text, made.key, lines(made.claims))
+        tally.check(f'{small.text!r} {made.key}: {said}', said == (0, '') and small.is_key({*made.key}))
+        for _ in range(20):
+            rows = lines(made.claims).split()
+            for _ in range(rng.randrange(1, 4)):
+                if rows:
+                    at = rng.randrange(len(rows))
+                    row = bytearray.fromhex(rows[at].decode())
+                    row[rng.randrange(len(row))] = rng.randrange(small.size)
+                    rows[at:at + 1] = rng.choice([[], [rows[at]] * 2, [row.hex().encode()]])
+            gaps = rng.choice(small.correct)
+            if reads(small.text, sorted(gaps), b''.join(row + b'\n' for row in rows)) == (0, ''):
+                damaged += 1
+                tally.check(f'{small.text!r} {sorted(gaps)} {rows} holds', small.is_key(gaps))
+    tally.check('damaged arguments that hold', damaged > many // 2, damaged)
+
+
+def full_size(tally: Tally) -> None:
+    """Papers of 256 points: the argument of the key holds, not of one barrier more or less, and not cut short."""
+    for kind in papers.KINDS + papers.FOUND:
+        text = papers.text(kind)
+        made = Arguer(text)
+        rows = lines(made.claims)
+        said = reads(text, made.key, rows)
+        tally.check(f'{kind}: {said}', said == (0, '') and len(made.claims) <= argument.CLAIMS)
+        more = next(gap for gap in range(1, made.size) if gap not in made.key)
+        for gaps in (sorted([*made.key, more]), made.key[1:]):
+            said = reads(text, gaps, rows)
+            tally.check(f'{kind}, {len(gaps)} barriers', said is not None and said[1] != '', said)
+        short = rows[:rows.rindex(b'31000000')] if made.cost[0] else b''
+        said = reads(text, made.key, short)
+        tally.check(f'{kind}, cut short', said is not None and said[1] != '', said)
+
+
 def main() -> None:
     folder = ROOT / 'target' / 'arguments'
     folder.mkdir(parents=True, exist_ok=True)
     tally = Tally()
     known_papers(tally)
+    needed(tally)
     typed(tally, folder)
-    sound(tally, 600)
+    sound(tally, 300)
+    argued(tally, 600)
+    full_size(tally)
     tally.close()
 
 
