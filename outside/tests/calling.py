@@ -30,7 +30,8 @@ def missing(tally: Tally, folder: pathlib.Path) -> None:
     tally.check('04 for such a DO', paper.read_bytes().startswith(b'01\n03\n04\n03\n03\n02\n'), paper.read_bytes())
     shown = run(DESK, 'show', paper).out
     tally.check('shown', b'|   DO L2 may not run\n' in shown and spelled(shown, '') == paper.read_bytes(), shown)
-    tally.check('checked', b'2 dependences, 1 loop that may not run (loop 2)\n' in run(DESK, 'check', paper).out)
+    told = b'2 dependences, 1 loop that may not run (loop 2)\nloop 2 needs a barrier for its missing run: '
+    tally.check('checked', told in run(DESK, 'check', paper).out, run(DESK, 'check', paper))
     drawn = run(DESK, 'draw', paper).out
     dashed = drawn.count(b'class="box d2 flagged"') == 1
     tally.check('drawn', dashed and b'DO loop 2, may not run' in drawn, drawn[:300])

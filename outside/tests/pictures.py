@@ -71,7 +71,7 @@ def barred(tally: Tally, folder: pathlib.Path) -> None:
     tally.check('three bands', bands == [b'1', b'2', b'4'] and seen.status == 0, seen)
     tally.check('the sign', any('barred gap' in word for word in words), words)
     told = 'carried by loop 0, 4 to 1: gaps 1 and 5 to 6; barred 1; cut by 6'
-    tally.check('a caption', told in words and 'barred 1 to 2, 4; UNCUT' in ' '.join(words), words)
+    tally.check('a caption', told in words and 'barred 1, 2, 4; UNCUT' in ' '.join(words), words)
     seen = run(DRAW, ROOT / 'examples' / 'r.hex')
     bars = b'class="gap barred' in seen.out or 'barred' in ' '.join(words_of(texts_of(seen)))
     tally.check('no band', not bars and seen.status == 0, seen)
