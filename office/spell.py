@@ -31,8 +31,11 @@ def arguments(parser: argparse.ArgumentParser) -> None:
 
 def main(asked: argparse.Namespace) -> None:
     text, names = spelled_with_names(read_in(asked.listing), asked.listing)
-    hand_over(asked, text, 'paper', is_paper)
     beside = None if asked.output in (None, '-') else os.path.splitext(asked.output)[0] + SUFFIX
     place = asked.names or (beside if names else None)
+    if beside is not None:  # names of a paper that is not written would be of nothing
+        hand_over(asked, text, 'paper', is_paper)
     if place is not None:
         write_over(place, names_text(text, names), begins=BEGINS)
+    if beside is None:
+        hand_over(asked, text, 'paper', is_paper)

@@ -1,1 +1,1 @@
-// Arguments on the page of the demands: the statement in specs/, its proof in proofs/; no code.
+// Arguments on the page of the demands: what one that holds is worth there, in proofs/; no code.

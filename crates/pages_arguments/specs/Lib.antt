@@ -1,2 +1,0 @@
--- What an argument is worth, in the words of the page of the demands.
-pub mod Argued
