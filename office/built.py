@@ -40,10 +40,10 @@ class Noted:
 
 @dataclass(frozen=True)
 class Made:
-    """A thing that is built: what it is, its file, what it is made of, what by, and how."""
+    """A thing that is built: what it is, its file, the crate that it is made of, or else a file, what by, and how."""
     what: str
     file: pathlib.Path
-    sources: Callable[[], Iterator[str]]
+    source: str | pathlib.Path
     tool: str
     make: Callable[[], None]
 
@@ -51,15 +51,30 @@ class Made:
     def stamp(self) -> pathlib.Path:
         return STAMPS / self.file.name
 
+    def sources(self) -> Iterator[str]:
+        """The files that it is made of: the list of crates, and the files of its crate and of all crates below."""
+        if isinstance(self.source, pathlib.Path):
+            yield str(self.source)
+        else:
+            yield str(LIST)
+            for name in rows_of(self.source):
+                yield from files_in(f'{ROOT}/crates/{name}', PARTS)
 
-def sources_of(crate: str) -> Iterator[str]:
-    """What a crate is proved and built from: the list of crates, its own files, and those of all crates below it."""
-    yield str(LIST)
-    listed = {name: below.split() for name, below in re.findall(r'^(\w+):(.*)$', LIST.read_text(), re.M)}
+    def sha256_of(self, path: str) -> str:
+        """The hash of a file; of the list of crates that of the rows that matter."""
+        if path == str(LIST):
+            return hashlib.sha256(repr(rows_of(str(self.source))).encode()).hexdigest()
+        with open(path, 'rb') as opened:
+            return hashlib.sha256(opened.read()).hexdigest()
+
+
+def rows_of(crate: str) -> dict[str, list[str]]:
+    """A crate and all below it in the list of crates, each with those that it uses."""
+    listed = {name: used.split() for name, used in re.findall(r'^(\w+):(.*)$', LIST.read_text(), re.M)}
     names = [crate]
     for name in names:
-        names += [below for below in listed.get(name, []) if below in listed and below not in names]
-        yield from files_in(f'{ROOT}/crates/{name}', PARTS)
+        names += [used for used in listed.get(name, []) if used in listed and used not in names]
+    return {name: listed.get(name, []) for name in names}
 
 
 def files_in(folder: str, parts: Collection[str] = ()) -> Iterator[str]:
@@ -90,9 +105,8 @@ def prove_program() -> None:
         step('rt', 'check', 'key')
 
 
-LIBRARY = (Made('library', ARCHIVE, lambda: sources_of('host'), 'rt', prove_archive),
-           Made('library', SHARED, lambda: iter([str(ARCHIVE)]), 'gcc', link))
-KEY = Made('program', PROGRAM, lambda: sources_of('key'), 'rt', prove_program)
+LIBRARY = (Made('library', ARCHIVE, 'host', 'rt', prove_archive), Made('library', SHARED, ARCHIVE, 'gcc', link))
+KEY = Made('program', PROGRAM, 'key', 'rt', prove_program)
 
 
 def build_library(name: str = 'desk') -> None:
@@ -126,7 +140,7 @@ def wanting(made: Made) -> str:
         return f'is of other sources: {called(path)} {"came" if path in there else "went"} since'
     unsure = [path for path in there if not as_noted(path, noted[path])]
     for path in unsure:
-        if sha256_of(path) != noted[path].sha256:
+        if made.sha256_of(path) != noted[path].sha256:
             return f'is of other sources: {called(path)} was changed since'
     if unsure:
         with contextlib.suppress(OSError):  # the next look takes longer, that is all
@@ -138,7 +152,7 @@ def make_anew(made: Made, name: str, reason: str) -> None:
     """Builds a thing and notes what it was built of. The one before goes first: nothing is answered with it."""
     if not shutil.which(made.tool):
         raise Fault(f'the {made.what} {reason}, and there is no {made.tool} to build it with')
-    before = {path: noted_now(path, sha256_of(path)) for path in made.sources()}
+    before = {path: noted_now(path, made.sha256_of(path)) for path in made.sources()}
     made.stamp.unlink(missing_ok=True)
     made.file.unlink(missing_ok=True)
     if made.tool == 'rt':
@@ -149,10 +163,10 @@ def make_anew(made: Made, name: str, reason: str) -> None:
         say(f' done in {time.monotonic() - began:.0f} s\n')
     if not made.file.exists():
         raise Fault(f'the {made.what} could not be built: {made.tool} made nothing')
-    if {path: sha256_of(path) for path in made.sources()} != {path: noted.sha256 for path, noted in before.items()}:
+    if {path: made.sha256_of(path) for path in made.sources()} != {path: was.sha256 for path, was in before.items()}:
         raise Fault(f'sources of the {made.what} were changed while it was being built: try again')
     file = str(made.file)
-    note(made, before | {file: noted_now(file, sha256_of(file))}, tool_here(made))
+    note(made, before | {file: noted_now(file, made.sha256_of(file))}, tool_here(made))
 
 
 @contextlib.contextmanager
@@ -177,7 +191,8 @@ def noted_of(made: Made) -> dict[str, Noted]:
         lines = made.stamp.read_text().splitlines()
     except (OSError, ValueError):
         return {}
-    found = [re.fullmatch(r'([0-9a-f]{64}) (\d+) (\d+) (.+)', line) for line in lines if not line.startswith(BY)]
+    lines = [line for line in lines if not line.startswith(BY)]
+    found = [re.fullmatch(r'([0-9a-f]{64}) (\d+) (\d+) (.+)', line) for line in lines]
     if not all(found):
         return {}
     return {f'{ROOT}/{line[4]}': Noted(line[1], int(line[2]), int(line[3])) for line in found if line}
@@ -187,8 +202,8 @@ def note(made: Made, files: dict[str, Noted], by: str = '') -> None:
     """Writes a stamp, of the same tool as before if no other is named; at every moment the old one or the new one is
     there, whole."""
     beside = STAMPS / f'{made.file.name}.{os.getpid()}'
-    beside.write_text(f'{BY}{by or built_by(made)}\n' + ''.join(f'{noted.sha256} {noted.size} {noted.changed} {called(path)}\n'
-                              for path, noted in sorted(files.items())))
+    lines = [f'{noted.sha256} {noted.size} {noted.changed} {called(path)}\n' for path, noted in sorted(files.items())]
+    beside.write_text(''.join([f'{BY}{by or built_by(made)}\n', *lines]))
     os.replace(beside, made.stamp)
 
 
@@ -223,11 +238,6 @@ def noted_now(path: str, sha256: str) -> Noted:
 def as_noted(path: str, noted: Noted) -> bool:
     now = os.stat(path)
     return (now.st_size, now.st_ctime_ns) == (noted.size, noted.changed)
-
-
-def sha256_of(path: str) -> str:
-    with open(path, 'rb') as opened:
-        return hashlib.sha256(opened.read()).hexdigest()
 
 
 def step(*command: str) -> None:

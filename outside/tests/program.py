@@ -163,7 +163,8 @@ def other_machines(tally: Tally, folder: pathlib.Path) -> None:
     rt('exit 1')
     tally.check('built once', asked() == answered, asked())
     source.write_text('// one\n')
-    tally.check('a source that was touched', asked() == answered, asked())
+    (root / 'crates.txt').write_text('# Two.\nother: key\nkey:\n')
+    tally.check('a source that was touched, a crate more', asked() == answered, asked())
     before = source.stat().st_mtime_ns
     source.write_text('// two\n')
     os.utime(source, ns=(before, before))
