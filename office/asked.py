@@ -121,7 +121,8 @@ def placement_asked(argument: str, desk: Desk) -> bytes:
     if not is_file(argument):
         words = re.findall('[0-9]+', argument)
         if any(len(word) > LONG for word in words):
-            raise Fault(f'a number of more than {LONG} digits is no gap: {gaps_told(len(desk.nest.points), texts=False)}')
+            there = gaps_told(len(desk.nest.points), texts=False)
+            raise Fault(f'a number of more than {LONG} digits is no gap: {there}')
         return placement_of([*map(int, words)], desk)
     if re.match('[0-9]', argument) and not os.path.lexists(argument):
         raise Fault(f'{printable(argument)} is no file, and no list of gaps: they are decimal, with commas between')
@@ -185,5 +186,6 @@ def turns_cause(nest: Nest, turns: bytes, ask: Ask) -> str:
     for at, d in enumerate(loops):
         fits = [many for many in range(256) if ask(base[:at] + bytes([many]) + base[at + 1:]) is None]
         if turns[at] not in fits:
-            return f'loop {d} may have {fits[0]} to {fits[-1]} turns, and {turns[at]} are given'
+            verb = 'is' if turns[at] == 1 else 'are'
+            return f'loop {d} may have {fits[0]} to {fits[-1]} turns, and {turns[at]} {verb} given'
     return RULES[17]

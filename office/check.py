@@ -13,7 +13,7 @@ from office.words import counted, spoken
 
 HELP = 'tells whether papers are accepted, and what is wrong with them in words'
 MORE = """A paper that is accepted but can have no key is told as well, and has status 1 too. A folder stands for the
-files *.hex in it. That a paper is hard for people is advice, and no fault.
+texts and listings in it, the files *.hex and *.txt. That a paper is hard for people is advice, and no fault.
 
   ./desk check paper.hex
   ./desk check papers
@@ -89,7 +89,8 @@ class Checked:
 
 
 def main(asked: argparse.Namespace) -> None:
-    files = [file for place in asked.papers for file in (files_in(place) if os.path.isdir(place) else [place])]
+    files = [file for place in asked.papers for file in (
+        files_in(place, ('.hex', '.txt')) if os.path.isdir(place) else [place])]
     checked: list[Checked] = []
     for file in files:
         checked.append(one := Checked(file))
@@ -98,7 +99,7 @@ def main(asked: argparse.Namespace) -> None:
             write_out(''.join(f'{named}{line}\n' for line in one.words).encode())
         if one.fault is not None and (len(files) > 1 or asked.json):
             tell('desk', str(one.fault))
-        done(f'{counted(len(checked), "paper")} of {len(files)} were checked')
+        done(f'{len(checked):,} of {counted(len(files), "paper")} checked')
     if asked.json:
         write_json([one.told for one in checked])
     faults = [one.fault for one in checked if one.fault is not None]

@@ -123,14 +123,14 @@ def read_in(file: str) -> bytes:
     return read_from(0 if file == '-' else file, file)
 
 
-def files_in(folder: str) -> list[str]:
-    """The texts in a folder, in the order of their names."""
+def files_in(folder: str, endings: tuple[str, ...] = ('.hex',)) -> list[str]:
+    """The files in a folder with one of the endings, in the order of their names."""
     try:
-        names = sorted(name for name in os.listdir(folder) if name.endswith('.hex'))
+        names = sorted(name for name in os.listdir(folder) if name.endswith(endings))
     except OSError as fault:
         raise Fault(f'cannot read {printable(folder)}: {fault.strerror}') from fault
     if not names:
-        raise Fault(f'{printable(folder)} is a folder with no file *.hex in it')
+        raise Fault(f'{printable(folder)} is a folder with no file {" or ".join(f"*{one}" for one in endings)} in it')
     return [os.path.join(folder, name) for name in names]
 
 

@@ -13,9 +13,9 @@ STATUS = 'Status: 0 done, 1 refused, 2 bad usage or a file that cannot be read o
 # The commands, each with its module.
 COMMANDS = {'check': 'check', 'show': 'show', 'spell': 'spell', 'key': 'key', 'mark': 'mark', 'collect': 'collect',
             'register': 'view', 'export': 'export', 'slip': 'slip', 'certificate': 'certificate', 'verify': 'verify',
-            'audit': 'audit', 'take-in': 'take_in', 'why': 'why', 'draw': 'draw', 'program': 'c_program', 'join': 'join',
-            'calls': 'calls', 'textbook': 'textbook', 'missing': 'missing', 'improve': 'improve', 'sheet': 'sheet',
-            'sit': 'sit', 'story': 'story', 'manual': 'manual'}
+            'audit': 'audit', 'take-in': 'take_in', 'why': 'why', 'draw': 'draw', 'program': 'c_program',
+            'join': 'join', 'calls': 'calls', 'textbook': 'textbook', 'missing': 'missing', 'improve': 'improve',
+            'sheet': 'sheet', 'sit': 'sit', 'story': 'story', 'manual': 'manual'}
 ASKS_HELP = ('help', '--help', '-h')
 
 

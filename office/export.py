@@ -44,7 +44,7 @@ class Export:
         if mark.answer is not None and not faults:
             self.notes += mark.verdict == REFUSED
             self.written += mark.verdict != REFUSED
-        done(f'{counted(self.written, "answer")} with slips and {counted(self.notes, "note")} were written; the same '
+        done(f'{counted(self.written, "answer")} with slips and {counted(self.notes, "note")} written; the same '
              'command goes on')
 
     def made(self, mark: Mark) -> Made:

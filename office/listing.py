@@ -11,7 +11,7 @@ from office.command import REFUSED, Fault, nearest, printable
 from office.frames import BARRED, CARRIED, DO, ENDDO, FLAGGED, INDEPENDENT, STATEMENT, text_of
 from office.library import Desk, refusal_of
 from office.refusal import Refusal
-from office.taken import SAVED, in_one_form, is_utf16
+from office.taken import PAPER, SAVED, in_one_form, is_utf16
 
 ARROWS = ('->', '→')
 LETTERS = 'a name has letters of any script, digits and _, and begins with a letter'
@@ -329,6 +329,8 @@ def spelled_with_names(text: bytes, file: str) -> tuple[bytes, dict[int, str]]:
     """The text of a listing, which the desk accepts, and the names of its points, but for those that loops share."""
     if is_utf16(text):
         raise Fault(f'{printable(file)}: {SAVED}', REFUSED)
+    if PAPER.fullmatch(text):
+        raise Fault(f'{printable(file)}: this is the text of a paper: ./desk show makes a listing of it', REFUSED)
     typed = Typed(printable(file), in_one_form(text.decode('utf-8-sig', 'replace')).split('\n'))
     listing, number = Listing(), 0
     try:

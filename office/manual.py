@@ -16,7 +16,7 @@ BEGINS = b'.\\" desk: '
 
 
 def arguments(parser: argparse.ArgumentParser) -> None:
-    parser.add_argument('command', metavar='COMMAND', nargs='?', help='the command; the page of ./desk if none is named')
+    parser.add_argument('command', metavar='COMMAND', nargs='?', help='the command; ./desk itself if none is named')
     parser.add_argument('--into', metavar='DIR', help='writes all pages into a folder: desk.1, desk-check.1 and so on')
 
 

@@ -73,8 +73,8 @@ class Marking:
                 self.hand_out(self.slips, answer, answer.text)
             self.done.append(answer)
         if self.register is None:
-            slips = '' if self.slips is None else ', and have their slips'
-            done(f'{counted(len(self.done), "answer")} were marked{slips}; no row was written')
+            slips = '' if self.slips is None else ', with their slips'
+            done(f'{counted(len(self.done), "answer")} marked{slips}; no row was written')
 
     def kept(self, answers: list[Answer]) -> list[tuple[Answer, str]]:
         """Answers, each with why the register did not take it, or nothing."""

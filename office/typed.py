@@ -38,7 +38,7 @@ class Line:
             found.append('it has capital digits: type a to f small')
         strange = sorted({c for c in digits if c not in SMALL + CAPITAL + SPACES})
         if strange:
-            found.append('no digits: ' + ' '.join(repr(bytes([c]))[2:-1] for c in strange[:8]))
+            return ['it has what are no digits: ' + ' '.join(repr(bytes([c]))[2:-1] for c in strange[:8])]
         if not digits:
             found.append('it is empty: take the line out')
         elif not found and len(digits) % 2 == 1:
