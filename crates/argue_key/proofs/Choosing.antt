@@ -24,7 +24,8 @@ use Rattle.plan_method.proofs.World.{Lawful}
 use Rattle.plan_method.proofs.Instance.{LineAt, BackAt, worldOf, AllFit}
 use Rattle.argue_claims.specs.Arguments.{Claim, depAt, inSet, isSet}
 use Rattle.argue_claims.proofs.Listed.{dep-among}
-use Rattle.argue_key.specs.Laps.{Start, starting, isBack, lastBack, lineNum, suffixOf, lapNeed, lapSet}
+use Rattle.argue_key.specs.Laps.{Start, starting, isBack, startsLater, lastBack, lineNum, suffixOf}
+use Rattle.argue_key.specs.Laps.{lapNeed, lapSet}
 use Rattle.argue_key.proofs.Traces.{Sets}
 
 -- a dependence by its number
@@ -68,10 +69,10 @@ pub last-back : (ps : List ℕ) (d f : ℕ) (ds : List Dep) → LastBack ps d f 
 unfolding lastBack
 last-back ps d f [] = record { found = λ z. absurd (omega arith); most = λ e m h. absurd m }
 last-back ps d f (x ∷ xs) =
-    go (isBack ps d f x && ltb (lastBack ps d f xs .at) (suc (x .s))) refl (lastBack ps d f xs) refl
+    go (isBack ps d f x && startsLater (lastBack ps d f xs) x) refl (lastBack ps d f xs) refl
     (last-back ps d f xs)
   where
-    go : (b : Bool) → (isBack ps d f x && ltb (lastBack ps d f xs .at) (suc (x .s))) ≡ b → (r : Start) →
+    go : (b : Bool) → (isBack ps d f x && startsLater (lastBack ps d f xs) x) ≡ b → (r : Start) →
         lastBack ps d f xs ≡ r → LastBack ps d f xs r →
         LastBack ps d f (x ∷ xs) (pick b (starting (suc (x .s)) 0) (starting (r .at) (suc (r .num))))
     go true z r w l =

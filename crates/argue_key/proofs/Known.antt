@@ -19,7 +19,7 @@ use Rattle.paper_nests.specs.Loops.{ownerOf, isAround, inLoop}
 use Rattle.paper_placements.specs.Placements.{loopCount}
 use Rattle.argue_claims.specs.Arguments.{Claim, Known, Fact, knownAt, factOut, knownOut, says, isOut}
 use Rattle.argue_claims.specs.Arguments.{hasLow}
-use Rattle.argue_key.specs.Laps.{findClaim}
+use Rattle.argue_key.specs.Laps.{isFrom, findClaim}
 
 -- ---- claims and what is known of them, place by place
 
@@ -58,10 +58,10 @@ found [] [] m l a t k h x v y z = absurd h
 found [] (j ∷ ks) m l a t k h x v y z = absurd m
 found (c ∷ cs) [] m l a t k h x v y z = absurd m
 found (c ∷ cs) (j ∷ ks) m l a t k h x pos y z =
-    go (eqb (c .loop) l && ((ltb 0 (c .from) && leb (c .from) a) && eqb (suc (c .upto)) t)) refl h
+    go (isFrom c l a t) refl h
     (λ i. found cs ks (m .1) l a t k i x pos y z)
   where
-    go : (b : Bool) → (eqb (c .loop) l && ((ltb 0 (c .from) && leb (c .from) a) && eqb (suc (c .upto)) t)) ≡ b →
+    go : (b : Bool) → isFrom c l a t ≡ b →
         (k ≡ j) ⊎ Among k ks →
         (Among k ks → Found ks l a t (findClaim cs l a t)) →
         Found (j ∷ ks) l a t (pick b 0 (suc (findClaim cs l a t)))

@@ -20,7 +20,8 @@ use Rattle.plan_method.proofs.Walk.{AtChild}
 use Rattle.argue_claims.specs.Arguments.{Step, Claim, Known, Count, st, leads, isOut, run, lots}
 use Rattle.argue_claims.proofs.Lots.{lots-suc}
 use Rattle.argue_claims.proofs.Listed.{run-joined}
-use Rattle.argue_key.specs.Laps.{trace, lapNeed, lapSet, closeUp, closeStep, lapSwept, lapEnd, lapSteps, laps}
+use Rattle.argue_key.specs.Laps.{trace, lapNeed, lapSet, closeUp, closeStep, isEnough, lapSwept, lapEnd}
+use Rattle.argue_key.specs.Laps.{lapSteps, laps}
 use Rattle.argue_key.proofs.Traces.{Sets, KidSays, Traced, traced, step-fine, step-most}
 
 module _
@@ -205,9 +206,9 @@ module _
     unfolding laps
     laps-enough zero i f x fuel u w c b = absurd (omega (arith, fuel, w))
     laps-enough (suc j) i f x fuel u w c b =
-        go (ltb few (endAt f .c)) refl (lap-ended f u w i x b) (laps-enough j (suc i) (endAt f .f))
+        go (isEnough few (endAt f .c)) refl (lap-ended f u w i x b) (laps-enough j (suc i) (endAt f .f))
       where
-        go : (t : Bool) → ltb few (endAt f .c) ≡ t →
+        go : (t : Bool) → isEnough few (endAt f .c) ≡ t →
             Ended f (lapNeed (n .points) (n .deps) d (k .from) f) (lapSet (n .points) (n .deps) d (k .from) f)
             (sets f u w)
             upto-in i x b w (endAt f) (run n key k ks (stepsAt f) x) →

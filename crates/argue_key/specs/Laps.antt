@@ -55,12 +55,15 @@ starting a m = record { at = a; num = m }
 abbrev pub isBack : List ℕ → ℕ → ℕ → Dep → Bool
 isBack ps d f e = not (eqb (e .kind) INDEPENDENT) && (eqb (homeOf ps e) d && ltb (e .t) f)
 
+abbrev pub startsLater : Start → Dep → Bool
+startsLater r e = ltb (r .at) (suc (e .s))
+
 -- of these one with the greatest start, and its number; start 0 for none
 unfoldable pub lastBack : List ℕ → ℕ → ℕ → List Dep → Start
 lastBack ps d f [] = starting 0 0
 lastBack ps d f (e ∷ es) =
     let r = lastBack ps d f es in
-    pick (isBack ps d f e && ltb (r .at) (suc (e .s))) (starting (suc (e .s)) 0) (starting (r .at) (suc (r .num)))
+    pick (isBack ps d f e && startsLater r e) (starting (suc (e .s)) 0) (starting (r .at) (suc (r .num)))
 
 -- the number of an independent dependence with home d and the gaps a … t
 unfoldable pub lineNum : List ℕ → ℕ → ℕ → ℕ → List Dep → ℕ
@@ -89,6 +92,10 @@ closeUp d upto s = pick (ltb 0 upto && ltb upto (s .f)) (put d s) s
 unfoldable pub closeStep : ℕ → ℕ → List Step
 closeStep upto f = pick (ltb 0 upto && ltb upto f) (st 1 0 ∷ []) []
 
+-- a lap's count is more than `few`
+abbrev pub isEnough : ℕ → ℕ → Bool
+isEnough few c = ltb few c
+
 module _ (ps : List ℕ) (ds : List Dep) (T : Tables) (lead : ℕ → ℕ → ℕ) (d from upto few : ℕ) where
   unfoldable pub lapSwept : ℕ → State
   lapSwept f = sweep (loopsIn ps) T (lapNeed ps ds d from f) d
@@ -106,7 +113,7 @@ module _ (ps : List ℕ) (ds : List Dep) (T : Tables) (lead : ℕ → ℕ → �
   laps zero f = []
   laps (suc j) f =
       let r = laps j (lapEnd f .f) in
-      pick (ltb few (lapEnd f .c)) (lapSteps f) (lapSteps f ++ r)
+      pick (isEnough few (lapEnd f .c)) (lapSteps f) (lapSteps f ++ r)
 
 -- one less, or 0
 abbrev pub before : ℕ → ℕ
@@ -130,12 +137,15 @@ unfoldable pub stepsFor : List ℕ → List Dep → Tables → (ℕ → ℕ → 
 stepsFor ps ds T lead h =
     laps ps ds T lead (h .loop) (h .from) (h .upto) (fewFor T h) (suc (suc (endOf ps (h .loop)))) (suc (h .loop))
 
--- the number of a claim made before, from a gap up to a
+-- the claim says of loop l: if there is one from some gap up to a on, none before t
+abbrev pub isFrom : Claim → ℕ → ℕ → ℕ → Bool
+isFrom k l a t = eqb (k .loop) l && ((ltb 0 (k .from) && leb (k .from) a) && eqb (suc (k .upto)) t)
+
+-- the number of such a claim among those made before
 unfoldable pub findClaim : List Claim → ℕ → ℕ → ℕ → ℕ
 findClaim [] l a t = 0
 findClaim (k ∷ ks) l a t =
-    pick (eqb (k .loop) l && ((ltb 0 (k .from) && leb (k .from) a) && eqb (suc (k .upto)) t)) 0
-    (suc (findClaim ks l a t))
+    pick (isFrom k l a t) 0 (suc (findClaim ks l a t))
 
 abbrev pub leadIn : Tables → List Claim → ℕ → ℕ → ℕ
 leadIn T cs l b = findClaim cs l b (T .left l b)
