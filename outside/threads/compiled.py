@@ -49,7 +49,8 @@ class Programs:
         """The program of a paper."""
         self.paper.write_bytes(text)
         seen = run(DESK, 'program', self.paper, *gaps, '-o', self.source)
-        self.tally.check('written', seen == Seen(b'', '', 0), seen)
+        told = '' if text else f'desk: {self.paper} is empty: it is taken as the blank paper\n'
+        self.tally.check('written', seen == Seen(b'', told, 0), seen)
         return self.source.read_text()
 
     def ran(self, source: str, *options: str, compiler: str = 'gcc', start: tuple[str, ...] = ()) -> Seen:
@@ -195,7 +196,7 @@ def files(tally: Tally, folder: pathlib.Path) -> None:
     blocked.write_bytes(b'01\n03\n03\n02\n110102\n1302\n')
     for name, asked, word, status in [
             ('a refused paper', [bad], 'number 4', 1), ('a blocked paper', [blocked], 'number 15', 1),
-            ('a barred gap', [blocked, '2'], 'barred on this paper', 2), ('no gap', [p, '14'], 'no gaps of this', 2),
+            ('a barred gap', [blocked, '2'], 'gap 2 is barred', 2), ('no gap', [p, '14'], 'gap 14 is none of', 2),
             ('no paper', [folder / 'none.hex'], 'cannot read', 2), ('a bad placement', [p, bad], 'line 1 is refu', 1)]:
         for output in ([], ['-o', mine]):
             seen = run(DESK, 'program', *asked, *output)
