@@ -54,6 +54,7 @@ def certificate_page(office: Office, called: str, on: OnDesk, mark: Mark, at: st
             f'<p>has placed the barriers of paper <b><bdi>{paper}</bdi></b> with the mark <b>{BEST}</b>.</p>\n',
             facts(told), f'<h2>What {BEST} claims</h2>\n<div class="claim">\n{paragraphs([CLAIM])}</div>\n',
             f'<h2>Number</h2>\n<p class="number">{number}</p>\n<h2>How to check it</h2>\n<div class="claim">\n'
-            f'<p>{html.escape(CHECK)} <code>{as_called("./desk verify")} REGISTER {number}</code>. {html.escape(AGAIN)}</p>\n</div>\n',
+            f'<p>{html.escape(CHECK)} <code>{as_called("./desk verify")} REGISTER {number}</code>. '
+            f'{html.escape(AGAIN)}</p>\n</div>\n',
             f'<div class="signed">\n<p>{html.escape(office.place)}, {at[:10]}</p>\n<p>For the office</p>\n</div>\n']
     return document(KIND, f'Certificate {number}: {called}, {on.text.name}', STYLE, ''.join(body))

@@ -1,5 +1,8 @@
 """How ./desk and ./draw begin, before anything else is imported: with a Python that can read the rest, a standard error
-that no file takes the place of, and an end without a traceback for whoever stops it at once."""
+that no file takes the place of, and an end without a traceback for whoever stops it at once.
+
+  python3 -m office.start MODULE NAME ...    begins so, and goes on with a module of the office; ./key asks for it
+"""
 import os
 import signal
 import sys
@@ -23,3 +26,9 @@ def begin(name):  # type: (str) -> None
             os.close(nowhere)
     if signal.getsignal(signal.SIGINT) is signal.default_int_handler:
         signal.signal(signal.SIGINT, signal.SIG_DFL)  # until command.run takes it over
+
+
+if __name__ == '__main__':
+    begin(sys.argv[2])
+    import runpy
+    runpy.run_module('office.' + sys.argv.pop(1), run_name='__main__', alter_sys=True)

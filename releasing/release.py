@@ -12,7 +12,7 @@ from office.version import library_sha256, version
 from releasing.archives import debian, tarball
 from releasing.tree import Release, tree_of
 
-HELP = """Proves and builds what is needed of this commit and makes two packages of the same tree in dist/, for machines that
+HELP = """Proves and builds what is needed of this commit and makes two packages of one tree in dist/, for machines that
 have python3 alone: marking-desk-VERSION-x86_64.tar.gz, to be unpacked anywhere, and marking-desk_VERSION_amd64.deb for
 Debian. The same commit, kit and compiler give the same bytes. Their SHA-256 are written to standard output."""
 STATUS = 'Status: 0 done, 2 what is there is no commit, or cannot be built or written.'

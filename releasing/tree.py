@@ -68,5 +68,6 @@ def filled(name: str, release: Release) -> File:
 
 def tracked(*places: str) -> list[str]:
     """The files of the commit at some places."""
-    listed = subprocess.run(['git', 'ls-files', '-z', '--', *places], cwd=ROOT, capture_output=True, text=True, check=True)
+    listed = subprocess.run(['git', 'ls-files', '-z', '--', *places], cwd=ROOT, capture_output=True, text=True,
+                            check=True)
     return [path for path in listed.stdout.split('\0') if path and pathlib.Path(ROOT, path).is_file()]

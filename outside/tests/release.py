@@ -28,7 +28,7 @@ WHEN = {name: f'{who}@localhost' if 'EMAIL' in name else '2026-01-01T00:00:00Z' 
                                          for what in ('NAME', 'EMAIL', 'DATE')]}
 # Runs a command where a folder is mounted so that nobody can write there, as one who owns nothing.
 MOUNTED = 'mount --bind {0} {0} && mount -o remount,bind,ro {0} && exec ' + NOBODY
-ANSWER = 'exec python3 -c "import sys, runpy, os; {}; sys.argv = [\'desk\']; runpy.run_path(\'{}\', run_name=\'__main__\')"'
+CHANGED = 'python3 -c "import os, runpy, sys; {}; runpy.run_path(\'{}\', run_name=\'__main__\')"'
 
 
 def cloned(place: pathlib.Path) -> pathlib.Path:
@@ -138,12 +138,12 @@ def day(tally: Tally, machine: Elsewhere) -> None:
     told = re.fullmatch(r'desk (.*)\nkey (.*)\n', seen.out.decode())
     library = run('sha256sum', machine.top / 'lib/libdesk.so').out.decode().split()[0]
     commit = (machine.top / 'lib/marking-desk/COMMIT').read_text()[:12]
-    tally.check('--version', told is not None and told[1] == told[2] == f'{VERSION}, commit {commit}, library {library}',
-                seen)
+    wanted = f'{VERSION}, commit {commit}, library {library}'
+    tally.check('--version', told is not None and told[1] == told[2] == wanted, seen)
     for line, word in [('desk mark --help', 'usage: desk mark '), ('key --help', 'usage: key PAPER')]:
         seen = machine.run(line)
         tally.check(line, seen.out.decode().startswith(word) and b'./' not in seen.out and seen.status == 0, seen)
-    for line, word in [('desk marks', 'desk --help says'), ('desk audit none.db', ': desk mark with --new'),
+    for line, word in [('desk marks', 'mean mark?; desk --help says'), ('desk audit none.db', ': desk mark with --new'),
                        ('key --words', 'no option --words: key --help')]:
         tally.check(line, machine.run(line).failed(word), machine.run(line))
     seen = machine.run('key', b'05\n')
@@ -175,10 +175,10 @@ def sitting(tally: Tally, machine: Elsewhere) -> None:
 def others(tally: Tally, machine: Elsewhere) -> None:
     """Another python, another machine: one sentence each."""
     for name, change, word in [
-            ('an old python', 'sys.version_info = (3, 9, 2)', 'needs Python 3.10 or later, and python3 is 3.9 here'),
+            ('an old python', 'sys.version_info = (3, 9, 2)', 'Python 3.10 or later is needed, and this is 3.9.2'),
             ('another machine', 'os.uname = lambda: (\'Linux\', 0, 0, 0, \'aarch64\')', 'this is Linux on aarch64'),
             ('another system', 'os.uname = lambda: (\'Darwin\', 0, 0, 0, \'x86_64\')', 'this is Darwin on x86_64')]:
-        seen = machine.run(ANSWER.format(change, machine.top / 'bin' / 'desk'))
+        seen = machine.run(CHANGED.format(change, machine.top / 'bin' / 'desk'))
         tally.check(name, seen.failed(word), seen)
 
 
@@ -202,7 +202,8 @@ def compiled(tally: Tally, folder: pathlib.Path, top: pathlib.Path) -> None:
         print('examples/desk.c was not compiled against a release: no pkg-config is here')
         return
     settings = {'PKG_CONFIG_PATH': f'{top}/lib/pkgconfig', 'LD_LIBRARY_PATH': f'{top}/lib'}
-    tally.check('its version', run('pkg-config', '--modversion', 'marking-desk', **settings).out.decode().strip() == VERSION)
+    seen = run('pkg-config', '--modversion', 'marking-desk', **settings)
+    tally.check('its version', seen.out.decode().strip() == VERSION, seen)
     source = top / 'share/doc/marking-desk/examples/desk.c'
     for kind, libraries in [('shared', '$(pkg-config --libs marking-desk)'), ('archive', f'{top}/lib/libdesk.a')]:
         program = folder / f'desk-{kind}'
