@@ -127,14 +127,15 @@ def listed_in(file: str, paper: str) -> dict[str, Candidate]:
 
 
 def answers_in(places: list[str]) -> list[str]:
-    """The files of answers: themselves, those in a folder, those that a list names, a line each."""
+    """The files of answers: themselves, those in a folder, those that a list names, a line each. A folder that is called
+    as an answer came by a pattern, and is none."""
     files: list[str] = []
     for place in places:
         if place.startswith('@'):
             named = read_in(place[1:]).decode('utf-8', 'surrogateescape').splitlines()
             files += answers_in([f'./{line}' if line.startswith('@') else line for line in named if line.strip()])
         else:
-            files += files_in(place) if os.path.isdir(place) else [place]
+            files += files_in(place) if os.path.isdir(place) and not place.endswith('.hex') else [place]
     return files
 
 

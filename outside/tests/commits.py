@@ -3,7 +3,6 @@ is the last that the desk makes. What was said of the marks is then held against
 
   outside/tests/book.py preloads failing.c and runs it; the last line is 'N passed, M failed'.
 """
-import contextlib
 import ctypes
 import io
 import os
@@ -11,6 +10,7 @@ import pathlib
 import shutil
 import sys
 import tempfile
+import unittest.mock
 
 from office import register as registers
 from office.audit import Audit, planned
@@ -34,7 +34,7 @@ def add(file: pathlib.Path, answers: dict[str, list[int]]) -> str:
     """Adds marks to a register; gives what was said, nothing where all went well."""
     desk, said = planned(EXAMPLES['p']), io.StringIO()
     some = [Answer(name, text_of(gaps), finding_of(desk, text_of(gaps))) for name, gaps in answers.items()]
-    with contextlib.redirect_stderr(said):
+    with unittest.mock.patch.object(registers, 'tell', lambda _, message: said.write(message)):
         try:
             with registers.opened(str(file), writing=True) as register:
                 keep(register, PAPER, some, BY)
