@@ -66,6 +66,11 @@ class Crowd:
         self.ask(number, '/move', f'{self.nth(self.clicks[number])} at {self.clicks[number]}')
         self.clicks[number] += 1
 
+    def came(self, number: int, status: int, body: bytes) -> None:
+        """A reply."""
+        if status != 200:
+            raise RuntimeError(body)
+
     def look(self, wait: float | None = None) -> None:
         """Takes what has come."""
         for key, _ in self.select.select(wait):
@@ -73,8 +78,7 @@ class Crowd:
             self.got[number] += key.fileobj.recv(1 << 16)
             head, end, body = self.got[number].partition(b'\r\n\r\n')
             if end and len(body) == int(head.partition(b'Content-Length: ')[2].split()[0]):
-                if not head.startswith(b'HTTP/1.1 200 '):
-                    raise RuntimeError(self.got[number])
+                self.came(number, int(head[9:12]), body)
                 self.took.append((number, time.perf_counter() - self.waiting.pop(number)))
                 self.got[number] = b''
 

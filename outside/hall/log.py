@@ -12,6 +12,7 @@ from outside.hall.disks import on_bad_disks
 from outside.hall.kills import killed
 from outside.hall.lists import listed
 from outside.hall.ours import stays_ours
+from outside.hall.run_out import run_out
 from outside.hall.starts import started
 from outside.hall.stories import told_again
 from outside.trying import Tally
@@ -21,7 +22,7 @@ def main() -> None:
     tally = Tally()
     with tempfile.TemporaryDirectory() as name:
         for some in (listed, chained, started_again, started, stays_ours, on_bad_disks, told_again, by_the_clock,
-                     killed):
+                     killed, run_out):
             some(tally, pathlib.Path(name))
     tally.close()
 
