@@ -171,9 +171,10 @@ class Audit:
                 head, len(data)):
             return ['its log has another head, another end, another paper or other times']
         ends = {who: text if text is None else sha256_of(text) for who, text in played.ends().items()}
+        papers = played.papers()
         return [f'its log does not have what mark {mark.seq}, {mark.candidate}, is of'
                 for mark in self.register.marks('mark WHERE sitting = ? AND seq <= ?', head, self.end[0])
-                if mark.paper != played.room.paper or ends.get(mark.candidate, '') != mark.answer]
+                if mark.paper != papers.get(mark.candidate) or ends.get(mark.candidate, '') != mark.answer]
 
     def report(self, head: str | None) -> list[str]:
         """What was found, a line each."""

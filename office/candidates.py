@@ -125,6 +125,8 @@ def candidates_in(file: str, papers: Collection[str] | None = None) -> list[Cand
             raise Fault(f'{where} has no number of minutes: "{printable(minutes)}"')
         if paper and papers is not None and paper.removesuffix('.hex') not in papers:
             raise Fault(f'{where} has a paper that is not served: "{printable(paper)}"')
+        if not paper and papers is not None and len(papers) > 1:
+            raise Fault(f'{where} has no paper, and several are served: {printable(", ".join(papers))}')
         found[folded(identity)] = Candidate(identity, name, int(minutes) if minutes else None,
                                             paper.removesuffix('.hex'))
     if not found:

@@ -10,9 +10,11 @@ head: who has written it down notices lines that are cut off at the end.
 WHO acts is a candidate, by identity, or the person in charge and the desk itself, both written as a dash, whose acts
 name their candidate first:
 
-  paper LINES                         the paper, its lines with spaces between
+  paper LINES                         the paper of the top line, and then others, lines with spaces between
+  title SHA-256 NAME                  what a paper is called, where there are several
   opened, charge                      a start; the person in charge has come to the page
-  candidate ID MINUTES PAPER NAME     a dash where the list has no minutes, and for the paper of the top line
+  candidate ID MINUTES PAPER NAME     a dash where the list has no minutes, and for the paper of the top line; another
+                                      paper by its SHA-256
   ticket ID SHA-256                   the only good ticket from now on
   minutes MINUTES, until TIME         how long all have for whom the list has no minutes: from entering, or until then
   close ID, extra ID MINUTES, message ID TEXT     a dash for all

@@ -44,7 +44,8 @@ class Charge:
         here = sum(self.presence(sitting) == 'present' for sitting in sittings)
         ended = [sitting for sitting in sittings if sitting.handed_in]
         many = sum(sitting.collected for sitting in ended)
-        return {'said': said, 'now': of_day(self.hall.now), 'away': self.hall.away, 'closed': self.hall.room.closed,
+        return {'said': said, 'now': of_day(self.hall.now), 'papers': [*self.hall.papers], 'away': self.hall.away,
+                'closed': self.hall.room.closed,
                 'state': f'{counted(len(sittings), "candidate")}, {here} present, {len(ended) - many} handed in, '
                          f'{many} collected', 'candidates': [self.row(sitting) for sitting in sittings]}
 
@@ -52,8 +53,8 @@ class Charge:
         left = None if sitting.over is None or sitting.ended else max(sitting.over - self.hall.now, 0)
         how = 'collected' if sitting.collected else 'handed in'
         end = sitting.ended and f'{how} {of_day(time_in(sitting.ended.at))}'
-        return {'id': sitting.candidate, 'name': sitting.name, 'presence': self.presence(sitting),
-                'machine': sitting.machine, 'moves': sitting.moves, 'left': left,
+        return {'id': sitting.candidate, 'name': sitting.name, 'paper': self.hall.title(sitting),
+                'presence': self.presence(sitting), 'machine': sitting.machine, 'moves': sitting.moves, 'left': left,
                 'ended': end or 'closed' * sitting.closed}
 
     def presence(self, sitting: Sitting) -> str:
@@ -91,7 +92,7 @@ class Charge:
     def some(self, who: str) -> list[Sitting]:
         return [*self.hall.sittings.values()] if who == OFFICE else [self.one(who)]
 
-    def late(self, _: str, identity: str, name: str, minutes: str) -> 'Act':
+    def late(self, _: str, identity: str, name: str, minutes: str, paper: str) -> 'Act':
         """One more candidate."""
         name = ' '.join(unicodedata.normalize('NFC', name).split()) or identity
         if not IDENTITY.fullmatch(identity):
@@ -102,13 +103,16 @@ class Charge:
             raise Declined(f'No candidate was added: {NAME_FORM}.')
         if minutes and not MINUTES.fullmatch(minutes):
             raise Declined('No candidate was added: minutes are a number from 1 to 9999.')
+        papers = self.hall.papers
+        if paper not in papers and (paper or len(papers) > 1):
+            raise Declined('No candidate was added: say over which paper.')
         ticket = new_ticket()
 
         def done() -> str:
             self.hall.hand_out(self.hall.sittings[identity], ticket)
             return f'{identity} is on the list. The ticket: {ticket}'
 
-        return [f'candidate {identity} {minutes or OFFICE} {OFFICE} {name}',
+        return [self.hall.seated(identity, int(minutes or 0) or None, papers.get(paper, self.hall.paper), name),
                 f'ticket {identity} {hash_of(ticket)}'], done
 
     def ticket(self, who: str) -> 'Act':
@@ -190,5 +194,5 @@ Act = tuple[list[str], Callable[[], str]]
 ACTS: dict[str, Callable[..., Act]] = {
     'late': Charge.late, 'ticket': Charge.ticket, 'extra': Charge.extra, 'reopen': Charge.reopen,
     'message': Charge.message, 'close': Charge.close}
-FIELDS = {'late': {'identity', 'name', 'minutes'}, 'ticket': set(), 'extra': {'minutes'}, 'reopen': {'minutes'},
-          'message': {'text'}, 'close': set()}
+FIELDS = {'late': {'identity', 'name', 'minutes', 'paper'}, 'ticket': set(), 'extra': {'minutes'},
+          'reopen': {'minutes'}, 'message': {'text'}, 'close': set()}

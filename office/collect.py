@@ -31,29 +31,30 @@ status is then 1: the same command takes them in when the log has their end.
 
 @dataclass(frozen=True)
 class Ended:
-    """A sitting that has ended: its log, the bytes of it, and what it is called."""
+    """A sitting that has ended: its log, the bytes of it, what it is called, and its papers."""
     log: Played
     data: bytes
     name: str
-    paper: PaperText
+    papers: list[PaperText]
 
-    def answers(self) -> list[Answer]:
-        """What came from each candidate whose sitting is over, marked. Who never entered has no answer."""
-        desk = planned(self.paper.text)
+    def answers(self, paper: PaperText) -> list[Answer]:
+        """What came over a paper from each candidate whose sitting is over, marked. Who never entered has no answer."""
+        desk, of = planned(paper.text), self.log.papers()
         if desk is None:
-            raise Fault('the paper of this sitting has no key: nothing can be marked')
+            raise Fault(f'the paper {paper.name} of this sitting has no key: nothing can be marked')
         return [Answer(who, text, Finding(ABSENT) if text is None else finding_of(desk, text))
-                for who, text in self.log.ends().items()]
+                for who, text in self.log.ends().items() if of[who] == paper.sha256]
 
     def add_to(self, register: Register) -> None:
         """Adds the sitting, if it is not there yet, and the names of its candidates."""
-        log, paper = self.log, self.paper
+        log = self.log
         with register.adding():
-            register.add_paper(paper.sha256, paper.name, paper.text)
+            for paper in self.papers:
+                register.add_paper(paper.sha256, paper.name, paper.text)
             for sitting in log.room.by_identity.values():
                 register.add_name(folded(sitting.candidate), sitting.name)
             if not register.asked('SELECT 1 FROM sitting WHERE head = ?', log.head):
-                register.add('sitting', head=log.head, paper=paper.sha256, name=self.name, opened=log.opened,
+                register.add('sitting', head=log.head, paper=log.room.paper, name=self.name, opened=log.opened,
                              closed=log.closed, log=self.data)
 
 
@@ -88,21 +89,26 @@ def ended_in(folder: str, name: str | None) -> Ended:
         raise Fault(f'cannot read {printable(file)}: {fault.strerror}') from fault
     if not log.opened:
         raise Fault(f'{printable(file)} is of a sitting that never began')
-    paper = PaperText(log.room.paper, paper_name(name or '-'), log.room.text)
-    return Ended(log, data, printable(pathlib.Path(os.path.abspath(folder)).name), paper)
+    papers = [PaperText(paper, log.room.titles.get(paper) or paper_name(name or '-'), text)
+              for paper, text in log.room.texts.items()]
+    return Ended(log, data, printable(pathlib.Path(os.path.abspath(folder)).name), papers)
 
 
-def keep_all(register: Register, ended: Ended, by: Marker) -> tuple[list[Answer], list[str]]:
-    """Keeps the sitting and its marks as it goes; the answers that were taken, and why others were not."""
-    answers, taken, wrong = ended.answers(), [], []
+def keep_all(register: Register, ended: Ended, papers: list[PaperText], by: Marker) -> tuple[list[Answer], list[str]]:
+    """Keeps the sitting and its marks over some papers as it goes; the answers that were taken, and why others were
+    not."""
+    answers = [(paper, answer) for paper in papers for answer in ended.answers(paper)]
+    taken, wrong = [], []
     with telling(register, len(answers)):
         ended.add_to(register)
-        for first in range(0, len(answers), EVERY):
-            for outcome in keep(register, ended.paper, answers[first:first + EVERY], by):
-                if not outcome.why:
-                    taken.append(outcome.answer)
-                elif outcome.answer.text is not None:  # who is absent here has an answer from elsewhere
-                    wrong.append(f'{outcome.answer.candidate}: {outcome.why}')
+        for paper in papers:
+            some = [answer for of, answer in answers if of is paper]
+            for first in range(0, len(some), EVERY):
+                for outcome in keep(register, paper, some[first:first + EVERY], by):
+                    if not outcome.why:
+                        taken.append(outcome.answer)
+                    elif outcome.answer.text is not None:  # who is absent here has an answer from elsewhere
+                        wrong.append(f'{outcome.answer.candidate}: {outcome.why}')
     return taken, wrong
 
 
@@ -115,21 +121,28 @@ def arguments(parser: argparse.ArgumentParser) -> None:
 
 
 def main(asked: argparse.Namespace) -> None:
+    look_at(asked)
     with at_rest(asked.answers):
         ended = ended_in(asked.answers, asked.paper)
-    take(ended, asked)
+    if asked.paper is not None and len(ended.papers) > 1:
+        raise Fault('this sitting is over several papers, and its log names them: leave --paper out')
+    take(ended, ended.papers, asked)
 
 
-def take(ended: Ended, asked: argparse.Namespace) -> None:
-    """Takes a sitting into the register that is asked for."""
+def look_at(asked: argparse.Namespace) -> None:
+    """Refuses what has no sense, before anything is read."""
     if asked.replace is not None and not asked.replace.strip():
         raise Fault('--replace wants the reason')
+
+
+def take(ended: Ended, papers: list[PaperText], asked: argparse.Namespace) -> None:
+    """Takes a sitting into the register that is asked for, with the marks over some of its papers."""
     with to_write(asked.register, asked.new) as register:
         by = marker(asked.replace and printable(asked.replace), ended.log.head)
-        taken, wrong = keep_all(register, ended, by)
+        taken, wrong = keep_all(register, ended, papers, by)
         added = f'{counted(register.kept, "mark")} added, head {register.head()}'
         write_out(f'{summary(taken)}\n{printable(asked.register)}: {added}\n'.encode())
-    under_way = ended.log.under_way()
+    under_way = ended.log.under_way([paper.sha256 for paper in papers])
     for who in under_way:
         tell('desk', f'{who} entered and has neither handed in nor been collected, and is not marked')
     for why in wrong:

@@ -8,6 +8,7 @@ import enum
 import os
 import pathlib
 import re
+from collections.abc import Mapping
 from typing import Self
 
 from office import oldlog
@@ -49,11 +50,14 @@ class Declined(Exception):
 
 
 class Hall:
-    """The sittings over one paper, one log and one folder of answers. It is read and looked over when it is made, and
-    writes nothing before it is opened."""
+    """The sittings over one paper or several, one log and one folder of answers. It is read and looked over when it is
+    made, and writes nothing before it is opened."""
 
-    def __init__(self, text: bytes, candidates: list[Candidate], answers: str, time: Wanted = Wanted()):
+    def __init__(self, text: bytes, candidates: list[Candidate], answers: str, time: Wanted = Wanted(), name: str = '',
+                 others: Mapping[str, bytes] | None = None):
         self.answers, self.paper, self.address = answers, hash_of(text), ''
+        self.texts = {name: text, **(others or {})}
+        self.papers = {called: hash_of(text) for called, text in self.texts.items()}
         self.unkept: list[tuple[Sitting, State]] = []
         self.unwritten: dict[str, bytes | None] = {}
         self.tickets_unwritten: dict[str, bytes] = {}
@@ -63,7 +67,7 @@ class Hall:
         self.log = Logbook(answers)
         self.last, self.opened = '', self.now
         try:
-            self.read(text, candidates)
+            self.read(candidates)
             self.tickets = Tickets(os.path.join(answers, TICKETS), candidates)
             self.seat(candidates)
             self.set_clock(time)
@@ -93,15 +97,16 @@ class Hall:
 
     # ---- A start
 
-    def read(self, text: bytes, candidates: list[Candidate]) -> None:
+    def read(self, candidates: list[Candidate]) -> None:
         """Makes all of a time before once more, or begins with nothing."""
         if self.log.is_there() and not oldlog.is_old(self.log.file):
             for event in self.log.events(self.paper):
                 self.replay(event, event.seq + 1)
                 self.last = max(self.last, event.at)
+            self.lay_out()
             return
         self.log.top(self.paper)
-        self.note(f'paper {" ".join(text.decode("ascii").split())}'.rstrip())
+        self.lay_out()
         if self.log.is_there():
             self.migrate(candidates)
         else:
@@ -109,6 +114,23 @@ class Hall:
             if left:
                 raise Fault(f'{printable(self.answers)} has {printable(min(left))} and no {LOG}: put the log back, or '
                             'give another folder for a new sitting')
+
+    def lay_out(self) -> None:
+        """Takes down the papers that are new, and where there are several what they are called."""
+        for called, text in self.texts.items():
+            paper = self.papers[called]
+            if paper not in self.room.texts:
+                self.note(f'paper {" ".join(text.decode("ascii").split())}'.rstrip())
+            if len(self.papers) > 1 and self.room.titles.get(paper) != called:
+                self.note(f'title {paper} {called}')
+        missing = self.room.texts.keys() - self.papers.values()
+        if missing:
+            names = ', '.join(self.room.titles.get(paper, paper) for paper in sorted(missing))
+            raise Fault(f'{printable(self.log.file)} has further papers: name them too: {printable(names)}')
+
+    def paper_of(self, candidate: Candidate) -> str:
+        """The paper of a candidate of the list."""
+        return self.papers.get(candidate.paper, self.paper)
 
     def replay(self, event: Event, line: int) -> None:
         try:
@@ -137,10 +159,22 @@ class Hall:
         """Takes down who is new on the list, or has another name there."""
         known = {folded(identity): sitting for identity, sitting in self.sittings.items()}
         for candidate in candidates:
-            sitting = known.get(folded(candidate.identity))
-            if sitting is None or (sitting.name, sitting.minutes) != (candidate.name, candidate.minutes):
+            sitting, paper = known.get(folded(candidate.identity)), self.paper_of(candidate)
+            if sitting and sitting.begun and sitting.paper != paper:
+                raise Fault(f'{candidate.identity} has begun over another paper than the list has now: '
+                            f'{printable(candidate.paper)}')
+            if sitting is None or (sitting.name, sitting.minutes, sitting.paper) != (
+                    candidate.name, candidate.minutes, paper):
                 identity = sitting.candidate if sitting else candidate.identity
-                self.note(f'candidate {identity} {candidate.minutes or OFFICE} {OFFICE} {candidate.name}')
+                self.note(self.seated(identity, candidate.minutes, paper, candidate.name))
+
+    def seated(self, identity: str, minutes: int | None, paper: str, name: str) -> str:
+        """The act by which a candidate is on the list."""
+        return f'candidate {identity} {minutes or OFFICE} {OFFICE if paper == self.paper else paper} {name}'
+
+    def title(self, sitting: Sitting) -> str:
+        """What the paper of a sitting is called."""
+        return next(called for called, paper in self.papers.items() if paper == sitting.paper)
 
     @property
     def now(self) -> int:

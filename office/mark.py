@@ -199,19 +199,21 @@ def arguments(parser: argparse.ArgumentParser) -> None:
 
 def mark_sitting(asked: argparse.Namespace) -> None:
     """Takes a sitting over the paper into the register."""
-    from office.collect import at_rest, ended_in, take  # which marks as this does
+    from office.collect import at_rest, ended_in, look_at, take  # which marks as this does
     if asked.answers or asked.candidates is not None or asked.slips is not None:
         raise Fault('--sitting has answers and candidates of its own, and ./desk export writes slips: leave those out')
     if asked.register is None:
         raise Fault('a sitting is marked in a register: --register FILE names it')
     if asked.json:
         raise Fault('--json has no place beside --sitting: ./desk register --json writes the marks')
+    look_at(asked)
     _, text = planned(asked.paper, asked.blank)
     with at_rest(asked.sitting):
         ended = ended_in(asked.sitting, asked.paper)
-    if ended.paper.sha256 != sha256_of(text):
+    papers = [paper for paper in ended.papers if paper.sha256 == sha256_of(text)]
+    if not papers:
         raise Fault(f'{printable(asked.sitting)} is a sitting over another paper than {printable(asked.paper)}')
-    take(ended, asked)
+    take(ended, papers, asked)
 
 
 def main(asked: argparse.Namespace) -> None:

@@ -44,45 +44,26 @@ def template(name: str) -> string.Template:
     return string.Template((SERVED / name).read_text())
 
 
-class Pages:
-    """The pages of a paper, and how candidates call the hall. A view of the paper is drawn when it is first asked for,
-    and kept."""
+class OfPaper:
+    """The pages of a paper. A view of it is drawn when it is first asked for, and kept."""
 
-    def __init__(self, paper: Paper, name: str, practice: bool, called: Called):
-        self.paper, self.name, self.practice, self.called = paper, name, practice, called
-        self.ticket, self.words, self.sitting, self.receipt = map(
-            template, ('ticket.html', 'words.html', 'sitting.html', 'receipt.html'))
-        self.asks, self.charge = template('secret.html'), template('charge.html')
+    def __init__(self, paper: Paper, name: str, practice: bool):
+        self.paper, self.name, self.practice = paper, name, practice
+        self.sitting = template('sitting.html')
         self.views: dict[View, string.Template] = {}
         self.printed = b''
-        css = ''.join([COLOURS, STYLE, *((SERVED / f'{of}.css').read_text() for of in ('hall', 'clock'))])
-        self.files = {f'/{file}': (CSS if file.endswith('css') else SCRIPT, (SERVED / file).read_bytes())
-                      for file in ('board.js', 'sitting.js', 'clock.js', 'charge.js', 'charge.css')}
-        self.files['/hall.css'] = CSS, css.encode()
 
     def has(self, view: View) -> bool:
         """Whether there is such a view."""
         return view.loop is None or view.loop in self.paper.end
 
-    def of_sitting(self, candidate: str, token: str, view: View) -> Reply:
-        """The page of a candidate; the token says in each request that it comes from there."""
+    def page(self, view: View) -> string.Template:
+        """The page of a view, without the candidate."""
         if view not in self.views:
             self.views[view] = self.drawn(view)
-        page = self.views[view].substitute(candidate=html.escape(candidate), token=token)
-        return Reply(HTTPStatus.OK, HTML, page.encode())
-
-    def of_receipt(self, sitting: Sitting) -> Reply:
-        """The receipt of a sitting that is over, to be printed."""
-        if sitting.ended is None:
-            return self.says(HTTPStatus.OK, html.escape(NO_RECEIPT), '/')
-        rows = {'Candidate': sitting.name, 'Id': sitting.candidate, 'Paper': self.name,
-                'Collected' if sitting.collected else 'Handed in': told(time_in(sitting.ended.at)),
-                'What': told_gaps(sitting.gaps), 'SHA-256 of it': hash_of(sitting.desk.sitting())}
-        page = self.receipt.substitute(facts=facts(rows), code=receipt_of(sitting.ended))
-        return Reply(HTTPStatus.OK, HTML, page.encode())
+        return self.views[view]
 
     def drawn(self, view: View) -> string.Template:
-        """The page of a view, without the candidate."""
         board = Board(self.paper, Placed([], dict.fromkeys(self.paper.end, 0), None), self.name, self.practice, view)
         whole, strips = view.loop is None, board.drawn is Drawn.STRIPS
         return string.Template(self.sitting.safe_substitute(
@@ -104,9 +85,44 @@ class Pages:
                 figures='\n'.join(f'<section>\n{figure.svg(style=False)}</section>' for figure in figures)).encode()
         return Reply(HTTPStatus.OK, HTML, self.printed)
 
-    def listing(self) -> Reply:
-        """The paper as a listing."""
-        return Reply(HTTPStatus.OK, PLAIN, listing_of(self.paper).encode())
+
+class Pages:
+    """The pages of a hall, by the hash of the paper, and how candidates call it."""
+
+    def __init__(self, papers: dict[str, OfPaper], called: Called):
+        self.papers, self.called = papers, called
+        self.ticket, self.words, self.receipt = map(template, ('ticket.html', 'words.html', 'receipt.html'))
+        self.asks, self.charge = template('secret.html'), template('charge.html')
+        css = ''.join([COLOURS, STYLE, *((SERVED / f'{of}.css').read_text() for of in ('hall', 'clock'))])
+        self.files = {f'/{file}': (CSS if file.endswith('css') else SCRIPT, (SERVED / file).read_bytes())
+                      for file in ('board.js', 'sitting.js', 'clock.js', 'charge.js', 'charge.css')}
+        self.files['/hall.css'] = CSS, css.encode()
+
+    def of_sitting(self, sitting: Sitting, token: str, view: View) -> Reply | None:
+        """The page of a candidate, if there is such a view; the token says in each request that it comes from there."""
+        of = self.papers[sitting.paper]
+        if not of.has(view):
+            return None
+        page = of.page(view).substitute(candidate=html.escape(sitting.name), token=token)
+        return Reply(HTTPStatus.OK, HTML, page.encode())
+
+    def of_receipt(self, sitting: Sitting) -> Reply:
+        """The receipt of a sitting that is over, to be printed."""
+        if sitting.ended is None:
+            return self.says(HTTPStatus.OK, html.escape(NO_RECEIPT), '/')
+        rows = {'Candidate': sitting.name, 'Id': sitting.candidate, 'Paper': self.papers[sitting.paper].name,
+                'Collected' if sitting.collected else 'Handed in': told(time_in(sitting.ended.at)),
+                'What': told_gaps(sitting.gaps), 'SHA-256 of it': hash_of(sitting.desk.sitting())}
+        page = self.receipt.substitute(facts=facts(rows), code=receipt_of(sitting.ended))
+        return Reply(HTTPStatus.OK, HTML, page.encode())
+
+    def listing(self, sitting: Sitting) -> Reply:
+        """The paper of a sitting as a listing."""
+        return Reply(HTTPStatus.OK, PLAIN, listing_of(self.papers[sitting.paper].paper).encode())
+
+    def to_print(self, sitting: Sitting) -> Reply:
+        """The paper of a sitting for print."""
+        return self.papers[sitting.paper].to_print()
 
     def asks_ticket(self, said: str = '') -> Reply:
         page = self.ticket.substitute(said=html.escape(said))
@@ -117,7 +133,8 @@ class Pages:
 
     def of_charge(self, token: str) -> Reply:
         """The page of the person in charge."""
-        page = self.charge.substitute(paper=html.escape(self.name), token=token)
+        names = ', '.join(of.name for of in self.papers.values())
+        page = self.charge.substitute(paper=html.escape(names), token=token)
         return Reply(HTTPStatus.OK, HTML, page.encode())
 
     def file(self, path: str) -> Reply:

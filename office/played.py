@@ -1,5 +1,5 @@
 """A log of a hall played to its end: each line held against the chain, every move made once more by the library."""
-from collections.abc import Iterator
+from collections.abc import Collection, Iterator
 from typing import BinaryIO
 
 from office.candidates import folded
@@ -57,7 +57,11 @@ class Played:
                 for sitting in self.room.by_identity.values()
                 if sitting.handed_in or sitting.candidate not in self.seen}
 
-    def under_way(self) -> list[str]:
-        """Who entered, and has neither handed in nor been collected."""
+    def papers(self) -> dict[str, str]:
+        """The paper of each candidate, by identity in small letters."""
+        return {folded(sitting.candidate): sitting.paper for sitting in self.room.by_identity.values()}
+
+    def under_way(self, papers: Collection[str]) -> list[str]:
+        """Who of those over some papers entered, and has neither handed in nor been collected."""
         return [sitting.candidate for sitting in self.room.by_identity.values()
-                if sitting.candidate in self.seen and not sitting.handed_in]
+                if sitting.candidate in self.seen and not sitting.handed_in and sitting.paper in papers]

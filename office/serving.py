@@ -186,9 +186,10 @@ class Server:
         if sitting is None:
             return self.pages.asks_ticket()
         view = View(int(asked[1]), bool(asked[2])) if asked else WHOLE
-        if not self.pages.has(view):
+        page = self.pages.of_sitting(sitting, token_of(self.ticket_of(connection.request)), view)
+        if page is None:
             raise Unfit(HTTPStatus.NOT_FOUND)
-        return self.pages.of_sitting(sitting.name, token_of(self.ticket_of(connection.request)), view)
+        return page
 
     def another(self, connection: Connection) -> Reply:
         sitting = self.sitting_of(connection.request)
@@ -199,10 +200,12 @@ class Server:
         return self.pages.asks_ticket() if sitting is None else self.pages.of_receipt(sitting)
 
     def listing(self, connection: Connection) -> Reply:
-        return self.pages.listing() if self.sitting_of(connection.request) else self.pages.asks_ticket()
+        sitting = self.sitting_of(connection.request)
+        return self.pages.asks_ticket() if sitting is None else self.pages.listing(sitting)
 
     def to_print(self, connection: Connection) -> Reply:
-        return self.pages.to_print() if self.sitting_of(connection.request) else self.pages.asks_ticket()
+        sitting = self.sitting_of(connection.request)
+        return self.pages.asks_ticket() if sitting is None else self.pages.to_print(sitting)
 
     def file(self, connection: Connection) -> Reply:
         return self.pages.file(connection.request.path)

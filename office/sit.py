@@ -10,6 +10,7 @@ from office.candidates import candidates_in
 from office.clock import wanted
 from office.command import Fault, printable, write_out
 from office.hall import TICKETS, TO_PRINT, Hall
+from office.library import Desk
 from office.names import named_paper
 from office.words import counted
 
@@ -20,6 +21,7 @@ the same command goes on where it was. docs/HALL.md tells the person in charge m
   ./desk sit paper.hex --candidates names.txt --answers answers
   ./desk sit paper.hex --candidates names.csv --answers answers --minutes 90
   ./desk sit paper.hex --candidates names.csv --answers answers --until 12:30
+  ./desk sit p.hex q.hex --candidates names.csv --answers answers --minutes 90
   ./desk sit paper.hex --candidates names.txt --answers answers --practice
   ./desk sit paper.hex --candidates names.txt --answers answers --bind 0.0.0.0 --name hall.example \\
       --certificate hall.crt --key hall.key
@@ -28,7 +30,8 @@ HERE, PORT = '127.0.0.1', 8000
 
 
 def arguments(parser: argparse.ArgumentParser) -> None:
-    parser.add_argument('paper', metavar='PAPER', help=PAPER_HELP)
+    parser.add_argument('papers', metavar='PAPER', nargs='+', help=f'{PAPER_HELP}; where there are several, the list '
+                        'says who sits over which')
     parser.add_argument('--candidates', metavar='FILE', required=True,
                         help='the candidates: an id a line, or CSV with the columns id, name, minutes, paper')
     parser.add_argument('--answers', metavar='DIR', required=True,
@@ -81,6 +84,23 @@ def look_at(asked: argparse.Namespace) -> None:
         raise Fault('with --certificate the hall is called by https, and --address says http')
 
 
+def papers_asked(asked: argparse.Namespace) -> list[tuple[str, bytes]]:
+    """The papers that are asked for, by name. No two are the same, and no two are called the same."""
+    papers = [(printable(pathlib.Path(file).stem), loaded(file, asked.blank)[1]) for file in asked.papers]
+    for number, (name, text) in enumerate(papers):
+        for other, same in papers[:number]:
+            if name == other or text == same:
+                raise Fault(f'two papers are the same, or are called the same: {other}, {name}')
+    return papers
+
+
+def laid_out(text: bytes) -> Desk:
+    """A desk with a paper, and no key."""
+    desk = Desk()
+    desk.load(text)
+    return desk
+
+
 def say_so(hall: Hall, address: str, secret: str) -> None:
     """Says that the hall is open, and to whoever reads this the secret of the person in charge. If nobody can be told,
     it is not."""
@@ -97,21 +117,22 @@ def say_so(hall: Hall, address: str, secret: str) -> None:
 
 def main(asked: argparse.Namespace) -> None:
     from office.door import listening_at, tls_with  # these take long to load, and no other command needs them
-    from office.markup import Pages
+    from office.markup import OfPaper, Pages
     from office.serving import Server
     hold_standard_files()
     look_at(asked)
     time = wanted(asked.minutes, asked.until)
     os.umask(0o077)  # what is kept is nobody else's to read
-    desk, text = loaded(asked.paper, asked.blank)
-    paper, name = named_paper(desk, asked.paper, text), printable(pathlib.Path(asked.paper).stem)
-    candidates = candidates_in(asked.candidates, [name])
+    (name, text), *others = papers_asked(asked)
+    files = {printable(pathlib.Path(file).stem): file for file in asked.papers}
+    candidates = candidates_in(asked.candidates, [name, *dict(others)])
     tls = tls_with(asked.certificate, asked.key) if asked.certificate else None
     with listening_at(asked.bind, asked.port) as listening, \
-            Hall(text, candidates, asked.answers, time) as hall:
+            Hall(text, candidates, asked.answers, time, name, dict(others)) as hall:
         here = called(asked, listening.getsockname()[1])
         hall.address = here.address
-        pages = Pages(paper, name, asked.practice, here)
+        pages = Pages({hall.papers[name]: OfPaper(named_paper(laid_out(text), files[name], text), name, asked.practice)
+                       for name, text in hall.texts.items()}, here)
         server = Server(listening, tls, here, hall, pages, asked.practice)
         hall.open()
         say_so(hall, here.address, server.charge.secret)

@@ -46,14 +46,16 @@ State = tuple[ctypes.Structure, int, Event | None, str, int | None]
 
 @dataclass
 class Sitting:
-    """A candidate's desk, how many moves were made on it, the event that ended it, the machine where it was entered and
-    not left, and when it was first. The minutes that the list has for the candidate, those that all have, and those
-    that were given since, each with its time; whether it was closed; what the person in charge said last. The hash of
-    the ticket that opens it, those of tickets of before, and those of all texts that were handed in."""
+    """A candidate's desk, the paper on it by its hash, how many moves were made on it, the event that ended it, the
+    machine where it was entered and not left, and when it was first. The minutes that the list has for the candidate,
+    those that all have, and those that were given since, each with its time; whether it was closed; what the person in
+    charge said last. The hash of the ticket that opens it, those of tickets of before, and those of all texts that were
+    handed in."""
     candidate: str
     name: str
     minutes: int | None
     desk: Desk
+    paper: str = ''
     allowed: Allowed = field(default_factory=Allowed)
     moves: int = 0
     ended: Event | None = None
@@ -136,11 +138,14 @@ class Sitting:
 
 
 class Sittings:
-    """All sittings over a paper, by identity, and by the hash of the ticket."""
+    """All sittings of a hall, by identity, and by the hash of the ticket; the papers by their hashes, with what they
+    are called where there are several."""
 
     def __init__(self, paper: str):
-        self.paper, self.text = paper, b''
-        self.blank: Desk | None = None
+        self.paper = paper
+        self.texts: dict[str, bytes] = {}
+        self.blank: dict[str, Desk] = {}
+        self.titles: dict[str, str] = {}
         self.by_identity: dict[str, Sitting] = {}
         self.by_ticket: dict[str, Sitting] = {}
         self.allowed = Allowed()
@@ -156,26 +161,35 @@ class Sittings:
         ACTS[word](self, event, rest)
 
     def take_paper(self, event: Event, lines: str) -> None:
-        self.text = ''.join(f'{line}\n' for line in lines.split()).encode()
-        if self.blank or hash_of(self.text) != self.paper:
+        """A paper: first that of the top line, then others."""
+        text = ''.join(f'{line}\n' for line in lines.split()).encode()
+        paper = hash_of(text)
+        if paper in self.texts or not self.texts and paper != self.paper:
             raise ValueError(event.act)
-        self.blank = Desk()
-        self.blank.load(self.text)
+        self.texts[paper], self.blank[paper] = text, Desk()
+        self.blank[paper].load(text)
+
+    def name_paper(self, event: Event, told: str) -> None:
+        paper, title = told.split(' ', 1)
+        if paper not in self.texts:
+            raise ValueError(event.act)
+        self.titles[paper] = title
 
     def seat(self, event: Event, told: str) -> None:
-        """A candidate of the list, or another name for one."""
+        """A candidate of the list, or another name for one; another paper, as long as nothing has begun."""
         identity, time, paper, name = told.split(' ', 3)
         minutes = None if time == OFFICE else int(time)
-        if paper != OFFICE or self.blank is None:
-            raise ValueError(event.act)
-        if identity in self.by_identity:
-            sitting = self.by_identity[identity]
-            sitting.name, sitting.minutes = name, minutes
-        else:
-            desk = Desk()
-            desk.held = self.blank.held
+        paper = self.paper if paper == OFFICE else paper
+        sitting = self.by_identity.get(identity)
+        if sitting is None:
             extra = [*self.extra] if self.allowed.until and not minutes else []
-            self.by_identity[identity] = Sitting(identity, name, minutes, desk, self.allowed, extra=extra)
+            sitting = Sitting(identity, name, minutes, Desk(), allowed=self.allowed, extra=extra)
+        if sitting.paper != paper:
+            if sitting.begun is not None:
+                raise ValueError(event.act)
+            sitting.paper, sitting.desk.held = paper, self.blank[paper].held
+        sitting.name, sitting.minutes = name, minutes
+        self.by_identity[identity] = sitting
 
     def give_ticket(self, _: Event, told: str) -> None:
         identity, ticket = told.split(' ')
@@ -230,7 +244,7 @@ class Sittings:
         return None if identity == OFFICE else self.by_identity[identity]
 
 
-ACTS = {'paper': Sittings.take_paper, 'candidate': Sittings.seat, 'ticket': Sittings.give_ticket,
-        'minutes': Sittings.set_minutes, 'until': Sittings.set_until, 'extra': Sittings.give_time,
-        'reopen': Sittings.reopen, COLLECTED: Sittings.collect, 'close': Sittings.close, 'opened': Sittings.hear,
-        'charge': Sittings.hear, 'message': Sittings.tell}
+ACTS = {'paper': Sittings.take_paper, 'title': Sittings.name_paper, 'candidate': Sittings.seat,
+        'ticket': Sittings.give_ticket, 'minutes': Sittings.set_minutes, 'until': Sittings.set_until,
+        'extra': Sittings.give_time, 'reopen': Sittings.reopen, COLLECTED: Sittings.collect,
+        'close': Sittings.close, 'opened': Sittings.hear, 'charge': Sittings.hear, 'message': Sittings.tell}

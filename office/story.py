@@ -24,13 +24,13 @@ receipt. Times are UTC.
 """
 CODE = re.compile('[0-9a-f]{16,64}')
 # What the desk and the person in charge do, by the first word of the act.
-OFFICE_ACTS = {'paper': 'the paper is laid out', 'opened': 'the hall is opened',
+OFFICE_ACTS = {'paper': 'the paper is laid out', 'title': 'a paper is called {}', 'opened': 'the hall is opened',
                'charge': 'the person in charge has come', 'candidate': 'on the list as {}',
                'minutes': 'minutes for all: {}', 'until': 'for all until {}', 'ticket': 'a ticket is made',
                'close': 'the sitting is closed', 'extra': 'more minutes: {}', 'message': 'told: {}',
                'reopen': 'reopened', COLLECTED: 'collected'}
 # Those of them that are about the hall and name no candidate.
-OF_THE_HALL = ('paper', 'opened', 'charge', 'minutes', 'until')
+OF_THE_HALL = ('paper', 'title', 'opened', 'charge', 'minutes', 'until')
 
 
 def arguments(parser: argparse.ArgumentParser) -> None:
@@ -76,7 +76,7 @@ def subject(event: Event) -> tuple[str, str]:
         return event.who, ''
     word, _, rest = event.act.partition(' ')
     who, _, more = rest.partition(' ') if word not in OF_THE_HALL else (OFFICE, '', rest)
-    return who, more.split(' ', 2)[-1] if word == 'candidate' else more
+    return who, more.split(' ', 2)[-1] if word == 'candidate' else more.split(' ', 1)[-1] if word == 'title' else more
 
 
 def of_office(event: Event) -> str:

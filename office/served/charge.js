@@ -3,7 +3,7 @@
 'use strict';
 
 const element = (id) => document.getElementById(id);
-const COLUMNS = ['name', 'presence', 'machine', 'moves', 'left', 'ended'];
+const COLUMNS = ['name', 'paper', 'presence', 'machine', 'moves', 'left', 'ended'];
 const AWAY = 'The desk does not answer.';
 // Milliseconds until the desk is asked again, and until a request is given up.
 const EVERY = 3000;
@@ -17,7 +17,7 @@ const QUESTIONS = {
 };
 
 const FIELDS = {
-    late: ['identity', 'name', 'minutes'], extra: ['minutes'], reopen: ['minutes'], message: ['text'],
+    late: ['identity', 'name', 'minutes', 'paper'], extra: ['minutes'], reopen: ['minutes'], message: ['text'],
 };
 
 function spelled(left) {
@@ -59,6 +59,10 @@ function show(told) {
     element('state').textContent = `${told.state}${told.closed ? ', closed' : ''}`;
     element('now').textContent = told.now;
     element('away').textContent = told.away;
+    const papers = document.querySelector('select[name="paper"]');
+    if (!papers.options.length) {
+        papers.append(...told.papers.map((name) => new Option(name, name)));
+    }
     for (const one of told.candidates) {
         const row = rowOf(one.id);
         for (const cell of row.querySelectorAll('td[data-of]')) {

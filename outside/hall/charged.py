@@ -12,8 +12,8 @@ from outside.hall.clocks import BROKEN, OVER, Timed, minutes
 from outside.hall.opened import Candidate, Hall, until_there
 from outside.trying import DESK, EXAMPLES, Tally, run
 
-ROW = {'id', 'name', 'presence', 'machine', 'moves', 'left', 'ended'}
-TOLD = {'said', 'now', 'away', 'closed', 'state', 'candidates'}
+ROW = {'id', 'name', 'paper', 'presence', 'machine', 'moves', 'left', 'ended'}
+TOLD = {'said', 'now', 'papers', 'away', 'closed', 'state', 'candidates'}
 
 
 class Person:
@@ -33,6 +33,7 @@ class Person:
 
     def act(self, act: str, who: str = '', **more: str) -> tuple[int, str]:
         """The status, and what is said."""
+        more = {'paper': '', **more} if act == 'late' else more
         status, text = self.ask('POST', '/charge/act', json.dumps({'act': act, 'who': who, **more}))
         self.told = json.loads(text)
         return status, self.told.get('said', '')

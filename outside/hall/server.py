@@ -1,5 +1,5 @@
 """The hall without a browser: a hundred candidates at once, from handing in to the register, the person in charge,
-connections of every sort and in any number, how it is called, bad requests.
+several papers, connections of every sort and in any number, how it is called, bad requests.
 
 Needs the library's archive (rt staticlib host). The last line is 'N passed, M failed'.
 """
@@ -14,6 +14,7 @@ from outside.hall.crowds import crowd, rush
 from outside.hall.encrypted import from_where, over_ipv6, wrong
 from outside.hall.opened import Candidate, Hall
 from outside.hall.refusing import raw, request, status, unmoved
+from outside.hall.several import several
 from outside.hall.shares import shares
 from outside.trying import DESK, EXAMPLES, Tally, run
 
@@ -47,6 +48,7 @@ def main() -> None:
         rush(tally, folder)
         to_the_register(tally, folder)
         in_charge(tally, folder)
+        several(tally, folder)
         connected(tally, folder)
         shares(tally, folder)
         over_ipv6(tally, folder)

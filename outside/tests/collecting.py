@@ -122,8 +122,8 @@ def by_mark(tally: Tally, folder: pathlib.Path) -> None:
     ours, theirs = ([[row[column] for column in columns] for row in table(file)] for file in (register, other))
     tally.check('the same marks', ours == theirs, ours)
     tally.check('again', added(run(*mark)) == 0)
-    for more, words in [(['--candidates', folder / 'p.hex'], 'leave those out'), (['--slips', folder], 'leave those out'),
-                        (['--replace', ' '], 'wants the reason')]:
+    for more, words in [(['--candidates', folder / 'p.hex'], 'leave those out'),
+                        (['--slips', folder], 'leave those out'), (['--replace', ' '], 'wants the reason')]:
         tally.check(f'{more[0]}', run(*mark, *more).failed(words), run(*mark, *more))
     for command, words in [([DESK, 'mark', folder / 'q.hex', *mark[3:]], 'a sitting over another paper than'),
                            (mark[:5], '--register FILE names it'), (mark[:3], 'name the answers, or a sitting'),
