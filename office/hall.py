@@ -95,6 +95,11 @@ class Hall:
         """The sitting that a ticket opens. It is looked up by a hash, so that the time it takes tells nothing."""
         return self.room.by_ticket.get(ticket_hash(ticket))
 
+    def is_dead(self, ticket: str) -> bool:
+        """Whether a ticket was good once, and another took its place."""
+        return self.sitting_with(ticket) is None and any(
+            ticket_hash(ticket) in sitting.dead for sitting in self.sittings.values())
+
     # ---- A start
 
     def read(self, candidates: list[Candidate]) -> None:

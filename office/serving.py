@@ -243,6 +243,8 @@ class Server:
         return self.asked(connection, lambda sitting, _: self.about(sitting, HTTPStatus.OK, ''))
 
     def time(self, connection: Connection) -> Reply | None:
+        if self.hall.is_dead(self.ticket_of(connection.request)):
+            return Reply(HTTPStatus.GONE, DATA, b'{}')
         return self.asked(connection, lambda sitting, _: spelled_out(HTTPStatus.OK, running(sitting, self.hall.now)))
 
     def move(self, connection: Connection) -> Reply | None:

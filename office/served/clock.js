@@ -61,13 +61,16 @@
         tick();
     }
 
-    // Asks how long there is. Where the page is behind, or the desk is away, the page looks after it.
+    // Asks how long there is. Where the page is behind, or the desk is away, the page looks after it. A window whose
+    // ticket is dead goes; one of somebody who has left, or of another, is told so when something is done there.
     async function ask() {
         try {
             const came = await fetch('/clock', {
                 headers: { Sitting: whose.sitting }, signal: AbortSignal.timeout(LIMIT) });
-            if (came.status === 403) {
+            if (came.status === 410) {
                 location.replace('/another');
+            }
+            if (!came.ok) {
                 return;
             }
             const told = await came.json();

@@ -123,6 +123,7 @@ def tickets(tally: Tally, folder: pathlib.Path) -> None:
     new = ticket_told(said)
     tally.check('a new ticket', status == 200 and said.startswith('The new ticket of anna: '), said)
     tally.check('the old one is dead at once', anna.ask('/sitting')[0] == 403 == anna.ask('/move', 'put 6 at 1')[0])
+    tally.check('a window learns of it', anna.ask('/clock')[0] == 410)
     tally.check('and that is told', 'opens nothing any more' in person.ask(
         'GET', '/another', Cookie=anna.headers['Cookie'])[1])
     tally.check('nobody enters by it', person.ask('POST', '/enter', f'ticket={anna.headers["Cookie"][-19:]}')[0] == 403)

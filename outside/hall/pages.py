@@ -37,7 +37,7 @@ GAP = 'button[data-gap="{}"]'.format
 def complaints(seen: Browser) -> list[str]:
     """What the browser has to complain about, but for replies that say no, and a desk that is away."""
     return [line for line in seen.complaints() if not any(word in line for word in (
-        'status of 403', 'status of 409', 'ERR_CONNECTION'))]
+        'status of 403', 'status of 409', 'status of 410', 'ERR_CONNECTION'))]
 
 
 class Page:
