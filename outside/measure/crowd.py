@@ -1,4 +1,5 @@
-"""A hundred candidates at once: how long each waits for the reply to a click.
+"""A hundred candidates at once: how long each waits for the reply to a click, and for the receipt when the time of all
+is over.
 
   python3 -m outside.measure.crowd [KIND]    KIND: of a full-size paper, as papers.py here has it; P if none is named
 
@@ -13,7 +14,8 @@ from collections.abc import Callable, Iterable
 from dataclasses import dataclass
 
 from outside.hall.crowds import BESIDE, MANY, ROUNDS, Crowd
-from outside.hall.opened import Hall
+from outside.hall.opened import Candidate, Hall
+from outside.hall.run_out import Ending
 from outside.measure import papers
 from outside.trying import EXAMPLES
 
@@ -24,6 +26,12 @@ import time
 os.fsync = lambda file: time.sleep({})
 """
 WAITS = 0.004
+# A time of day that is so many milliseconds after the start.
+SOON = """
+import office.clock
+office.clock.Wanted.next = lambda self, now: now + {}
+"""
+ENDS = 15_000
 
 
 def at(percent: int, times: list[float]) -> float:
@@ -97,6 +105,43 @@ def rush(folder: pathlib.Path, paper: bytes, waits: float) -> None:
     print(f'{MANY} who hand in: the last had its reply after {min(last) * 1000:.0f} ms')
 
 
+class Over(Ending):
+    """Candidates who ask, once their time is over, until they have a receipt, and when that was."""
+
+    def came(self, number: int, status: int, body: bytes) -> None:
+        super().came(number, status, body)
+        if self.receipts[number]:
+            self.at.append(time.monotonic())
+
+    def after(self, end: float) -> list[float]:
+        """How long after the end each had the receipt, rising."""
+        self.at, self.over = [], [True] * MANY
+        time.sleep(max(end - time.monotonic(), 0))
+        if not self.to_the_end():
+            raise RuntimeError('not all were collected')
+        return sorted(at - end for at in self.at)
+
+
+def over(folder: pathlib.Path, paper: bytes, waits: float) -> None:
+    """The time of a hundred is over in one millisecond."""
+    def once(turn: int) -> Trial:
+        hall = Hall(folder / f'over {waits} {turn}', paper, [f'candidate-{number:03}' for number in range(MANY)],
+                    more=['--until', '12:00']).altered(SOON.format(ENDS))
+        (hall.altered(DISK.format(waits)) if waits else hall).start()
+        entered = [Candidate(hall, name).enter() for name in hall.names]
+        if set(entered) != {303}:
+            raise RuntimeError('not all could enter in time')
+        people, first = Over(hall), Candidate(hall, hall.names[0])
+        end = time.monotonic() + first.ask('/clock')[1]['left'] / 1000
+        trial = tried(hall, lambda: people.after(end))
+        hall.end()
+        return trial
+
+    best = min(map(once, range(FEW)), key=lambda trial: trial.times[-1])
+    print(f'{MANY} whose time is over: the first had its receipt after {best.times[0] * 1000:.0f} ms, the last after '
+          f'{best.times[-1] * 1000:.0f} ms; processors with other work: {best.others:.1f}')
+
+
 def main() -> None:
     paper = papers.text(sys.argv[1]) if sys.argv[1:] else EXAMPLES['p']
     with tempfile.TemporaryDirectory() as name:
@@ -104,6 +149,7 @@ def main() -> None:
             print(f'a disk that takes {waits * 1000:.0f} ms for each write' if waits else 'the disk as it is')
             clicks(pathlib.Path(name), paper, waits)
             rush(pathlib.Path(name), paper, waits)
+            over(pathlib.Path(name), paper, waits)
 
 
 if __name__ == '__main__':
