@@ -132,6 +132,8 @@ class Charge:
             raise Declined('No time was given: minutes are a number from 1 to 9999.')
         if not any(sitting.timed for sitting in sittings):
             raise Declined('No time was given: no clock runs.')
+        if who != OFFICE and sittings[0].closed:
+            raise Declined(f'No time was given: the hall is closed for {who}. Reopen first.')
         if who != OFFICE and sittings[0].ended and not sittings[0].collected:
             raise Declined(f'No time was given: {who} has handed in. Reopen first.')
         again = [sitting for sitting in sittings if sitting.collected and sitting.timed and not sitting.closed]

@@ -212,6 +212,9 @@ def more_time(tally: Tally, folder: pathlib.Path) -> None:
         'so say how many minutes there are.'))
     tally.check('reopened', person.act('reopen', 'bert', minutes='5') == (200, 'bert goes on.'), person.told)
     tally.check('with so much time', bert.move('lift 11')[0] == 200 and minutes(bert.told) == 5, bert.told)
+    person.act('close')
+    tally.check('closed: reopen first', person.act('extra', 'bert', minutes='5') == (
+        409, 'No time was given: the hall is closed for bert. Reopen first.'), person.told)
     hall.end()
 
 
