@@ -19,7 +19,8 @@ from office.clock import BEHIND, SECOND, Wanted, of_day, spelled, time_in, told
 from office.command import Fault, mention, printable, read_in, take_away, write_over
 from office.logbook import LOG, Logbook, NotKnown
 from office.refusal import Refused
-from office.sittings import COLLECTED, ENTER, HAND_IN, LEAVE, Sitting, Sittings, State, hash_of, made, told_gaps
+from office.sittings import (COLLECTED, ENTER, HAND_IN, LEAVE, Sitting, Sittings, State, hash_of, made, told_gaps,
+                             why_not)
 from office.tickets_page import tickets_page
 
 TICKETS, TO_PRINT, ANSWER = 'tickets.csv', 'tickets.html', '.hex'
@@ -299,7 +300,7 @@ class Hall:
         try:
             said = made(sitting.desk, move)
         except Refused as refused:
-            raise Declined(f'Refused, {refused.refusal.rule}.') from refused
+            raise Declined(why_not(refused.refusal.number, move)) from refused
         sitting.moves += 1
         sitting.begin(self.take_down(sitting, move, machine, now, before))
         return said

@@ -41,6 +41,17 @@ def made(desk: Desk, move: str) -> str:
     return 'The latest move is taken back.'
 
 
+def why_not(number: int, move: str) -> str:
+    """Why the desk refuses a move, by the number that it gives, in a candidate's words."""
+    asked = MOVE.fullmatch(move)
+    gap = asked[2] if asked else ''
+    there = f'A barrier stands in gap {gap} already.' if move.startswith('put') else f'No barrier stands in gap {gap}.'
+    words = {8: f'There is no gap {gap} in this paper.', 12: there,
+             13: 'No move is left to take back. The latest 64 can be, one after the other.',
+             16: f'Gap {gap} is barred: no barrier may stand there.'}
+    return words.get(number, f'The desk refuses this, number {number}.')
+
+
 State = tuple[ctypes.Structure, int, Event | None, str, int | None]
 
 

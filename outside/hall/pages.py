@@ -4,7 +4,6 @@ import contextlib
 from office.library import Desk
 from office.paper import paper_on
 from office.refusal import Refused
-from office.words import RULES
 from outside.hall.browser import ENTER, Browser, until
 from outside.hall.opened import Hall
 from outside.trying import Tally
@@ -110,7 +109,7 @@ class Page:
             (self.desk.lift if there else self.desk.put)(gap)
             said = f'The barrier in gap {gap} is lifted.' if there else f'A barrier stands in gap {gap}.'
         except Refused as refused:
-            said = self.refused(refused)
+            said = self.refused(refused, gap)
         self.shows(f'gap {gap} {"lifted" if there else "put"}', said)
 
     def take_back(self, by: str = 'mouse') -> None:
@@ -126,5 +125,7 @@ class Page:
         self.shows('take back', said)
 
     @staticmethod
-    def refused(refused: Refused) -> str:
-        return f'Refused, number {refused.refusal.number}: {RULES[refused.refusal.number]}.'
+    def refused(refused: Refused, gap: int = 0) -> str:
+        """What a candidate is told, by the number of the library's refusal."""
+        return {13: 'No move is left to take back. The latest 64 can be, one after the other.',
+                16: f'Gap {gap} is barred: no barrier may stand there.'}[refused.refusal.number]
