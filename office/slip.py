@@ -3,7 +3,8 @@ import argparse
 
 from office.asked import loaded
 from office.command import REFUSED, Fault, printable, read_in, write_json, write_out
-from office.paper import Paper, loops_told, paper_on
+from office.names import named_paper
+from office.paper import Paper, loops_told
 from office.slip_words import Slip, counts_told, cuts_told, slip_in, uncut_told
 from office.view import verdict
 
@@ -31,7 +32,10 @@ def told(slip: Slip, paper: Paper | None) -> list[str]:
 
 
 def main(asked: argparse.Namespace) -> None:
-    paper = None if asked.paper is None else paper_on(loaded(asked.paper)[0])
+    paper = None
+    if asked.paper is not None:
+        desk, text = loaded(asked.paper)
+        paper = named_paper(desk, asked.paper, text)
     try:
         slip = slip_in(read_in(asked.slip))
     except ValueError as fault:

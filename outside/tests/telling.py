@@ -275,6 +275,15 @@ def names(tally: Tally, folder: pathlib.Path) -> None:
     run(DESK, 'why', paper, '1', '--html', page)
     pictures = re.findall(r'base64,([A-Za-z0-9+/=]+)"', page.read_text())
     tally.check('on the page', len(pictures) == 2 and all(b'>bread<' in base64.b64decode(one) for one in pictures))
+    answer, slips = folder / 'nobody.hex', folder / 'named'
+    answer.write_bytes(b'')
+    run(DESK, 'mark', paper, answer, '--slips', slips)
+    slip = run(DESK, 'slip', *slips.glob('candidate/nobody.*.hex'), '--paper', paper)
+    tally.check('in the words of a slip', told(slip, 'dependence 0: independent, rent 1 to bread 3'), slip)
+    written = folder / 'written.hex'
+    seen = run(DESK, 'spell', listing, '-o', written)
+    tally.check('beside what is written', (seen.err, seen.status) == ('', 0) and written.read_bytes() == spelt.out
+                and written.with_suffix('.names').read_text() == text, seen)
     beside.write_text(text.replace('rent', 'r' * 200))
     drawn = run(DESK, 'draw', paper).out.decode()
     tally.check('a long name is shortened', 'r\u2026<' in drawn and f'>{"r" * 200}<' not in drawn, drawn[:300])
