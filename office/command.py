@@ -45,7 +45,7 @@ class Parser(argparse.ArgumentParser):
             if option.startswith('--') or option[:2] not in known:
                 meant = nearest(option, known)
                 self.error(f'no option {printable(option)}{f": did you mean {meant}?" if meant else ""}')
-        asked, more = self.parse_known_args(arguments)
+        asked, more = self.parse_known_intermixed_args(arguments)
         if more:
             self.error(f'one argument too many: {printable(more[0])}')
         return asked

@@ -5,9 +5,8 @@ import re
 from html.parser import HTMLParser
 
 from office.board import Board
-from office.called import Called
 from office.library import Desk
-from office.markup import Pages
+from office.markup import OfPaper
 from office.paper import Paper, Placed, paper_on
 from office.picture import PLATE
 from office.sight import ROOM, WHOLE, WIDE_ROOM, Drawn, Layout, View
@@ -114,10 +113,10 @@ def drawn(tally: Tally, name: str, paper: Paper, view: View, practice: bool) -> 
 
 def sizes(tally: Tally, name: str, paper: Paper) -> None:
     """What a page is made of: bytes, and elements in the browser. Half of the loops' pages are small at least."""
-    pages = Pages(paper, 'paper', True, Called('http', ('localhost',), 80))
+    pages = OfPaper(paper, 'paper', True)
     small = []
     for view in [WHOLE, *(View(d) for d in paper.end)]:
-        body, elements = pages.of_sitting('anna', '0' * 16, view).body, Elements()
+        body, elements = pages.page(view).substitute(candidate='anna', token='0' * 16).encode(), Elements()
         elements.feed(body.decode())
         size = len(body), len(gzip.compress(body)), elements.many
         most = SMALL_PAGE if name == 'p' else WHOLE_PAGE if view == WHOLE else LOOP_PAGE
