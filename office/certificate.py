@@ -4,7 +4,7 @@ import unicodedata
 
 from office.certificate_page import BEGINS, Office, certificate_page
 from office.chain import now
-from office.command import REFUSED, Fault, printable, read_plain, write_out, write_over
+from office.command import REFUSED, Fault, printable, read_plain, write_json, write_out, write_over
 from office.marks import Mark
 from office.register import Register, opened, readable
 from office.stored import Stored
@@ -32,6 +32,7 @@ def arguments(parser: argparse.ArgumentParser) -> None:
     parser.add_argument('--letterhead', metavar='FILE', help='a file with the name in its first line, the place in its '
                         'second')
     parser.add_argument('--html', metavar='FILE', help='writes the page to a file instead of standard output')
+    parser.add_argument('--json', action='store_true', help='an object, for programs, beside a page in a file')
 
 
 def office_asked(asked: argparse.Namespace) -> Office:
@@ -67,6 +68,8 @@ def best_of(register: Register, candidate: str, paper: str | None) -> Mark:
 
 
 def main(asked: argparse.Namespace) -> None:
+    if asked.json and asked.html is None:
+        raise Fault('standard output has the page or JSON, not both: --html FILE writes the page to a file')
     office = office_asked(asked)
     with opened(asked.register, writing=True) as register, readable(asked.register):
         stored = Stored(register)
@@ -82,4 +85,8 @@ def main(asked: argparse.Namespace) -> None:
         write_out(page)
     else:
         write_over(asked.html, page, begins=BEGINS)
-        write_out(f'{printable(asked.html)}: certificate {mark.certificate()}\n'.encode())
+        if asked.json:
+            write_json({'number': mark.certificate(), 'at': given[1], 'mark': mark.seq, 'candidate': mark.candidate,
+                        'paper_sha256': mark.paper, 'answer_sha256': mark.answer})
+        else:
+            write_out(f'{printable(asked.html)}: certificate {mark.certificate()}\n'.encode())

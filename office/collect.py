@@ -4,13 +4,14 @@ import contextlib
 import fcntl
 import os
 import pathlib
+from collections import Counter
 from collections.abc import Iterator
 from dataclasses import dataclass
 
 from office import oldlog
 from office.audit import planned
 from office.candidates import folded
-from office.command import FAILED, REFUSED, Fault, printable, tell, write_out
+from office.command import FAILED, REFUSED, Fault, printable, tell, write_json, write_out
 from office.keeping import EVERY, Answer, Marker, PaperText, finding_of, keep, marker, telling
 from office.logbook import LOG
 from office.mark import paper_name, summary
@@ -118,6 +119,7 @@ def arguments(parser: argparse.ArgumentParser) -> None:
     parser.add_argument('--new', action='store_true', help='makes the register, where no file is yet')
     parser.add_argument('--paper', metavar='NAME', help='what the paper is called, where it is new in the register')
     parser.add_argument('--replace', metavar='REASON', help='puts answers in the place of others that were marked')
+    parser.add_argument('--json', action='store_true', help='an object, for programs')
 
 
 def main(asked: argparse.Namespace) -> None:
@@ -137,12 +139,16 @@ def look_at(asked: argparse.Namespace) -> None:
 
 def take(ended: Ended, papers: list[PaperText], asked: argparse.Namespace) -> None:
     """Takes a sitting into the register that is asked for, with the marks over some of its papers."""
+    under_way = ended.log.under_way([paper.sha256 for paper in papers])
     with to_write(asked.register, asked.new) as register:
         by = marker(asked.replace and printable(asked.replace), ended.log.head)
         taken, wrong = keep_all(register, ended, papers, by)
-        added = f'{counted(register.kept, "mark")} added, head {register.head()}'
-        write_out(f'{summary(taken)}\n{printable(asked.register)}: {added}\n'.encode())
-    under_way = ended.log.under_way([paper.sha256 for paper in papers])
+        if asked.json:
+            write_json({'verdicts': Counter(one.finding.verdict for one in taken), 'added': register.kept,
+                        'head': register.head(), 'under_way': under_way})
+        else:
+            added = f'{counted(register.kept, "mark")} added, head {register.head()}'
+            write_out(f'{summary(taken)}\n{printable(asked.register)}: {added}\n'.encode())
     for who in under_way:
         tell('desk', f'{who} entered and has neither handed in nor been collected, and is not marked')
     for why in wrong:

@@ -1,8 +1,8 @@
 """./desk export: what the register has for people. For each answer the law's slips, and a page in words beside each."""
 import argparse
-from dataclasses import dataclass
+from dataclasses import dataclass, field
 
-from office.command import FAILED, Fault, done, printable, tell, write_out
+from office.command import FAILED, Fault, done, printable, tell, write_json, write_out
 from office.marks import Mark
 from office.progress import Progress
 from office.register import Register, opened, readable
@@ -24,12 +24,12 @@ took the place of is written over, or taken away. A file that is none of the des
 
 @dataclass
 class Export:
-    """A register on its way to people: how many slips and notes were written, and how many faults there were."""
+    """A register on its way to people: how many slips and notes were written, and the faults there were."""
     stored: Stored
     slips: Slips
     written: int = 0
     notes: int = 0
-    faults: int = 0
+    faults: list[str] = field(default_factory=list)
 
     def hand_out(self, mark: Mark) -> None:
         """Writes what there is about a mark, for each reader."""
@@ -40,7 +40,7 @@ class Export:
             faults = [str(fault)]
         for why in faults:
             tell('desk', why)
-        self.faults += len(faults)
+        self.faults += faults
         if mark.answer is not None and not faults:
             self.notes += mark.verdict == REFUSED
             self.written += mark.verdict != REFUSED
@@ -62,6 +62,7 @@ def arguments(parser: argparse.ArgumentParser) -> None:
     parser.add_argument('register', metavar='REGISTER', help='the file of the register')
     parser.add_argument('--slips', metavar='DIR', required=True, help='the folder to write to')
     parser.add_argument('--candidate', metavar='ID', help='what there is about one candidate alone')
+    parser.add_argument('--json', action='store_true', help='an object, for programs')
 
 
 def chosen(register: Register, candidate: str | None, after: int) -> list[Mark]:
@@ -82,7 +83,10 @@ def main(asked: argparse.Namespace) -> None:
             last = marks[-1].seq
     if not last:
         raise Fault('there is no mark to tell of')
-    told = [f'{counted(export.written, "answer")} with slips', counted(export.notes, 'note')]
-    write_out(f'{printable(asked.slips)}: {", ".join(told)}\n'.encode())
+    if asked.json:
+        write_json({'answers': export.written, 'notes': export.notes, 'faults': export.faults})
+    else:
+        told = [f'{counted(export.written, "answer")} with slips', counted(export.notes, 'note')]
+        write_out(f'{printable(asked.slips)}: {", ".join(told)}\n'.encode())
     if export.faults:
         raise Fault('', FAILED)

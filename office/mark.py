@@ -204,8 +204,6 @@ def mark_sitting(asked: argparse.Namespace) -> None:
         raise Fault('--sitting has answers and candidates of its own, and ./desk export writes slips: leave those out')
     if asked.register is None:
         raise Fault('a sitting is marked in a register: --register FILE names it')
-    if asked.json:
-        raise Fault('--json has no place beside --sitting: ./desk register --json writes the marks')
     look_at(asked)
     _, text = planned(asked.paper, asked.blank)
     with at_rest(asked.sitting):

@@ -10,7 +10,7 @@ from dataclasses import dataclass
 
 from office.audit import planned
 from office.candidates import IDENTITY, IDENTITY_FORM, candidates_in, folded
-from office.command import REFUSED, Fault, printable, read_plain, tell, write_out
+from office.command import REFUSED, Fault, printable, read_plain, tell, write_json, write_out
 from office.keeping import EVERY, Answer, Marker, PaperText, finding_of, keep, marker, telling
 from office.library import Desk
 from office.mark import paper_name
@@ -133,6 +133,7 @@ def arguments(parser: argparse.ArgumentParser) -> None:
     parser.add_argument('texts', metavar='FILE', nargs='+', help='papers and answers, or folders of them')
     parser.add_argument('--new', action='store_true', help='makes the register, where no file is yet')
     parser.add_argument('--candidates', metavar='FILE', help='CSV with id and name, where old rows go by names')
+    parser.add_argument('--json', action='store_true', help='an object, for programs')
 
 
 def main(asked: argparse.Namespace) -> None:
@@ -147,7 +148,11 @@ def main(asked: argparse.Namespace) -> None:
         with telling(register, len(rows)):
             for sha256, some in papers.items():
                 taking.paper(sha256, some)
-        taken = f'{counted(register.kept, "mark")} added, head {register.head()}'
-        write_out(f'{counted(len(rows), "row")}, {taking.listed:,} not taken in: {taken}\n'.encode())
+        if asked.json:
+            write_json({'rows': len(rows), 'not_taken_in': taking.listed, 'added': register.kept,
+                        'head': register.head()})
+        else:
+            taken = f'{counted(register.kept, "mark")} added, head {register.head()}'
+            write_out(f'{counted(len(rows), "row")}, {taking.listed:,} not taken in: {taken}\n'.encode())
     if taking.listed:
         raise Fault('', REFUSED)

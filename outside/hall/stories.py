@@ -1,4 +1,5 @@
 """./desk story: a sitting told again from its log, with the codes that people wrote down."""
+import json
 import pathlib
 import re
 import signal
@@ -41,6 +42,34 @@ def a_day(tally: Tally, hall: Hall) -> None:
     tally.check('left', status(raw(hall.port, request(hall, 'POST', '/leave', page))) == 303)
 
 
+def as_words(at: str) -> str:
+    return at.removesuffix('+00:00').replace('T', ' ')
+
+
+def for_programs(tally: Tally, story: tuple[object, ...], lines: list[str], told: list[str]) -> None:
+    """The same as JSON: of all, and of Anna act by act."""
+    whole, anna = (json.loads(run(*story, *more, '--json').out) for more in ([], ['--candidate', 'anna']))
+    of_anna, of_bert = whole['sittings']
+    tally.check('all for programs', [
+        f'anna (Ávila, Anna): {of_anna["moves"]} moves, {of_anna["ended"]} {as_words(of_anna["at"])}: a barrier in gap '
+        f'{of_anna["gaps"][0]}; receipt {of_anna["receipt"]}', 'bert: 0 moves, not handed in; no barrier',
+        f'the log is whole: {whole["lines"]} lines, {as_words(whole["first"])} to {as_words(whole["last"])}',
+        f'head {whole["head"]}'] == told, whole)
+    wanted = {'candidate': 'bert', 'name': 'bert', 'moves': 0, 'ended': None, 'at': None, 'gaps': [], 'receipt': None}
+    tally.check('who is not done, for programs', of_bert == wanted, of_bert)
+    acts = anna.pop('acts')
+    tally.check('the same sitting', anna == of_anna, anna)
+    tally.check('its lines', [f'{act["line"]:>6}  {as_words(act["at"])}  ' for act in acts] == [
+        line[:33] for line in lines[:-1]], acts)
+    here, keys = '127.0.0.1', ('machine', 'act', 'said', 'gaps', 'uncut')
+    tally.check('its acts', [tuple(act[key] for key in keys) for act in acts] == [
+        (None, 'candidate', 'Ávila, Anna', [], 6), (None, 'ticket', None, [], 6), (None, 'opened', None, [], 6),
+        (here, 'enter', None, [], 6), (here, 'put 5', None, [5], 3), (here, 'put 11', None, [5, 11], 0),
+        (None, 'opened', None, [5, 11], 0), (here, 'take back', None, [5], 3), (here, 'hand in', None, [5], 3),
+        (here, 'leave', None, [5], 3)], acts)
+    tally.check('its receipt', acts[-2]['code'] == of_anna['receipt'] and acts[-1]['code'] == whole['head'], acts)
+
+
 def told_again(tally: Tally, folder: pathlib.Path) -> None:
     hall = Hall(folder / 'story', EXAMPLES['p'], ['anna', 'bert'], listed='id,name\nanna,"Ávila, Anna"\nbert,\n')
     hall.start()
@@ -54,6 +83,7 @@ def told_again(tally: Tally, folder: pathlib.Path) -> None:
             rf'anna \(Ávila, Anna\): 3 moves, handed in {TIME}: a barrier in gap 5; receipt {CODE}', told[0])) and
             told[1] == 'bert: 0 moves, not handed in; no barrier' and bool(re.fullmatch(
                 rf'the log is whole: 13 lines, {TIME} to {TIME}', told[2])), told)
+        for_programs(tally, story, lines, told)
         if hall.lives():
             hall.end(signal.SIGINT)
     receipt, head = (re.findall(CODE, line)[-1] for line in (told[0], told[3]))
@@ -61,6 +91,14 @@ def told_again(tally: Tally, folder: pathlib.Path) -> None:
         seen = run(*story, '--code', code)
         tally.check('a receipt', b'line 12 of 13: ' in seen.out and b'Anna): hands in at 127.0.0.1' in seen.out, seen)
     tally.check('the head', b'line 13 of 13: ' in run(*story, '--code', head).out)
+    acts = json.loads(run(*story, '--candidate', 'anna', '--json').out)['acts']
+    for code in (receipt, head):
+        one = json.loads(run(*story, '--code', code, '--json').out)
+        act, whose = next(act for act in acts if act['code'] == code), {'candidate': 'anna', 'name': 'Ávila, Anna'}
+        tally.check('a code for programs', one == act | whose | {'lines': 13}, one)
+    seen = run(*story, '--code', '0' * 16, '--json')
+    words_ = json.loads(seen.out)['refused']['words']
+    tally.check('a code of no line, for programs', seen.err == f'desk: {words_[0]}\n' and seen.status == 1, seen)
     data = hall.log.read_bytes()
     for name, log, words_, more, wanted in [
             ('a code of no line', data, 'no line of this log has the code', ['--code', '0' * 16], 1),
@@ -105,3 +143,7 @@ def of_the_office(tally: Tally, folder: pathlib.Path) -> None:
     tally.check('told', told[4:9] == [
         'more minutes: 10', 'told: Five minutes', 'collected: a barrier in gap 5; receipt CODE', 'reopened',
         'put 11 at 10.0.0.7: barriers in gaps 5, 11, 0 of 6 dependences uncut'], told)
+    acts = json.loads(run(DESK, 'story', folder, '--candidate', 'anna', '--json').out)['acts']
+    tally.check('told for programs', [(act['act'], act['said'], act['gaps']) for act in acts[4:9]] == [
+        ('extra', '10', [5]), ('message', 'Five minutes', [5]), ('collected', None, [5]), ('reopen', None, [5]),
+        ('put 11', None, [5, 11])], acts)

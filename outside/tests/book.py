@@ -395,6 +395,11 @@ def taken_in(tally: Tally, folder: pathlib.Path) -> None:
     words = ['carl, paper 3eb019b6: theirs is 2, and 1 comes out', 'anna, paper', 'its paper is not among the files',
              'Anna B., paper 3eb019b6: an id has']
     tally.check('what is told', all(word in seen.err for word in words) and added(seen) == 3 and seen.status == 1, seen)
+    again = run(DESK, 'take-in', folder / 'some.db', unread, P, *ANSWERS, '--json')
+    told = json.loads(again.out)
+    tally.check('for programs', [*told] == ['rows', 'not_taken_in', 'added', 'head'] and seen.out.decode() == (
+        f'{told["rows"]} rows, {told["not_taken_in"]} not taken in: 3 marks added, head {told["head"]}\n') and (
+            told['added'], again.err, again.status) == (0, seen.err, 1), again)
     old.write_bytes('\ufeff'.encode() + old.read_bytes())
     tally.check('from a spreadsheet', run(*command).failed('was it saved by a spreadsheet?'))
     tally.check('no CSV', run(DESK, 'take-in', register, P, P).failed('is no register of CSV'))

@@ -3,6 +3,7 @@ are changed, in their folder or in the register. Needs the library's archive (rt
 'N passed, M failed'.
 """
 import hashlib
+import json
 import pathlib
 import shutil
 import tempfile
@@ -122,6 +123,13 @@ def by_mark(tally: Tally, folder: pathlib.Path) -> None:
     ours, theirs = ([[row[column] for column in columns] for row in table(file)] for file in (register, other))
     tally.check('the same marks', ours == theirs, ours)
     tally.check('again', added(run(*mark)) == 0)
+    for name, command in [('mark', [*mark[:-1], folder / 'json.db', '--new']),
+                          ('collect', [DESK, 'collect', answers, '--register', folder / 'json too.db', '--new'])]:
+        seen = run(*command, '--json')
+        told, head = json.loads(seen.out), run(DESK, 'register', command[-2]).out.split()[-1].decode()
+        tally.check(f'{name} for programs', told == {
+            'verdicts': {'Best': 1, 'Uncut': 2, 'Absent': 1}, 'added': 4, 'head': head, 'under_way': ['carl']} and (
+                seen.err, seen.status) == (wanted.err, 1), seen)
     for more, words in [(['--candidates', folder / 'p.hex'], 'leave those out'),
                         (['--slips', folder], 'leave those out'), (['--replace', ' '], 'wants the reason')]:
         tally.check(f'{more[0]}', run(*mark, *more).failed(words), run(*mark, *more))

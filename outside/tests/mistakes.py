@@ -19,13 +19,15 @@ from office import day
 from office.asked import answer_cause, planned, said_of
 from office.causes import paper_cause
 from office.command import Fault
-from office.frames import text_of
+from office.frames import placement_text, text_of
 from office.keeping import finding_of
 from office.library import Desk
 from office.listing import spelled
 from office.paper import paper_on, placed
 from office.refusal import Refusal, answered
+from office.sittings import hash_of
 from office.skipped import relied_on
+from outside.tests.collecting import end, sit
 from outside.trying import DESK, DRAW, EXAMPLES, KEY, PROGRAM, ROOT, Seen, Tally, run
 
 P, Q, R = (ROOT / 'examples' / f'{name}.hex' for name in 'pqr')
@@ -369,7 +371,7 @@ def as_json(tally: Tally, folder: pathlib.Path) -> None:
     """Every command that answers, for programs: the fields of docs/JSON.md, in their order; refusals too."""
     document = (ROOT / 'docs' / 'JSON.md').read_text()
     documented = {command: re.findall(r'\*([a-z_0-9]+)\*', fields)
-                  for command, fields in re.findall(r'^\| `./desk ([a-z]+)` \| (.*) \|$', document, re.M)}
+                  for command, fields in re.findall(r'^\| `./desk ([a-z-]+)` \| (.*) \|$', document, re.M)}
     sheet, skipped, register = folder / 'sheet.txt', folder / 'skipped.hex', folder / 'json.db'
     sheet.write_bytes(b'5 3 8\n4:0,1 2:1 6:0,1,2\n1:0 9:1 0:2\n')
     skipped.write_bytes(SKIPPED)
@@ -377,6 +379,10 @@ def as_json(tally: Tally, folder: pathlib.Path) -> None:
     slip.write_bytes(b'230004\n220000\n220101\n220701\n')
     anna = ROOT / 'examples' / 'answers' / 'anna.hex'
     run(DESK, 'mark', P, anna, '--register', register, '--new')
+    old, answers = folder / 'json.csv', folder / 'json'
+    old.write_bytes(run(DESK, 'mark', P, anna).out)
+    sit(answers)
+    end(answers, f'collected carl {hash_of(placement_text([4]))}')
     for asked, words in [
             (['check', P], {'points': 14, 'loops': 3, 'deep': 2, 'dependences': 6, 'accepted': True, 'refused': None}),
             (['check', skipped], {'may_not_run': [2], 'missing_runs': [2]}),
@@ -388,12 +394,19 @@ def as_json(tally: Tally, folder: pathlib.Path) -> None:
             (['textbook', R], {'gaps': [1, 4]}), (['missing', skipped], {'loops': [2]}),
             (['improve', Q, '1'], {'ended': 'round'}), (['sheet', sheet], {'waiting': 14, 'barriers': 23}),
             (['slip', slip], {'reader': 'candidate', 'uncut': 4, 'finding': None}),
+            (['export', register, '--slips', folder / 'json slips'], {'answers': 1, 'notes': 0, 'faults': []}),
+            (['certificate', register, '--candidate', 'anna', '--office', 'O', '--place', 'B', '--html',
+              folder / 'json.html'], {'mark': 1, 'candidate': 'anna'}),
+            (['collect', answers, '--register', folder / 'json collected.db', '--new'],
+             {'verdicts': {'Best': 1, 'Uncut': 3, 'Absent': 1}, 'added': 5, 'under_way': []}),
+            (['take-in', folder / 'json taken.db', old, P, anna, '--new'], {'rows': 1, 'not_taken_in': 0, 'added': 1}),
+            (['story', answers], {'lines': (answers / 'sitting.log').read_bytes().count(b'\n') - 1}),
             (['audit', register], {'marks': 1, 'faults': []}), (['verify', register, 'x'], {'holds': False})]:
         seen = run(DESK, *asked, '--json')
         value = json.loads(seen.out)
         one = value[0] if isinstance(value, list) else value
         tally.check(f'{asked} as JSON', {name: one.get(name) for name in words} == words, seen)
-        fields = ['verdicts', 'added', 'head'] if 'added' in one else documented[asked[0]]
+        fields = ['verdicts', 'added', 'head'] if 'mark' in asked and 'added' in one else documented[asked[0]]
         tally.check(f'{asked}: its fields', [*one] == fields, ([*one], fields))
         tally.check(f'{asked}: nothing else is said', seen.err == '' and seen.status == (asked[0] == 'verify'), seen)
     bad = folder / 'bad.hex'

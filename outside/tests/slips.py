@@ -4,6 +4,7 @@ no more. Needs the library's archive (rt staticlib host). The last line is 'N pa
 import hashlib
 import html
 import itertools
+import json
 import pathlib
 import re
 import shutil
@@ -110,6 +111,9 @@ def exported(tally: Tally, folder: pathlib.Path) -> None:
     register, slips = a_register(folder), folder / 'slips'
     seen = run(DESK, 'export', register, '--slips', slips)
     tally.check('told', seen == Seen(f'{slips}: 3 answers with slips, 1 note\n'.encode(), '', 0), seen)
+    seen = run(DESK, 'export', register, '--slips', slips, '--json')
+    tally.check('for programs', json.loads(seen.out) == {'answers': 3, 'notes': 1, 'faults': []} and (
+        seen.err, seen.status) == ('', 0), seen)
     tally.check('files', len([*slips.glob('*/*')]) == 14 and not [*slips.glob('*/eva.*')], [*slips.glob('*/*')])
     modes = [file.stat().st_mode & 0o777 for file in [slips / 'examiner', *(slips / 'examiner').iterdir()]]
     tally.check("the examiner's are nobody else's", modes == [0o700, *[0o600] * 7], modes)
@@ -192,6 +196,9 @@ def not_written(tally: Tally, folder: pathlib.Path) -> None:
         other.write_bytes(b'<!DOCTYPE html>\n<p>a letter</p>\n')
     seen = run(*export)
     tally.check("not over another's files", seen.err.count('it is left alone') == 2 and seen.status == 2, seen)
+    again = run(*export, '--json')
+    faults = ''.join(f'desk: {why}\n' for why in json.loads(again.out)['faults'])
+    tally.check('for programs, too', (faults, again.err, again.status) == (seen.err, seen.err, 2), again)
     tally.check('they are as they were', all(other.read_bytes().endswith(b'a letter</p>\n') for other in others))
     tally.check('the others are written', page_of(slips, 'carl', 'p', 'examiner').exists(), seen)
     shutil.rmtree(slips)
@@ -232,6 +239,12 @@ def certified(tally: Tally, folder: pathlib.Path) -> None:
     tally.check('made', seen.out.decode() == f'{page}: certificate {number}\n' and seen.status == 0, seen)
     words, markup = words_of(page), page.read_text()
     paper, answer = (hashlib.sha256(file.read_bytes()).hexdigest() for file in (P, ANSWERS[0]))
+    told = json.loads(run(*ask, '--html', page, '--json').out)
+    at = told.pop('at')
+    tally.check('for programs', told == {'number': number, 'mark': 1, 'candidate': 'anna', 'paper_sha256': paper,
+                                         'answer_sha256': answer} and f'Berne, {at[:10]}' in words, told)
+    tally.check('the page is the same', page.read_text() == markup)
+    tally.check('the page or JSON', run(*ask, '--json').failed('--html FILE writes the page to a file'))
     for word in ['Office & Sons Berne', 'Ávila, Anna', 'paper p with the mark Best', paper, answer, 'is a theorem',
                  f'./desk verify REGISTER {number}', 'Berne, 20']:
         tally.check(f'the page has {word}', word in words, words)
@@ -268,6 +281,10 @@ def no_certificate(tally: Tally, folder: pathlib.Path) -> None:
                        ('eva', 'Absent'), ('fay', 'there is no mark')]:
         seen = run(*ask, '--candidate', name, *OFFICE)
         tally.check(f'none for {name}', seen.failed(told, 1), seen)
+        again = run(*ask, '--candidate', name, *OFFICE, '--html', page, '--json')
+        words = ''.join(f'desk: {line}\n' for line in json.loads(again.out)['refused']['words'])
+        tally.check(f'none for {name}, for programs', (words, again.err, again.status) == (
+            seen.err, seen.err, 1) and not page.exists(), again)
     for name, more, word in [('no office', [], 'whose certificate'), ('no place', OFFICE[:2], '--place'),
                              ('no name', ['--office', ' ', '--place', 'Berne'], '--office'),
                              ('no letterhead', ['--letterhead', folder / 'none'], 'cannot read'),
