@@ -127,8 +127,8 @@ def listed_in(file: str, paper: str) -> dict[str, Candidate]:
 
 
 def answers_in(places: list[str]) -> list[str]:
-    """The files of answers: themselves, those in a folder, those that a list names, a line each. A folder that is called
-    as an answer came by a pattern, and is none."""
+    """The files of answers: themselves, those in a folder, those that a list names, a line each. A folder that is
+    called as an answer came by a pattern, and is none."""
     files: list[str] = []
     for place in places:
         if place.startswith('@'):
@@ -183,8 +183,8 @@ def arguments(parser: argparse.ArgumentParser) -> None:
     parser.add_argument('paper', metavar='PAPER', help=PAPER_HELP)
     parser.add_argument('answers', metavar='ANSWER', nargs='*',
                         help='a file with a placement text, a folder of these, or @FILE, a list of files, a line each')
-    parser.add_argument('--sitting', metavar='DIR', help='marks a sitting at the screen that has ended, from its log, as '
-                        './desk collect does, if it is over this paper')
+    parser.add_argument('--sitting', metavar='DIR', help='marks a sitting at the screen that has ended, from its log, '
+                        'as ./desk collect does, if it is over this paper')
     parser.add_argument('--register', metavar='FILE',
                         help='keeps the marks in a register, and writes how many there are to standard output instead')
     parser.add_argument('--new', action='store_true', help='makes the register, where no file is yet')
