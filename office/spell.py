@@ -24,8 +24,8 @@ MORE = """a listing, a line each:
 
 def arguments(parser: argparse.ArgumentParser) -> None:
     parser.add_argument('listing', metavar='LISTING', help='a file with a listing; - for standard input')
-    parser.add_argument('--names', metavar='FILE', help='where the names go; with -o, if none is named, beside the text: '
-                        'paper.names for paper.hex, where ./desk show, draw, why, slip and sit find them')
+    parser.add_argument('--names', metavar='FILE', help='where the names go; with -o, if none is named, beside the '
+                        'text: paper.names for paper.hex, where ./desk show, draw, why, slip and sit find them')
     result_arguments(parser, 'another paper')
 
 
