@@ -11,7 +11,7 @@ SECOND, MINUTE = 1000, 60_000
 # A clock that goes on while the machine sleeps, where the system has one.
 STEADY = getattr(time, 'CLOCK_BOOTTIME', time.CLOCK_MONOTONIC)
 OF_DAY = re.compile('([01]?[0-9]|2[0-3])[:.]([0-5][0-9])')
-# How far ahead a time of day may lie, and how far before the last line of a log the system's clock.
+# How far ahead a time of day may lie, or the system's clock be of a log's last line; and how far behind that.
 AHEAD, BEHIND = 12 * 60 * MINUTE, MINUTE
 
 
@@ -73,9 +73,11 @@ class Allowed:
 
 @dataclass(frozen=True)
 class Wanted:
-    """What a start says about the time: minutes, or a time of day; or nothing."""
+    """What a start says about the time: minutes, or a time of day, or nothing; and that a clock is right by which a
+    long time has passed."""
     minutes: int | None = None
     until: str | None = None
+    go_on: bool = False
 
     def next(self, now: int) -> int:
         """When it is next the time of day that is wanted."""
@@ -95,12 +97,12 @@ class Wanted:
         return (local(at).hour, local(at).minute) == (hour, minute)
 
 
-def wanted(minutes: str | None, until: str | None) -> Wanted:
-    """What --minutes and --until say."""
+def wanted(minutes: str | None, until: str | None, go_on: bool) -> Wanted:
+    """What --minutes, --until and --go-on say."""
     if minutes is not None and until is not None:
         raise Fault('--minutes and --until do not go together: say one of the two')
     if minutes is not None and not re.fullmatch('[1-9][0-9]{0,3}', minutes):
         raise Fault(f'--minutes wants a number from 1 to 9999: {printable(minutes)}')
     if until is not None and not OF_DAY.fullmatch(until):
         raise Fault(f'--until wants a time of day like 12:30: {printable(until)}')
-    return Wanted(int(minutes) if minutes else None, until)
+    return Wanted(int(minutes) if minutes else None, until, go_on)

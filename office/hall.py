@@ -15,7 +15,7 @@ from office import oldlog
 from office.candidates import Candidate, Tickets, folded, identity_of
 from office.candidates import hash_of as ticket_hash
 from office.chain import OFFICE, Event
-from office.clock import BEHIND, SECOND, Wanted, of_day, spelled, time_in, told
+from office.clock import AHEAD, BEHIND, SECOND, Wanted, of_day, spelled, time_in, told
 from office.command import Fault, mention, printable, read_in, take_away, write_over
 from office.logbook import LOG, Logbook, NotKnown
 from office.refusal import Refused
@@ -191,9 +191,14 @@ class Hall:
         """Whether there is a clock for anybody."""
         return any(sitting.timed for sitting in self.sittings.values())
 
+    @property
+    def under_way(self) -> bool:
+        """Whether somebody's time runs."""
+        return any(sitting.timed and sitting.begun and not sitting.ended for sitting in self.sittings.values())
+
     def set_clock(self, time: Wanted) -> None:
         """Takes down how long all have, where it is new. As long as nobody has begun, a time of day is the next one; a
-        clock that stands before the log's last line would give everybody time."""
+        clock that stands before the log's last line would give everybody time, and one that is far ahead takes it."""
         allowed, begun = self.room.allowed, any(sitting.begun for sitting in self.sittings.values())
         if time.minutes and time.minutes != allowed.minutes:
             self.note(f'minutes {time.minutes}')
@@ -202,19 +207,22 @@ class Hall:
             if until != allowed.until:
                 self.note(f'until {spelled(until)}')
         last = time_in(self.last) if self.last else 0
+        says = (f"this machine's clock says {told(self.now)}, and the last line of {printable(self.log.file)} is of "
+                f'{told(last)}')
         if self.timed and self.now < last - BEHIND:
-            raise Fault(f"this machine's clock says {told(self.now)}, and the last line of {printable(self.log.file)} "
-                        f'is of {told(last)}: set the clock right, and start again')
+            raise Fault(f'{says}: set the clock right, and start again')
+        if self.under_way and self.now > last + AHEAD and not time.go_on:
+            raise Fault(f'{says}: what is under way would be collected. Set the clock right, and start again; if it is '
+                        'right, --go-on says so')
         if self.timed:
             self.log.clock.go_on_from(last)
 
     @property
     def away(self) -> str:
         """How long nothing was kept before this start, for sittings under way that have a clock."""
-        under_way = any(sitting.timed and sitting.begun and not sitting.ended for sitting in self.sittings.values())
         last = time_in(self.last) if self.last else self.opened
         seconds = (self.opened - last) // SECOND
-        if not under_way or seconds < LONG:
+        if not self.under_way or seconds < LONG:
             return ''
         return f'before this start nothing was kept since {of_day(last)}, for {seconds // 60} min {seconds % 60} s'
 

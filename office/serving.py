@@ -24,10 +24,10 @@ from office.command import mention
 from office.connection import Connection, Connections
 from office.door import Door
 from office.hall import Declined, Hall, Kept
-from office.sight import WHOLE, View
 from office.markup import Pages
 from office.messages import Reply, Request, Unfit
 from office.room import most_connections
+from office.sight import WHOLE, View
 from office.sittings import HAND_IN, MOVE, Sitting
 from office.told import running, sitting_told
 

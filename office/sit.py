@@ -40,6 +40,8 @@ def arguments(parser: argparse.ArgumentParser) -> None:
                         'not say otherwise; then what stands is collected')
     parser.add_argument('--until', metavar='HH:MM', help='the time of day at which what stands is collected, for all '
                         'for whom the list has no minutes')
+    parser.add_argument('--go-on', action='store_true', help="says that this machine's clock is right, where nothing was "
+                        'kept for more than 12 hours and somebody is under way')
     parser.add_argument('--practice', action='store_true',
                         help='tells also which dependences are cut; without it only how many are not')
     parser.add_argument('--bind', metavar='ADDRESS', default=HERE,
@@ -121,7 +123,7 @@ def main(asked: argparse.Namespace) -> None:
     from office.serving import Server
     hold_standard_files()
     look_at(asked)
-    time = wanted(asked.minutes, asked.until)
+    time = wanted(asked.minutes, asked.until, asked.go_on)
     os.umask(0o077)  # what is kept is nobody else's to read
     (name, text), *others = papers_asked(asked)
     files = {printable(pathlib.Path(file).stem): file for file in asked.papers}

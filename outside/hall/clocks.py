@@ -189,6 +189,35 @@ def set_back(tally: Tally, folder: pathlib.Path) -> None:
     hall.end()
 
 
+def far_ahead(tally: Tally, folder: pathlib.Path) -> None:
+    """A clock by which more than half a day has passed collects nobody at a start, unless somebody says that it is
+    right."""
+    hall = Timed(folder / 'clock ahead', EXAMPLES['p'], ['anna'], more=['--minutes', '60']).begin()
+    anna = Candidate(hall, 'anna')
+    anna.enter()
+    anna.move('put 5')
+    hall.end()
+    anna.leave()
+    kept, port = hall.log.read_bytes(), hall.port
+    for later in (13 * 60, 365 * 24 * 60):
+        hall.set('set', later * MINUTE)
+        hall.port = 0
+        seen = run(*hall.command, PYTHONPATH=str(hall.folder))
+        tally.check('a start with a clock that is far ahead', seen.failed('if it is right, --go-on says so'), seen)
+        tally.check('nothing is written', hall.log.read_bytes() == kept)
+    hall.port = port
+    hall.later(0)
+    hall.start()
+    tally.check('with the clock put right', anna.move('put 11')[0] == 200 and minutes(anna.told) == 60, anna.told)
+    hall.end()
+    hall.later(13 * 60)
+    hall.more += ['--go-on']
+    hall.start()
+    until_there(lambda: hall.collected() == ['anna'])
+    tally.check('and where it is right', hall.collected() == ['anna'], hall.acts())
+    hall.end()
+
+
 def full_disk(tally: Tally, folder: pathlib.Path) -> None:
     """What cannot be collected is so as soon as it can be, and nothing is taken meanwhile."""
     hall = Timed(folder / 'clock full', EXAMPLES['p'], ['anna', 'bert'], more=['--minutes', '60'])
@@ -228,5 +257,5 @@ def wrong(tally: Tally, folder: pathlib.Path) -> None:
 
 
 def by_the_clock(tally: Tally, folder: pathlib.Path) -> None:
-    for some in (from_entering, until, before_the_day, set_back, full_disk, wrong):
+    for some in (from_entering, until, before_the_day, set_back, far_ahead, full_disk, wrong):
         some(tally, folder)
