@@ -11,6 +11,7 @@ import os
 import re
 import subprocess
 import sys
+import time
 from dataclasses import dataclass
 
 from office import built as building
@@ -78,12 +79,13 @@ def counted(name: str, part: Part) -> tuple[int, int]:
     """Runs a part and shows what it prints; how much passed and failed. A part that should count and has no closing line
     has failed, whatever its status."""
     print(f'== {name}: {part.about}', flush=True)
-    closing = None
+    closing, begun = None, time.monotonic()
     with subprocess.Popen(part.command, cwd=ROOT, stdout=subprocess.PIPE, stderr=subprocess.STDOUT, text=True,
                           errors='replace') as ran:
         for line in ran.stdout or ():
             print(line, end='', flush=True)
             closing = CLOSING.match(line) or closing
+    print(f'== {name}: {time.monotonic() - begun:.0f} s', flush=True)
     well = ran.returncode == 0
     if not part.counts:
         return int(well), int(not well)
