@@ -1,7 +1,6 @@
--- Arguments beside the page of the demands (crate pages, specs/Demands): what that page says of keys is so of every set
--- of gaps with an argument that holds, whoever found the two. Soundness (crate argue_claims) is carried to the page;
--- and the argument of `keyOf` (crate argue_key) is one of the desk's key, which is `keyOf` of its nest.
--- Main definitions: `Argues`, `Argued`. Main statement: `argued-kept`.
+-- The page of the arguments is kept: soundness (crate argue_claims) is carried to the page of the demands; and the
+-- argument of `keyOf` (crate argue_key) is one of the desk's key, which is `keyOf` of its nest.
+-- Main statement: `argued-kept`.
 use mathlib.Core.Path.{_≡_, sym, _∙_, ap, subst}
 use mathlib.Core.Bool.{true}
 use mathlib.Core.List.{List}
@@ -13,30 +12,19 @@ use Rattle.paper_nests.specs.Stored.{nestIn}
 use Rattle.paper_nests.proofs.Deps.{valid-is}
 use Rattle.paper_order.specs.Keys.{IsKey}
 use Rattle.paper_texts.proofs.Accepted.{accepted-valid}
-use Rattle.argue_claims.specs.Arguments.{Claim, holds}
+use Rattle.argue_claims.specs.Arguments.{Claim}
 use Rattle.argue_claims.proofs.Theorem.{argued-key}
 use Rattle.argue_key.specs.Laps.{argumentOf}
 use Rattle.argue_key.proofs.Argued.{argued}
 use Rattle.desk.specs.declared.Desk.{Desk}
 use Rattle.desk.specs.Desks.{IsMade}
 use Rattle.desk.proofs.Made.{since-holds}
-use Rattle.pages.specs.Demands.{paperIn, Key, Reached, Since, KeyOn}
+use Rattle.pages.specs.Demands.{paperIn, Key, Since, KeyOn}
 use Rattle.pages.proofs.Placements.{nestOf, nest-of-paper}
 use Rattle.pages.proofs.Keys.{key-of}
 use Rattle.pages.proofs.Kept.{has-nest, key-same}
 use Rattle.pages.proofs.Desks.{reached-made, since-is}
-
--- cs is an argument for the set gs of gaps of the desk's paper
-abbrev pub Argues : Desk → List ℕ → List Claim → Type 0
-Argues d gs cs = holds (nestIn (d .nest)) gs cs ≡ true
-
-pub record Argued : Type 0 where
-  -- of the paper that the last accepted Load read: a set with an argument is a key
-  pub sound
-      : (t : List ℕ) (d : Desk) (gs : List ℕ) (cs : List Claim) → Since t d → Argues d gs cs
-      → Key (paperIn (d .nest)) gs
-  -- the key of every desk has one
-  pub planned : (d : Desk) (gs : List ℕ) → Reached d → KeyOn d gs → (cs : List Claim) × Argues d gs cs
+use Rattle.pages_arguments.specs.Argued.{Argues, Argued}
 
 module _ (t : List ℕ) (d : Desk) (q : Since t d) where
   valid : isValid (nestIn (d .nest)) ≡ true

@@ -1,0 +1,2 @@
+-- What an argument is worth, over the page of the demands.
+pub mod Argued
