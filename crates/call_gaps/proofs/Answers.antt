@@ -1,9 +1,8 @@
 -- The gaps of a dependence as words, and the call.
--- Main statements: `gap-inside`, `gaps-had`, `gaps-at`; `gaps-given`, `gaps-no-nest`, `gaps-no-dependence`.
+-- Main statements: `gaps-had`, `gaps-at`; `gaps-given`, `gaps-no-nest`, `gaps-no-dependence`.
 use mathlib.Core.Path.{_≡_, refl, sym, ap, _∙_}
 use mathlib.Core.Bool.{true, false}
 use mathlib.Core.List.{List, [], _∷_}
-use mathlib.Core.Logic.{inl, inr, ⊎-elim}
 use Prim.Native.Nat.{ℕ, zero, suc, _-_, _≤_, _<_}
 use native.Mathlib.Omega.{arith}
 use lib.Dec.{ltb}
@@ -12,39 +11,20 @@ use borrow.Author.Tests.{lt-ltb, le-ltb}
 use Rattle.laws.proofs.Connectives.{or-off}
 use Rattle.laws.proofs.Tests.{false-by}
 use Rattle.paper_nests.specs.Nests.{Dep}
-use Rattle.paper_nests.specs.Loops.{endOf, HasEnds}
+use Rattle.paper_nests.specs.Loops.{HasEnds}
 use Rattle.paper_nests.specs.Gaps.{hasGap}
-use Rattle.paper_nests.specs.Valid.{isShape}
 use Rattle.paper_nests.specs.Stored.{depIn, nestIn}
-use Rattle.paper_nests.proofs.Deps.{Valid, Fits, line-gap, back-gap, valid-is}
-use Rattle.paper_nests.proofs.Loops.{end-there}
+use Rattle.paper_nests.proofs.Deps.{Valid, valid-is}
 use Rattle.paper_placements.specs.Words.{GAPS, holds, gapsOf, gapsIn}
 use Rattle.paper_placements.proofs.Words.{gapsOf-same, gapsOf-up-to}
+use Rattle.paper_gaps.specs.Lies.{WithEnds, GapsPut}
+use Rattle.paper_gaps.proofs.Lies.{gap-inside, depAt, found-at, found-ends, found-fits}
 use Rattle.desk.specs.declared.Desk as DD
 use Rattle.desk.specs.declared.Chosen as DC
 use Rattle.desk.specs.Desks.{deskIn, IsMade}
 use Rattle.desk.specs.Says.{NotChosen}
 use Rattle.desk.proofs.Choosing.{chooses-none, chooses}
-use Rattle.call_gaps.specs.Lies.{WithEnds, GapsPut}
 use Rattle.call_gaps.specs.Says.{gapsHad, gapsAt, gapsFault, GapsSays}
-use Rattle.call_gaps.proofs.Lies.{depAt, found-at, found-ends, found-fits}
-
--- the gaps of a dependence are gaps of the nest
-pub gap-inside
-    : (ps : List ℕ) (e : Dep) (g : ℕ)
-    → isShape ps ≡ true
-    → Fits ps e
-    → hasGap ps e g ≡ true
-    → (0 < g) × (g < length ps)
-gap-inside ps e g shape (inl l) h =
-    let q = line-gap ps e g (l .kind-is) h in
-    (omega (arith, q .0), omega (arith, q .1, l .target-there))
-gap-inside ps e g shape (inr b) h =
-    let end = end-there ps shape (e .d) (b .loop) in
-    ⊎-elim
-    (λ (z : (e .d < g) × (g ≤ e .t)). (omega (arith, z .0), omega (arith, z .1, b .target-before)))
-    (λ (z : (e .s < g) × (g ≤ endOf ps (e .d))). (omega (arith, z .0), omega (arith, z .1)))
-    (back-gap ps e g (b .kind-is) h)
 
 -- words with these gaps and no other
 pub gaps-had

@@ -1,4 +1,2 @@
--- Where a dependence lies, ranges of gaps put, and the call.
-pub mod Lies
-pub mod Ranges
+-- The gaps of a dependence as words, and the call.
 pub mod Answers

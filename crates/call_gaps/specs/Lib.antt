@@ -1,3 +1,2 @@
--- Where a dependence lies; its gaps, and what the call promises.
-pub mod Lies
+-- The gaps of a dependence, and what the call promises.
 pub mod Says

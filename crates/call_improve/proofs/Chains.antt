@@ -19,8 +19,8 @@ use Rattle.paper_placements.specs.Placements.{cuts, uncut, areGaps}
 use Rattle.paper_placements.specs.Words.{gapsIn}
 use Rattle.paper_placements.proofs.Cuts.{uncut-none}
 use Rattle.paper_placements.proofs.Rising.{rising-in}
-use Rattle.call_gaps.specs.Lies.{WithEnds}
-use Rattle.call_gaps.proofs.Lies.{depAt, found-at, found-among, found-ends}
+use Rattle.paper_gaps.specs.Lies.{WithEnds}
+use Rattle.paper_gaps.proofs.Lies.{depAt, found-at, found-among, found-ends}
 use Rattle.call_improve.specs.Places.{HasLatest}
 use Rattle.call_improve.specs.Tops.{topOf, topAt, HighestSays, NextOf, Chained}
 use Rattle.call_improve.proofs.TopLaws.{top-there, top-at}

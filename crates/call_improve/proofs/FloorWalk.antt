@@ -22,12 +22,11 @@ use Rattle.paper_placements.specs.Answers.{isCut, CutInSays}
 use Rattle.paper_placements.specs.Words.{GAPS, holds, gapsIn}
 use Rattle.paper_placements.proofs.Cuts.{CutBy, cut-has-gap, gap-cuts}
 use Rattle.paper_placements.proofs.Words.{gapsOf-in, gapsOf-from, gapsOf-to, in-gaps}
+use Rattle.paper_gaps.specs.Lies.{WithEnds, GapsPut}
+use Rattle.paper_gaps.proofs.Lies.{gap-inside, depAt, found-at, found-ends, found-fits}
 use Rattle.run_barriers.specs.Calls.{TURNS}
 use Rattle.run_count.specs.Times.{HasTimes}
-use Rattle.call_gaps.specs.Lies.{WithEnds, GapsPut}
 use Rattle.call_gaps.specs.Says.{gapsHad}
-use Rattle.call_gaps.proofs.Lies.{depAt, found-at, found-ends, found-fits}
-use Rattle.call_gaps.proofs.Answers.{gap-inside}
 use Rattle.call_improve.specs.Floor.{cheapest, floorFrom, floorOf}
 use Rattle.call_improve.specs.Cheapest.{CheapestIn, CheapestSays}
 use Rattle.call_improve.specs.Steps.{FewTimes, FloorSays}

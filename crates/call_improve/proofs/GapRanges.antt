@@ -15,8 +15,8 @@ use Rattle.paper_nests.specs.Kinds.{INDEPENDENT}
 use Rattle.paper_nests.specs.Gaps.{hasGap}
 use Rattle.paper_nests.specs.Stored.{depIn}
 use Rattle.paper_nests.proofs.Deps.{line-gap, gap-of-line}
-use Rattle.call_gaps.specs.Lies.{EndsIn}
-use Rattle.call_gaps.proofs.Lies.{ring-gaps, of-ring}
+use Rattle.paper_gaps.specs.Lies.{EndsIn}
+use Rattle.paper_gaps.proofs.Lies.{ring-gaps, of-ring}
 use Rattle.call_improve.specs.Cheapest.{LeastIn, CheapestSays}
 
 -- ---- the least entry

@@ -23,12 +23,12 @@ use Rattle.paper_placements.specs.Placements.{uncut, areGaps}
 use Rattle.paper_placements.specs.Words.{GAPS, holds, gapsOf, gapsIn}
 use Rattle.paper_placements.proofs.Cuts.{AllCut, uncut-none, none-uncut}
 use Rattle.paper_placements.proofs.Words.{gapsOf-add, gapsOf-none, in-gaps}
+use Rattle.paper_gaps.specs.Lies.{WithEnds}
 use Rattle.run_barriers.specs.Calls.{OUTER, fitIn, callsOf}
 use Rattle.run_barriers.proofs.Turns.{fit-lower, turns-most}
 use Rattle.run_barriers.proofs.Sizes.{FewTurns, times-most, calls-within}
 use Rattle.run_count.specs.Times.{HasTimes, sumIn}
 use Rattle.run_count.proofs.Summing.{calls-told}
-use Rattle.call_gaps.specs.Lies.{WithEnds}
 use Rattle.call_improve.specs.declared.Improved as DI
 use Rattle.call_improve.specs.declared.Current as DU
 use Rattle.call_improve.specs.declared.Try as DT

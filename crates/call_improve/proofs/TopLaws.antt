@@ -25,8 +25,8 @@ use Rattle.paper_placements.specs.Words.{GAPS, gapsIn}
 use Rattle.paper_placements.proofs.Cuts.{CutBy, cut-has-gap, gap-cuts}
 use Rattle.paper_placements.proofs.Rising.{Rises, rises, rising-in}
 use Rattle.paper_placements.proofs.Words.{in-gaps}
-use Rattle.call_gaps.specs.Lies.{LiesTo, EndsIn}
-use Rattle.call_gaps.proofs.Lies.{ring-gaps, of-ring}
+use Rattle.paper_gaps.specs.Lies.{LiesTo, EndsIn}
+use Rattle.paper_gaps.proofs.Lies.{ring-gaps, of-ring}
 use Rattle.call_improve.specs.Places.{IsLatest, HasLatest}
 use Rattle.call_improve.specs.Tops.{topOf, topAt}
 

@@ -20,11 +20,11 @@ use Rattle.paper_placements.specs.Words.{GAPS, holds, gapsIn}
 use Rattle.paper_placements.specs.GapLists.{withGap}
 use Rattle.paper_placements.proofs.Cuts.{AllCut, uncut-none}
 use Rattle.paper_placements.proofs.Words.{in-gaps, gaps-none}
+use Rattle.paper_gaps.specs.Lies.{WithEnds}
+use Rattle.paper_gaps.proofs.Lies.{depAt, found-at, found-ends}
 use Rattle.desk_sitting.proofs.Words.{gaps-with}
 use Rattle.run_count.specs.Times.{sumIn}
 use Rattle.run_count.proofs.Summing.{calls-with}
-use Rattle.call_gaps.specs.Lies.{WithEnds}
-use Rattle.call_gaps.proofs.Lies.{depAt, found-at, found-ends}
 use Rattle.call_improve.specs.declared.Current as DU
 use Rattle.call_improve.specs.declared.Try as DT
 use Rattle.call_improve.specs.Tries.{tryAt}

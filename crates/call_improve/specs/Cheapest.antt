@@ -9,7 +9,7 @@ use Rattle.paper_nests.specs.declared.Dependence as DE
 use Rattle.paper_nests.specs.Nests.{Dep}
 use Rattle.paper_nests.specs.Gaps.{hasGap}
 use Rattle.paper_nests.specs.Stored.{depIn}
-use Rattle.call_gaps.specs.Lies.{EndsIn}
+use Rattle.paper_gaps.specs.Lies.{EndsIn}
 
 -- r is the least entry of the table from lo to hi
 pub record LeastIn (table : List ℕ) (lo hi r : ℕ) : Type 0 where

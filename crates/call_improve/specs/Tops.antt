@@ -13,7 +13,7 @@ use Rattle.paper_nests.specs.Gaps.{hasGap}
 use Rattle.paper_nests.specs.Stored.{depIn}
 use Rattle.paper_placements.specs.Placements.{cuts, areGapsFrom}
 use Rattle.paper_placements.specs.Words.{gapsIn}
-use Rattle.call_gaps.specs.Lies.{EndsIn}
+use Rattle.paper_gaps.specs.Lies.{EndsIn}
 use Rattle.call_improve.specs.Places.{HasLatest}
 
 -- the highest gap of a rising list that cuts the dependence; 0 for none

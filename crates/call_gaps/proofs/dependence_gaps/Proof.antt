@@ -5,7 +5,7 @@ use Prim.Native.Nat.{_<_}
 use native.Mathlib.Omega.{arith}
 use borrow.Author.Needs.{needs}
 use Rattle.paper_nests.proofs.Stored.{counted-points}
-use Rattle.call_gaps.proofs.Lies.{found-lies}
+use Rattle.paper_gaps.proofs.Lies.{found-lies}
 use Rattle.call_gaps.proofs.Answers.{gaps-no-nest, gaps-no-dependence, with-ends, gaps-given}
 use Rattle.call_gaps.proofs.dependence_gaps.Statement.{statement}
 use Rattle.call_gaps.proofs.dependence_gaps.Tie as tie

@@ -8,7 +8,7 @@ use Rattle.laws.proofs.Copies.{copies, copies-at}
 use Rattle.paper_nests.specs.Kinds.{POINTS, DEPENDENCES}
 use Rattle.paper_nests.specs.Stored.{nestIn}
 use Rattle.paper_placements.specs.Words.{gapsIn}
-use Rattle.call_gaps.proofs.Lies.{found-lies}
+use Rattle.paper_gaps.proofs.Lies.{found-lies}
 use Rattle.call_improve.specs.Tops.{topAt}
 use Rattle.call_improve.proofs.Chains.{Chaining, chain-start, chain-on, chain-done, top-told, top-low}
 use Rattle.run_count.proofs.Timing.{entry}

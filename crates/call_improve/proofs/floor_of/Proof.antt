@@ -6,7 +6,7 @@ use native.Mathlib.Omega.{arith}
 use borrow.Author.Needs.{needs}
 use Rattle.paper_nests.specs.Stored.{nestIn}
 use Rattle.paper_placements.specs.Answers.{isCut}
-use Rattle.call_gaps.proofs.Lies.{found-lies}
+use Rattle.paper_gaps.proofs.Lies.{found-lies}
 use Rattle.call_improve.proofs.FloorWalk.{Flooring, floor-start, floor-shared, floor-fits, floor-taken, floor-done}
 use Rattle.call_improve.proofs.floor_of.Statement.{statement}
 use Rattle.call_improve.proofs.floor_of.Tie as tie

@@ -12,8 +12,8 @@ use Rattle.paper_nests.specs.Stored.{nestIn}
 use Rattle.paper_nests.proofs.Stored.{counted-points}
 use Rattle.paper_placements.specs.declared.Placement as DP
 use Rattle.paper_placements.specs.Words.{gapsIn}
+use Rattle.paper_gaps.specs.Lies.{WithEnds}
 use Rattle.run_count.specs.Times.{HasTimes}
-use Rattle.call_gaps.specs.Lies.{WithEnds}
 use Rattle.call_improve.specs.declared.Current as DU
 use Rattle.call_improve.specs.Steps.{SearchAsks}
 use Rattle.call_improve.proofs.RoundTurns.{with-ends, some-points, turns-asked, few-times, calls-fit}

@@ -2,9 +2,9 @@
 -- left.
 use Prim.Native.Nat.{_+_, _-_}
 use native.Mathlib.Omega.{arith}
-use Rattle.call_gaps.proofs.Ranges.{Ranged, range-start, range-on, range-done}
-use Rattle.call_gaps.proofs.with_range.Statement.{statement}
-use Rattle.call_gaps.proofs.with_range.Tie as tie
+use Rattle.paper_gaps.proofs.Ranges.{Ranged, range-start, range-on, range-done}
+use Rattle.paper_gaps.proofs.with_range.Statement.{statement}
+use Rattle.paper_gaps.proofs.with_range.Tie as tie
 
 abbrev Inv-loop : tie.InvT-loop
 Inv-loop lo hi q₀ g₀ q g = Ranged (q₀ .words) lo hi g (q .words)
@@ -27,10 +27,10 @@ loop-less c = omega arith
 loop-again : tie.Need-loop-again Inv-loop μ-loop
 loop-again c =
     let b1 = c .before in
-    range-on (b1 .before .loop .inv) (c .put .result .words) (b1 .loop-test .taken) (c .put .ensures)
+    range-on (b1 .before .loop .inv) (c .put .result .words) (omega (arith, b1 .loop-test .taken)) (c .put .ensures)
 
 returns : tie.Need-returns Inv-loop μ-loop
-returns c = range-done (c .before .loop .inv) (c .loop-test .left)
+returns c = range-done (c .before .loop .inv) (omega (arith, c .loop-test .left))
 
 pub with-range-spec : {M : Type 1} → statement M
 with-range-spec =

@@ -1,12 +1,12 @@
 -- Where a dependence of a nest lies, from the table of the ends of its loops.
--- Main statements: `ring-gaps`, `of-ring`, `found-at`, `found-among`, `found-fits`, `found-ends`, `found-lies`.
+-- Main statements: `gap-inside`, `ring-gaps`, `of-ring`, `found-at`, `found-among`, `found-fits`, `found-ends`, `found-lies`.
 use mathlib.Core.Path.{_≡_, sym, _∙_}
 use mathlib.Core.Bool.{true, _||_}
 use mathlib.Core.List.{List, _∷_}
 use mathlib.Core.Logic.{_⊎_, inl, inr, ⊎-elim}
 use Prim.Native.Nat.{ℕ, suc, _≤_, _<_}
 use native.Mathlib.Omega.{arith}
-use lib.ListN.{getD, drop}
+use lib.ListN.{length, getD, drop}
 use borrow.Author.Tests.{ne-eqb}
 use Rattle.laws.specs.Choice.{between}
 use Rattle.laws.specs.Members.{Among}
@@ -16,12 +16,32 @@ use Rattle.laws.proofs.Ranges.{in-between}
 use Rattle.paper_nests.specs.declared.Dependence as DE
 use Rattle.paper_nests.specs.declared.Nest as DN
 use Rattle.paper_nests.specs.Kinds.{INDEPENDENT}
+use Rattle.paper_nests.specs.Nests.{Dep}
+use Rattle.paper_nests.specs.Loops.{endOf}
 use Rattle.paper_nests.specs.Gaps.{hasGap}
+use Rattle.paper_nests.specs.Valid.{isShape}
 use Rattle.paper_nests.specs.Stored.{depIn, nestIn}
-use Rattle.paper_nests.proofs.Deps.{Back, Fits, deps-fit, is-line, is-back, valid-is}
+use Rattle.paper_nests.proofs.Deps.{Back, Fits, deps-fit, is-line, is-back, line-gap, back-gap, valid-is}
 use Rattle.paper_nests.proofs.Loops.{end-there}
 use Rattle.paper_nests.proofs.Stored.{depsIn-at, counted-many}
-use Rattle.call_gaps.specs.Lies.{WithEnds, LiesTo, EndsIn}
+use Rattle.paper_gaps.specs.Lies.{WithEnds, LiesTo, EndsIn}
+
+-- the gaps of a dependence are gaps of the nest
+pub gap-inside
+    : (ps : List ℕ) (e : Dep) (g : ℕ)
+    → isShape ps ≡ true
+    → Fits ps e
+    → hasGap ps e g ≡ true
+    → (0 < g) × (g < length ps)
+gap-inside ps e g shape (inl l) h =
+    let q = line-gap ps e g (l .kind-is) h in
+    (omega (arith, q .0), omega (arith, q .1, l .target-there))
+gap-inside ps e g shape (inr b) h =
+    let end = end-there ps shape (e .d) (b .loop) in
+    ⊎-elim
+    (λ (z : (e .d < g) × (g ≤ e .t)). (omega (arith, z .0), omega (arith, z .1, b .target-before)))
+    (λ (z : (e .s < g) × (g ≤ endOf ps (e .d))). (omega (arith, z .0), omega (arith, z .1)))
+    (back-gap ps e g (b .kind-is) h)
 
 -- the gaps of a carried dependence, before its target or behind its source
 module _ (ps : List ℕ) (e : DE.Dependence) (end : ℕ) (ends : EndsIn ps e end) (kind : e .kind ≡ INDEPENDENT → ⊥) where

@@ -14,8 +14,8 @@ use Rattle.laws.proofs.Ors.{or-assoc, or-swap}
 use Rattle.paper_nests.specs.declared.Dependence as DE
 use Rattle.paper_nests.specs.Kinds.{INDEPENDENT}
 use Rattle.paper_placements.specs.Words.{holds}
-use Rattle.call_gaps.specs.Lies.{GapsPut}
-use Rattle.call_gaps.proofs.Lies.{ring-gaps}
+use Rattle.paper_gaps.specs.Lies.{GapsPut}
+use Rattle.paper_gaps.proofs.Lies.{ring-gaps}
 
 -- ---- a range put
 

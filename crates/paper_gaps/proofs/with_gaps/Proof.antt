@@ -1,9 +1,9 @@
 -- `with_gaps` meets its contract: its one range is put, or its two.
 use native.Mathlib.Omega.{arith}
-use Rattle.call_gaps.proofs.Ranges.{put-line, put-ring}
+use Rattle.paper_gaps.proofs.Ranges.{put-line, put-ring}
 use borrow.Author.Needs.{needs}
-use Rattle.call_gaps.proofs.with_gaps.Statement.{statement}
-use Rattle.call_gaps.proofs.with_gaps.Tie as tie
+use Rattle.paper_gaps.proofs.with_gaps.Statement.{statement}
+use Rattle.paper_gaps.proofs.with_gaps.Tie as tie
 
 cast-s : tie.Need-cast-s
 cast-s c = search needs

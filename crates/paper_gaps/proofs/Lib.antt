@@ -1,0 +1,3 @@
+-- Where a dependence lies, and ranges of gaps put.
+pub mod Lies
+pub mod Ranges

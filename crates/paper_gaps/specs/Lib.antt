@@ -1,0 +1,2 @@
+-- Where a dependence lies, and all its gaps put.
+pub mod Lies
