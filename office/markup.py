@@ -17,6 +17,7 @@ from office.printed import facts
 from office.show import listing_of
 from office.sight import Drawn, View
 from office.sittings import Sitting, hash_of, told_gaps
+from office.spoken import Before
 from office.words import counted
 
 HTML, CSS, SCRIPT, PLAIN = (f'text/{kind}; charset=utf-8' for kind in ('html', 'css', 'javascript', 'plain'))
@@ -98,12 +99,15 @@ class Pages:
                       for file in ('board.js', 'sitting.js', 'clock.js', 'charge.js', 'charge.css')}
         self.files['/hall.css'] = CSS, css.encode()
 
-    def of_sitting(self, sitting: Sitting, token: str, view: View) -> Reply | None:
+    def of_sitting(self, sitting: Sitting, token: str, view: View, before: Before) -> Reply | None:
         """The page of a candidate, if there is such a view; the token says in each request that it comes from there."""
         of = self.papers[sitting.paper]
         if not of.has(view):
             return None
-        page = of.page(view).substitute(candidate=html.escape(sitting.name), token=token)
+        page = of.page(view).substitute(
+            candidate=html.escape(sitting.name), token=token, said=html.escape(before.said.words),
+            refused=' class="refused"' * before.said.refused, message=html.escape(before.message),
+            left='' if before.left is None else before.left)
         return Reply(HTTPStatus.OK, HTML, page.encode())
 
     def of_receipt(self, sitting: Sitting) -> Reply:

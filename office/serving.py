@@ -29,6 +29,7 @@ from office.messages import Reply, Request, Unfit
 from office.room import most_connections
 from office.sight import WHOLE, View
 from office.sittings import HAND_IN, MOVE, Sitting
+from office.spoken import Spoken
 from office.told import running, sitting_told
 
 DATA, HTML = 'application/json', 'text/html; charset=utf-8'
@@ -62,7 +63,7 @@ class Server:
                  practice: bool):
         self.listening, self.tls, self.called = listening, tls, called
         self.hall, self.pages, self.practice = hall, pages, practice
-        self.charge = Charge(hall)
+        self.charge, self.spoken = Charge(hall), Spoken()
         self.always = STRICT if called.secure else ''
         self.made: list[Made] = []
         self.seen = 0
@@ -186,7 +187,8 @@ class Server:
         if sitting is None:
             return self.pages.asks_ticket()
         view = View(int(asked[1]), bool(asked[2])) if asked else WHOLE
-        page = self.pages.of_sitting(sitting, token_of(self.ticket_of(connection.request)), view)
+        page = self.pages.of_sitting(sitting, token_of(self.ticket_of(connection.request)), view,
+                                     self.spoken.before(sitting, self.hall.now))
         if page is None:
             raise Unfit(HTTPStatus.NOT_FOUND)
         return page
@@ -245,7 +247,12 @@ class Server:
     def time(self, connection: Connection) -> Reply | None:
         if self.hall.is_dead(self.ticket_of(connection.request)):
             return Reply(HTTPStatus.GONE, DATA, b'{}')
-        return self.asked(connection, lambda sitting, _: spelled_out(HTTPStatus.OK, running(sitting, self.hall.now)))
+
+        def tell(sitting: Sitting, _: str) -> Reply:
+            self.spoken.tell(sitting)
+            return spelled_out(HTTPStatus.OK, running(sitting, self.hall.now))
+
+        return self.asked(connection, tell)
 
     def move(self, connection: Connection) -> Reply | None:
         asked = ASKED.fullmatch(connection.request.body)
@@ -302,6 +309,7 @@ class Server:
 
     def about(self, sitting: Sitting, status: HTTPStatus, said: str) -> Reply:
         """The whole of a sitting that may be told, and what is said."""
+        self.spoken.tell(sitting, said, status is not HTTPStatus.OK)
         return spelled_out(status, sitting_told(sitting, said, self.practice, self.hall.now))
 
     def with_cookie(self, value: str, of: str = TICKET, to: str = '/') -> Reply:

@@ -28,8 +28,12 @@ def receipt_told(sitting: Sitting) -> str:
 def running(sitting: Sitting, now: int) -> dict[str, object]:
     """What may change though nothing is clicked: the milliseconds that are left, none where no clock runs, and what the
     person in charge said last."""
-    left = None if sitting.over is None or sitting.handed_in else max(sitting.over - now, 0)
-    return {'moves': sitting.moves, 'handed_in': sitting.handed_in, 'left': left, 'message': message_told(sitting)}
+    return {'moves': sitting.moves, 'handed_in': sitting.handed_in, 'left': left_of(sitting, now),
+            'message': message_told(sitting)}
+
+
+def left_of(sitting: Sitting, now: int) -> int | None:
+    return None if sitting.over is None or sitting.handed_in else max(sitting.over - now, 0)
 
 
 def message_told(sitting: Sitting) -> str:

@@ -10,15 +10,24 @@
     const LIMIT = 5000;
     const SECOND = 1000;
     const CHANGED = 20 * SECOND;
+    const RUNNING = ['read', 'message', 'known', 'warned', 'changed', 'receipt'];
     const WARNINGS = [
         [60 * SECOND, 'Less than one minute is left. Then what stands here is collected.'],
         [300 * SECOND, 'Less than five minutes are left. Then what stands here is collected.'],
     ];
     // The time left, and when that was told, by the browser's own clock; none where no clock runs.
-    let left = null;
-    let since = 0;
+    const drawn = element('time').dataset.left;
+    let left = drawn === '' ? null : Number(drawn);
+    let since = performance.now();
+    // The warning that held already when the page was drawn: it is shown, and not called out again.
+    let known = warning(left);
 
     const now = () => (left === null ? null : Math.max(left - (performance.now() - since), 0));
+
+    function warning(rest) {
+        const [, words] = WARNINGS.find(([from]) => rest !== null && rest <= from) ?? [0, ''];
+        return words;
+    }
 
     function spelled(rest) {
         const seconds = Math.ceil(rest / SECOND);
@@ -38,11 +47,13 @@
     function tick() {
         const rest = now();
         element('time').hidden = rest === null;
-        const [, words] = WARNINGS.find(([from]) => rest !== null && rest <= from) ?? [0, ''];
+        const words = warning(rest);
+        known = words === known ? known : '';
         say('left', rest === null ? '' : spelled(rest));
         element('left').classList.toggle('late', words !== '');
-        say('warned', words);
-        element('running').hidden = !['message', 'warned', 'changed', 'receipt'].some((id) => element(id).textContent);
+        say('known', known);
+        say('warned', known ? '' : words);
+        element('running').hidden = !RUNNING.some((id) => element(id).textContent);
     }
 
     // What every reply tells beside the sitting.
@@ -53,7 +64,10 @@
         if (rest !== null && left !== null && Math.abs(left - rest) > CHANGED) {
             say('changed', `The time was changed: ${spelled(left)} are left.`);
         }
-        say('message', told.message);
+        if (element('read').textContent !== told.message) {
+            say('read', '');
+            say('message', told.message);
+        }
         if (told.receipt !== undefined) {
             say('receipt', told.receipt);
             element('print').hidden = !told.receipt;

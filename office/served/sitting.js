@@ -11,8 +11,12 @@ const LIMIT = 5000;
 const SLOW = 300;
 const AGAIN = 1000;
 
-// Draws the sitting that a reply tells. Which dependences are cut is told for practice only.
+// Draws the sitting that a reply tells. Which dependences are cut is told for practice only. Words about a hand-in go
+// when it is reopened.
 function show(told) {
+    if (shown.handedIn === 'true' && !told.handed_in) {
+        say('', false);
+    }
     showBarriers(told);
     document.body.classList.toggle('over', told.handed_in);
     element('back').disabled = element('hand').disabled = told.handed_in;
@@ -27,8 +31,10 @@ function show(told) {
     document.dispatchEvent(new CustomEvent('told', { detail: told }));
 }
 
-// Says what came of the latest act; a refusal is an alert. It stays until the next act.
+// Says what came of the latest act; a refusal is an alert. It stays until the next act. What was said before this view
+// was drawn the desk has put into it, where it is not called out again.
 function say(words, refused) {
+    element('before').textContent = '';
     element('said').textContent = refused ? '' : words;
     element('refused').textContent = refused ? words : '';
 }

@@ -80,7 +80,7 @@ def acted(tally: Tally, charge: ChargePage, page: Page) -> None:
     until(lambda: charge.seen.script(ROWS)['7']['ended'][:9], 'handed in')
     charge.act('acts', 'reopen', '7', '7 goes on.', minutes='')
     page.handed_in = ''
-    page.shows('reopened', 'Handed in: barriers in gaps 5, 11.')
+    page.shows('reopened', '')
     page.turn(11)
 
 

@@ -26,7 +26,7 @@ return {
     counts: all('[data-count]').map((place) => [number(place), place.textContent]),
     tree: all('[data-tree]').map((place) => place.textContent),
     state: document.getElementById('state')?.textContent,
-    said: ['said', 'refused', 'lost'].map((id) => document.getElementById(id)?.textContent).join(''),
+    said: ['before', 'said', 'refused', 'lost'].map((id) => document.getElementById(id)?.textContent).join(''),
     who: document.getElementById('candidate')?.textContent,
 };
 """
@@ -45,7 +45,7 @@ class Page:
     def __init__(self, tally: Tally, browser: Browser, hall: Hall, name: str, called: str = ''):
         self.tally, self.hall, self.name, self.called = tally, hall, name, called or name
         self.practice = '--practice' in hall.more
-        self.browser, self.desk, self.handed_in = browser, Desk(), ''
+        self.browser, self.desk, self.handed_in, self.said = browser, Desk(), '', ''
         self.desk.load(hall.paper)
         self.paper = paper_on(self.desk)
 
@@ -90,10 +90,13 @@ class Page:
             alone.put(gap)
         return any(alone.standing().cuts)
 
-    def shows(self, step: str, said: str = '') -> None:
+    def shows(self, step: str, said: str | None = None) -> None:
+        """The page shows the library's sitting, and what is said now, or was said last."""
+        self.said = self.said if said is None else said
+
         def differing() -> dict[str, object]:
             found = self.browser.script(SHOWN)
-            wanted = self.wanted(said, found['numbers'])
+            wanted = self.wanted(self.said, found['numbers'])
             return {key: (found[key], wanted[key]) for key in wanted if found[key] != wanted[key]}
         differ = until(differing, {})
         self.tally.check(f'{self.name}: {step}', not differ, differ)

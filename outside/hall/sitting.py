@@ -24,6 +24,7 @@ from outside.hall.entering import entering
 from outside.hall.opened import Candidate, Hall, until_there
 from outside.hall.pages import GAP, SHOWN, Page, complaints
 from outside.hall.readers import readers
+from outside.hall.staying import staying
 from outside.hall.timed import timed
 from outside.hall.windows import windows
 from outside.measure import papers
@@ -84,11 +85,11 @@ def ring(page: Page) -> None:
     elsewhere, there = Candidate(page.hall, page.name), set(page.desk.standing().gaps)
     for turn in range(MANY):
         gap = 1 + turn % 13
-        elsewhere.move(f'lift {gap}' if gap in there else f'put {gap}')
+        _, told = elsewhere.move(f'lift {gap}' if gap in there else f'put {gap}')
         (page.desk.lift if gap in there else page.desk.put)(gap)
         there ^= {gap}
     page.browser.open(page.hall.address)
-    page.shows(f'after {MANY} moves')
+    page.shows(f'after {MANY} moves', told['said'])
     for _ in range(65):
         page.take_back()
 
@@ -287,7 +288,7 @@ def main() -> None:
         two(tally, seen, folder)
         barred(tally, seen[0], folder)
         large(tally, seen[0], folder)
-        for part in (boards, windows, entering, readers, timed):
+        for part in (boards, windows, entering, readers, timed, staying):
             part(tally, Browser(driver), folder)
         in_charge(tally, driver, folder)
         by_itself(tally, driver, folder)
