@@ -13,11 +13,12 @@ from office.command import REFUSED, Fault, write_json, write_out
 from office.keeping import finding_of
 from office.library import Desk
 from office.marks import HEAD, NO_MARK, Finding, Mark, sha256_of
+from office.names import names_bound
 from office.played import Played
 from office.progress import Progress
 from office.refusal import Refused
 from office.register import Register, opened
-from office.schema import SCHEMA
+from office.schema import SCHEMAS
 from office.view import verdict
 from office.words import ABSENT, UNREAD, counted
 
@@ -73,9 +74,9 @@ class Audit:
                         for table, row, parent, _ in self.register.asked('PRAGMA foreign_key_check')]
 
     def form(self) -> list[str]:
-        """Tables and rules, beside those of a new register."""
+        """Tables and rules, beside those of a new register of the same form."""
         with contextlib.closing(sqlite3.connect(':memory:')) as fresh:
-            fresh.executescript(SCHEMA)
+            fresh.executescript(SCHEMAS[self.register.form])
             wanted = dict(fresh.execute(FORM).fetchall())
         there = dict(self.register.asked(FORM))
         return [f'{name} is not as a register has it' for name in sorted(wanted.keys() | there.keys())
@@ -86,9 +87,20 @@ class Audit:
         for sha256, name, text in self.register.asked('SELECT sha256, name, text FROM paper'):
             self.note(f'paper {name}', lambda: hashed_otherwise(sha256, text))
             self.papers[sha256] = name, planned(text) if isinstance(text, bytes) else None
+            self.note(f'paper {name}', lambda: self.names(sha256))
         for sha256, text in self.register.asked('SELECT sha256, text FROM answer'):
             self.note(f'answer {sha256}', lambda: hashed_otherwise(sha256, text))
             self.answers[sha256] = text
+        return []
+
+    def names(self, sha256: str) -> list[str]:
+        """The names of a paper's statements."""
+        names, (_, desk) = self.register.names(sha256), self.papers[sha256]
+        try:
+            if names is not None and desk is not None:
+                names_bound(names, sha256, desk.nest.points)
+        except ValueError as fault:
+            return [f'its names are not as they were taken in: {fault}']
         return []
 
     def marks(self) -> list[str]:

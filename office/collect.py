@@ -11,13 +11,15 @@ from dataclasses import dataclass
 from office import oldlog
 from office.audit import planned
 from office.candidates import folded
-from office.command import FAILED, REFUSED, Fault, printable, tell, write_json, write_out
+from office.command import FAILED, REFUSED, Fault, printable, read_plain, tell, write_json, write_out
 from office.keeping import EVERY, Answer, Marker, PaperText, finding_of, keep, marker, telling
 from office.logbook import LOG
 from office.mark import paper_name, summary
 from office.marks import Finding
+from office.names import SUFFIX, bound_to, names_in
 from office.played import Played
 from office.register import Register, to_write
+from office.sittings import Sittings
 from office.words import ABSENT, counted
 
 HELP = 'takes a sitting that has ended into the register, with its log, and marks what was handed in'
@@ -51,7 +53,7 @@ class Ended:
         log = self.log
         with register.adding():
             for paper in self.papers:
-                register.add_paper(paper.sha256, paper.name, paper.text)
+                paper.add_to(register)
             for sitting in log.room.by_identity.values():
                 register.add_name(folded(sitting.candidate), sitting.name)
             if not register.asked('SELECT 1 FROM sitting WHERE head = ?', log.head):
@@ -90,9 +92,25 @@ def ended_in(folder: str, name: str | None) -> Ended:
         raise Fault(f'cannot read {printable(file)}: {fault.strerror}') from fault
     if not log.opened:
         raise Fault(f'{printable(file)} is of a sitting that never began')
-    papers = [PaperText(paper, log.room.titles.get(paper) or paper_name(name or '-'), text)
+    names = names_of_sitting(folder, log.room)
+    papers = [PaperText(paper, log.room.titles.get(paper) or paper_name(name or '-'), text, names.get(paper, b''))
               for paper, text in log.room.texts.items()]
     return Ended(log, data, printable(pathlib.Path(os.path.abspath(folder)).name), papers)
+
+
+def names_of_sitting(folder: str, room: Sittings) -> dict[str, bytes]:
+    """The files of names that a hall has left in its folder, by its papers."""
+    found: dict[str, bytes] = {}
+    for file in sorted(map(str, pathlib.Path(folder).glob(f'*{SUFFIX}'))):
+        data = read_plain(file)
+        paper = bound_to(data)
+        if paper in room.blank:
+            try:
+                names_in(data, room.blank[paper].nest.points)
+            except ValueError as fault:
+                raise Fault(f'{printable(file)}: {fault}; move it away', REFUSED) from fault
+            found[paper] = data
+    return found
 
 
 def keep_all(register: Register, ended: Ended, papers: list[PaperText], by: Marker) -> tuple[list[Answer], list[str]]:

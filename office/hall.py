@@ -18,6 +18,7 @@ from office.chain import OFFICE, Event
 from office.clock import AHEAD, BEHIND, SECOND, Wanted, of_day, spelled, time_in, told
 from office.command import Fault, mention, printable, read_in, take_away, write_over
 from office.logbook import LOG, Logbook, NotKnown
+from office.names import BEGINS, SUFFIX
 from office.refusal import Refused
 from office.sittings import (COLLECTED, ENTER, HAND_IN, LEAVE, Sitting, Sittings, State, hash_of, made, told_gaps,
                              why_not)
@@ -62,6 +63,7 @@ class Hall:
         self.unkept: list[tuple[Sitting, State]] = []
         self.unwritten: dict[str, bytes | None] = {}
         self.tickets_unwritten: dict[str, bytes] = {}
+        self.names: dict[str, bytes] = {}
         self.told: set[str] = set()
         self.broken = self.uncollected = False
         self.room = Sittings(self.paper)
@@ -273,6 +275,7 @@ class Hall:
         if self.log.old:
             mention(f'{printable(self.log.file)} was of an older form: it is taken down anew, and the old one kept as '
                     f'{printable(self.log.old)}')
+        self.write_names()
         self.write_files()
 
     def give_up(self) -> None:
@@ -417,6 +420,14 @@ class Hall:
         """The tickets on paper, of all whose tickets are in the file."""
         rows = [(sitting, self.tickets.rows.get(folded(sitting.candidate), {})) for sitting in self.sittings.values()]
         return tickets_page(self.address, [(sitting, row['ticket']) for sitting, row in rows if row.get('ticket')])
+
+    def write_names(self) -> None:
+        """Leaves the names of statements in the folder, where ./desk collect finds them. The sitting needs no file."""
+        for paper, names in self.names.items():
+            try:
+                write_over(os.path.join(self.answers, f'{paper}{SUFFIX}'), names, begins=BEGINS)
+            except Fault as fault:
+                mention(f'{fault}; the page has the names of statements all the same')
 
     def write_tickets(self) -> None:
         for file in [*self.tickets_unwritten]:

@@ -20,10 +20,18 @@ EVERY = 300
 
 @dataclass(frozen=True)
 class PaperText:
-    """A paper as the register has it: the hash and the name that it goes by, and its text."""
+    """A paper as the register has it: the hash and the name that it goes by, its text, and a file with the names of its
+    statements, if there are any."""
     sha256: str
     name: str
     text: bytes
+    names: bytes = b''
+
+    def add_to(self, register: Register) -> None:
+        """Adds what is not there yet, inside adding()."""
+        register.add_paper(self.sha256, self.name, self.text)
+        if self.names:
+            register.add_names(self.sha256, self.names)
 
 
 @dataclass(frozen=True)
@@ -80,7 +88,7 @@ def keep(register: Register, paper: PaperText, answers: list[Answer], by: Marker
     nothing; another one takes the place of the first only for a reason, and none at all never does."""
     outcomes: list[Outcome] = []
     with register.adding():
-        register.add_paper(paper.sha256, paper.name, paper.text)
+        paper.add_to(register)
         for answer in answers:
             there = register.current(answer.candidate, paper.sha256)
             why = '' if there is None else kept_from(answer, there, by.reason)

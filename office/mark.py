@@ -4,7 +4,7 @@ import contextlib
 import os
 import pathlib
 from collections import Counter
-from dataclasses import dataclass, field
+from dataclasses import dataclass, field, replace
 
 from office.asked import BLANK_HELP, PAPER_HELP, answer_cause, planned
 from office.candidates import IDENTITY, IDENTITY_FORM, Candidate, candidates_in, folded
@@ -13,6 +13,7 @@ from office.command import (FAILED, REFUSED, Fault, done, files_in, printable, r
 from office.keeping import EVERY, Answer, Marker, PaperText, finding_of, keep, marker, telling
 from office.library import Desk
 from office.marks import Finding, sha256_of
+from office.names import names_to_keep
 from office.progress import Progress
 from office.refusal import Refusal
 from office.register import Register, to_write
@@ -205,10 +206,11 @@ def mark_sitting(asked: argparse.Namespace) -> None:
     if asked.register is None:
         raise Fault('a sitting is marked in a register: --register FILE names it')
     look_at(asked)
-    _, text = planned(asked.paper, asked.blank)
+    desk, text = planned(asked.paper, asked.blank)
     with at_rest(asked.sitting):
         ended = ended_in(asked.sitting, asked.paper)
-    papers = [paper for paper in ended.papers if paper.sha256 == sha256_of(text)]
+    names = names_to_keep(desk, asked.paper, text)
+    papers = [replace(paper, names=names or paper.names) for paper in ended.papers if paper.sha256 == sha256_of(text)]
     if not papers:
         raise Fault(f'{printable(asked.sitting)} is a sitting over another paper than {printable(asked.paper)}')
     take(ended, papers, asked)
@@ -223,7 +225,8 @@ def main(asked: argparse.Namespace) -> None:
     listed = None if asked.candidates is None else listed_in(asked.candidates, paper_name(asked.paper))
     files, wrong = files_of(answers_in(asked.answers), listed)
     desk, text = planned(asked.paper, asked.blank)
-    paper = PaperText(sha256_of(text), paper_name(asked.paper), text)
+    names = b'' if asked.register is None else names_to_keep(desk, asked.paper, text)
+    paper = PaperText(sha256_of(text), paper_name(asked.paper), text, names)
     slips = None if asked.slips is None else Slips(asked.slips)
     if slips is not None:
         slips.make()

@@ -27,27 +27,34 @@ def names_text(text: bytes, names: dict[int, str]) -> bytes:
     return '\n'.join([f'sha256 {hashlib.sha256(text).hexdigest()}', *rows, '']).encode()
 
 
-def names_in(data: bytes, text: bytes, points: list[int], file: str) -> dict[int, str]:
-    """The names that a file has for a paper; none, if it is of another one, which is told."""
-    top, *rows = data.decode('utf-8', 'replace').splitlines() or ['']
-    bound = TOP.fullmatch(top)
-    if not bound:
-        raise Fault(f'{printable(file)} is no file of names: line 1 is not sha256 and a hash; move it away', REFUSED)
-    if bound[1] != hashlib.sha256(text).hexdigest():
-        tell('desk', f'{printable(file)} is of another paper, so its names are not used')
-        return {}
+def bound_to(data: bytes) -> str:
+    """The hash of the paper that a file of names is of; nothing where it is no such file."""
+    top = TOP.fullmatch(data.partition(b'\n')[0].decode('utf-8', 'replace'))
+    return top[1] if top else ''
+
+
+def names_in(data: bytes, points: list[int]) -> dict[int, str]:
+    """The names that a file has for the points of its paper. A ValueError says where it has something else."""
+    _, *rows = data.decode('utf-8', 'replace').splitlines()
     names: dict[int, str] = {}
     for number, row in enumerate(rows, 2):
         read = ROW.fullmatch(row)
         if not read or not is_name(read[2]):
-            raise Fault(f'{printable(file)}: line {number} is not a point and a name: {printable(row)}', REFUSED)
+            raise ValueError(f'line {number} is not a point and a name: {printable(row)}')
         point, name = int(read[1]), read[2]
         if point >= len(points) or points[point] == ENDDO:
-            raise Fault(f'{printable(file)}: line {number}: point {point} is no statement and no DO', REFUSED)
+            raise ValueError(f'line {number}: point {point} is no statement and no DO')
         if point in names or name in names.values():
-            raise Fault(f'{printable(file)}: line {number}: the point or the name is there already', REFUSED)
+            raise ValueError(f'line {number}: the point or the name is there already')
         names[point] = name
     return names
+
+
+def names_bound(data: bytes, paper: str, points: list[int]) -> dict[int, str]:
+    """The names of a paper with this hash, as a register has them. A ValueError says why they are not its names."""
+    if bound_to(data) != paper:
+        raise ValueError('line 1 is not sha256 and the hash of this paper')
+    return names_in(data, points)
 
 
 def is_name(word: str) -> bool:
@@ -56,9 +63,29 @@ def is_name(word: str) -> bool:
     return [one.text for one in words] == [word] and words[0].is_name
 
 
-def named_paper(desk: Desk, file: str, text: bytes) -> Paper:
-    """The paper on a desk, with the names that lie beside its file."""
+def names_beside(desk: Desk, file: str, text: bytes) -> dict[int, str]:
+    """The names that lie beside the file of a paper; those of another one are told of and not used."""
     beside = os.path.splitext(file)[0] + SUFFIX
     if file == '-' or not os.path.exists(beside):
-        return paper_on(desk)
-    return paper_on(desk, names_in(read_plain(beside), text, desk.nest.points, beside))
+        return {}
+    data = read_plain(beside)
+    if not bound_to(data):
+        raise Fault(f'{printable(beside)} is no file of names: line 1 is not sha256 and a hash; move it away', REFUSED)
+    if bound_to(data) != hashlib.sha256(text).hexdigest():
+        tell('desk', f'{printable(beside)} is of another paper, so its names are not used')
+        return {}
+    try:
+        return names_in(data, desk.nest.points)
+    except ValueError as fault:
+        raise Fault(f'{printable(beside)}: {fault}', REFUSED) from fault
+
+
+def named_paper(desk: Desk, file: str, text: bytes) -> Paper:
+    """The paper on a desk, with the names that lie beside its file."""
+    return paper_on(desk, names_beside(desk, file, text))
+
+
+def names_to_keep(desk: Desk, file: str, text: bytes) -> bytes:
+    """The names that lie beside the file of a paper, as a file of them; nothing where there are none."""
+    names = names_beside(desk, file, text)
+    return names_text(text, names) if names else b''

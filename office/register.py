@@ -15,7 +15,7 @@ from typing import Any
 
 from office.command import Fault, begins_with, printable, tell
 from office.marks import COLUMNS, HEAD, NO_MARK, Mark
-from office.schema import APPLICATION, FORM, SCHEMA
+from office.schema import APPLICATION, FORM, NAMED, SCHEMAS
 
 # Seconds to wait for another desk: without a word, and then in all.
 QUIET, PATIENCE = 2, 60
@@ -38,7 +38,7 @@ class Register:
         self.under_way = self.kept = 0
 
     def connected(self) -> sqlite3.Connection:
-        """A connection to the file, if it is a register of this form. Who reads may have to mend first what a desk left
+        """A connection to the file, if it is a register of a form that is known. Who reads may have to mend first what a desk left
         that was killed, so the file is opened for writing where it may be."""
         place = pathlib.Path(os.path.abspath(self.file)).as_uri()
         patience = QUIET if self.writing else PATIENCE
@@ -49,8 +49,8 @@ class Register:
                                  for name in ('application_id', 'user_version'))
             if application != APPLICATION:
                 raise sqlite3.DatabaseError('it is a database of another program')
-            if form != FORM:
-                raise sqlite3.DatabaseError(f'it is a register of form {form}, and this desk has form {FORM}')
+            if form not in SCHEMAS:
+                raise sqlite3.DatabaseError(f'it is a register of form {form}, and this desk knows forms up to {FORM}')
             for rule in LASTING if self.writing else ['query_only=ON']:
                 made.execute(f'PRAGMA {rule}')
             if self.writing and made.execute('PRAGMA journal_mode').fetchone()[0] != 'delete':
@@ -94,6 +94,18 @@ class Register:
     def paper(self, sha256: str) -> tuple[str, bytes] | None:
         """The name and the text of a paper."""
         return next(iter(self.asked('SELECT name, text FROM paper WHERE sha256 = ?', sha256)), None)
+
+    @property
+    def form(self) -> int:
+        """The number of its form."""
+        (form,), = self.asked('PRAGMA user_version')
+        return int(form)
+
+    def names(self, paper: str) -> bytes | None:
+        """The names of a paper's statements, as a file of them has it. The first form has none."""
+        if self.form < FORM:
+            return None
+        return next((row[0] for row in self.asked('SELECT text FROM names WHERE paper = ?', paper)), None)
 
     def answer(self, sha256: str) -> bytes | None:
         return next((row[0] for row in self.asked('SELECT text FROM answer WHERE sha256 = ?', sha256)), None)
@@ -161,6 +173,21 @@ class Register:
         """Adds a paper that is not there yet, inside adding()."""
         if self.paper(sha256) is None:
             self.add('paper', sha256=sha256, name=name, text=text)
+
+    def add_names(self, paper: str, text: bytes) -> None:
+        """Adds the names of a paper's statements, or mends them, inside adding(). A register of the first form gets the
+        newest."""
+        if self.form < FORM:
+            tell('desk', f'{printable(self.file)} gets form {FORM}, for the names of statements: an older desk will '
+                 'not read it')
+            for statement in [*NAMED, f'PRAGMA user_version={FORM}']:
+                self.connection.execute(statement)
+        known = self.names(paper)
+        if known is None:
+            self.add('names', paper=paper, text=text)
+        elif known != text:
+            self.connection.execute('UPDATE names SET text = ? WHERE paper = ?', (text, paper))
+            self.last = 'SELECT 1 FROM names WHERE paper = ? AND text = ?', (paper, text)
 
     def add_answer(self, sha256: str, text: bytes) -> None:
         """Adds an answer's bytes that are not there yet, inside adding()."""
@@ -257,7 +284,7 @@ def made(file: str) -> Register:
         with contextlib.closing(sqlite3.connect(beside, isolation_level=None)) as fresh:
             for rule in [*LASTING, f'application_id={APPLICATION}', f'user_version={FORM}']:
                 fresh.execute(f'PRAGMA {rule}')
-            fresh.executescript(f'BEGIN; {SCHEMA} COMMIT;')
+            fresh.executescript(f'BEGIN; {SCHEMAS[FORM]} COMMIT;')
         os.link(beside, place)
         sync_folder(place)
     except FileExistsError as fault:

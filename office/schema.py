@@ -1,12 +1,12 @@
-"""The form of the register in SQL: tables, what their rows must keep, and the view of the marks that hold today.
+"""The forms of the register in SQL: tables, what their rows must keep, and the view of the marks that hold today.
 
 Rows are added and stay as they are. These rules keep from slips of the hand; that nobody changed a row by other means
-is shown by the chain of marks.py.
+is shown by the chain of marks.py. A form that registers have is never changed: a later one adds to it.
 """
 from office.marks import NO_MARK
 
-# "desk" in the header of the file, and the number of this form.
-APPLICATION, FORM = 0x6465736B, 1
+# "desk" in the header of the file, and the number of the newest form.
+APPLICATION, FORM = 0x6465736B, 2
 HASH = 64
 
 TABLES = f"""
@@ -86,13 +86,28 @@ CREATE TRIGGER certificate_of_best BEFORE INSERT ON certificate
 WHEN NOT EXISTS (SELECT 1 FROM register WHERE seq = NEW.mark AND verdict = 'Best')
 BEGIN SELECT RAISE(ABORT, 'a certificate is for a mark Best that holds today'); END;
 """
-STAYS = """
+STAYS = ["""
 CREATE TRIGGER {table}_is_changed BEFORE UPDATE{of} ON {table}
 BEGIN SELECT RAISE(ABORT, 'what the register has stays as it is'); END;
-
+""", """
 CREATE TRIGGER {table}_is_removed BEFORE DELETE ON {table}
 BEGIN SELECT RAISE(ABORT, 'what the register has stays as it is'); END;
-"""
+"""]
 # Of a person the name may be mended, and nothing else.
 STAYING = {'paper': '', 'answer': '', 'person': ' OF id', 'sitting': '', 'mark': '', 'certificate': ''}
-SCHEMA = TABLES + TURN + ''.join(STAYS.format(table=table, of=of) for table, of in STAYING.items())
+
+
+def staying(table: str, of: str) -> list[str]:
+    """The rules by which rows of a table stay as they are, or some columns of them."""
+    return [rule.format(table=table, of=of) for rule in STAYS]
+
+
+# What the second form adds: the names of a paper's statements, a file of names.py. They may be mended.
+NAMED = ["""
+CREATE TABLE names (
+    paper TEXT NOT NULL PRIMARY KEY REFERENCES paper (sha256),
+    text BLOB NOT NULL
+) STRICT;
+""", *staying('names', ' OF paper')]
+FIRST = TABLES + TURN + ''.join(rule for table in STAYING.items() for rule in staying(*table))
+SCHEMAS = {1: FIRST, 2: FIRST + ''.join(NAMED)}

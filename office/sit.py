@@ -11,7 +11,7 @@ from office.clock import wanted
 from office.command import Fault, printable, write_out
 from office.hall import TICKETS, TO_PRINT, Hall
 from office.library import Desk
-from office.names import named_paper
+from office.names import named_paper, names_text
 from office.words import counted
 
 HELP = 'serves a sitting on a page, where candidates put and lift barriers and hand in'
@@ -133,8 +133,9 @@ def main(asked: argparse.Namespace) -> None:
             Hall(text, candidates, asked.answers, time, name, dict(others)) as hall:
         here = called(asked, listening.getsockname()[1])
         hall.address = here.address
-        pages = Pages({hall.papers[name]: OfPaper(named_paper(laid_out(text), files[name], text), name, asked.practice)
-                       for name, text in hall.texts.items()}, here)
+        papers = {name: named_paper(laid_out(text), files[name], text) for name, text in hall.texts.items()}
+        hall.names = {name: names_text(hall.texts[name], paper.names) for name, paper in papers.items() if paper.names}
+        pages = Pages({hall.papers[name]: OfPaper(paper, name, asked.practice) for name, paper in papers.items()}, here)
         server = Server(listening, tls, here, hall, pages, asked.practice)
         hall.open()
         say_so(hall, here.address, server.charge.secret)

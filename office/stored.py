@@ -7,6 +7,7 @@ from office.command import Fault
 from office.keeping import PaperText, finding_of
 from office.library import Desk
 from office.marks import Mark, sha256_of
+from office.names import names_bound
 from office.paper import Paper, paper_on
 from office.register import Register
 
@@ -33,8 +34,16 @@ class Stored:
             desk = planned(text)
             if sha256_of(text) != mark.paper or desk is None:
                 raise damaged(mark)
-            self.papers[mark.paper] = OnDesk(PaperText(mark.paper, name, text), desk, paper_on(desk))
+            self.papers[mark.paper] = OnDesk(PaperText(mark.paper, name, text), desk, self.named(mark, desk))
         return self.papers[mark.paper]
+
+    def named(self, mark: Mark, desk: Desk) -> Paper:
+        """The paper on a desk, with the names that the register has of its statements."""
+        names = self.register.names(mark.paper)
+        try:
+            return paper_on(desk, {} if names is None else names_bound(names, mark.paper, desk.nest.points))
+        except ValueError as fault:
+            raise damaged(mark) from fault
 
     def answer(self, mark: Mark) -> bytes:
         """The answer of a mark that has one."""

@@ -259,7 +259,8 @@ def named(tally: Tally, seen: Browser, folder: pathlib.Path) -> None:
     """Names that lie beside the paper are on the page, in the drawing and for a screen reader."""
     hall = Hall(folder / 'named', EXAMPLES['p'], ['anna'])
     bound = hashlib.sha256(EXAMPLES['p']).hexdigest()
-    (hall.folder / 'paper.names').write_text(f'sha256 {bound}\n0 sweep\n2 update\n5 copy\n')
+    names = f'sha256 {bound}\n0 sweep\n2 update\n5 copy\n'
+    (hall.folder / 'paper.names').write_text(names)
     page = Page(tally, seen, hall.start(), 'anna')
     page.enter()
     page.shows('with names')
@@ -268,6 +269,7 @@ def named(tally: Tally, seen: Browser, folder: pathlib.Path) -> None:
     tally.check('names are heard', all(heard.get(gap) == ('button', 'false') for gap in wanted), heard)
     item = seen.script('return document.querySelector("#dependences li").textContent')
     tally.check('names in words', item == '0 independent, update 2 to copy 5: gaps 3 to 5', item)
+    tally.check('names for the register', (hall.answers / 'paper.names').read_text() == names)
     hall.end()
 
 

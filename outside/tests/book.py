@@ -4,6 +4,7 @@ and a register that somebody changed by hand. Needs gcc and the library's archiv
 """
 import contextlib
 import csv
+import hashlib
 import json
 import os
 import pathlib
@@ -22,13 +23,15 @@ from office.audit import Audit
 from office.chain import now
 from office.command import Fault
 from office.marks import Mark, certificate_in
-from office.schema import APPLICATION
+from office.schema import APPLICATION, SCHEMAS
 from outside.measure.whole_day import day, marks_in
 from outside.tests.workday import rows_of, text_of
 from outside.trying import DESK, EXAMPLES, ROOT, Seen, Tally, run
 
 P, Q = ROOT / 'examples' / 'p.hex', ROOT / 'examples' / 'q.hex'
 ANSWERS = sorted((ROOT / 'examples' / 'answers').glob('*.hex'))
+# The hash of the first form, by which registers were made that had no names of statements.
+FIRST_FORM = 'aea28fe9bf6f1feab3355aba967565a2aa2a9854100d94814bc6cb858196f6b2'
 ADDED = re.compile(r'([\d,]+) marks? added, head ([0-9a-f]{16})\n')
 
 
@@ -53,7 +56,7 @@ def files(tally: Tally, folder: pathlib.Path) -> None:
     others = {'junk': b'name,mark\n', 'empty': b'', 'page': b'<!DOCTYPE html>'}
     for name, data in others.items():
         (folder / name).write_bytes(data)
-    for name, application, form in [('other', 7, 1), ('plain', 0, 0), ('later', APPLICATION, 2)]:
+    for name, application, form in [('other', 7, 1), ('plain', 0, 0), ('later', APPLICATION, 3)]:
         with contextlib.closing(sqlite3.connect(folder / name)) as made:
             made.executescript(f'PRAGMA application_id={application}; PRAGMA user_version={form}; CREATE TABLE a (b);')
         others[name] = (folder / name).read_bytes()
@@ -236,6 +239,61 @@ def commits(tally: Tally, folder: pathlib.Path) -> None:
     tally.passed += int(closing[1]) if closing else 0
 
 
+def first_form(file: pathlib.Path) -> None:
+    """A new register as desks made it before there were names of statements in it."""
+    with contextlib.closing(sqlite3.connect(file, isolation_level=None)) as made:
+        made.executescript(f'PRAGMA application_id={APPLICATION}; PRAGMA user_version=1; BEGIN; {SCHEMAS[1]} COMMIT;')
+
+
+def form_of(register: pathlib.Path) -> int:
+    with registers.opened(str(register)) as opened:
+        return opened.form
+
+
+def forms(tally: Tally, folder: pathlib.Path) -> None:
+    """A register of the first form is read and added to as it is. The first names of statements bring it into the newest
+    form, and nothing else of it changes."""
+    known = hashlib.sha256(SCHEMAS[1].encode()).hexdigest()
+    tally.check('the first form is as it was', known == FIRST_FORM, known)
+    register, paper, names = folder / 'first.db', folder / 'p.hex', folder / 'p.names'
+    first_form(register)
+    paper.write_bytes(EXAMPLES['p'])
+    mark = [DESK, 'mark', paper, '--register', register]
+    seen = run(*mark, *ANSWERS[:2])
+    tally.check('added to', added(seen) == 2 and seen.err == '' and form_of(register) == 1, seen)
+    names.write_text('sha256 0\n')
+    tally.check('a bad file of names', run(*mark, *ANSWERS).failed('is no file of names', 1) and form_of(register) == 1)
+    names.write_text(f'sha256 {"0" * 64}\n2 update\n')
+    seen = run(*mark, *ANSWERS[:2])
+    tally.check('names of another paper', added(seen) == 0 and 'not used' in seen.err and form_of(register) == 1, seen)
+    for command in (['audit', register], ['register', register], ['export', register, '--slips', folder / 'slips']):
+        seen = run(DESK, *command)
+        tally.check(f'{command[0]} of the first form', seen.status == 0 and seen.err == '', seen)
+    before, bound = everything(register), f'sha256 {hashlib.sha256(EXAMPLES["p"]).hexdigest()}\n'
+    names.write_text(f'{bound}2 update\n5 copy\n')
+    seen = run(*mark, *ANSWERS[:2], shell=f'ulimit -f 0; "$@"')
+    tally.check('a full disk', seen.status == 2 and (form_of(register), everything(register)) == (1, before), seen)
+    seen = run(*mark, *ANSWERS[:2])
+    tally.check('the newest form', added(seen) == 0 and 'gets form 2' in seen.err and form_of(register) == 2, seen)
+    tally.check('nothing is lost', everything(register) == before)
+    for text in (f'{bound}2 update\n5 copy\n', f'{bound}2 relax\n5 copy\n'):
+        names.write_text(text)
+        seen = run(*mark, *ANSWERS)
+        with registers.opened(str(register)) as opened:
+            kept = opened.names(hashlib.sha256(EXAMPLES['p']).hexdigest())
+        tally.check('names are kept, and mended', seen.status == 1 and kept == text.encode(), (seen, kept))
+    names.unlink()
+    seen = run(*mark, *ANSWERS[:2])
+    tally.check('without a file they stay', added(seen) == 0 and run(DESK, 'audit', register).status == 0, seen)
+    for script in ("UPDATE names SET paper = 'x'", 'DELETE FROM names'):
+        with contextlib.closing(sqlite3.connect(register)) as opened:
+            try:
+                opened.execute(script)
+                tally.check(f'refused: {script}', False)
+            except sqlite3.IntegrityError:
+                tally.check(f'refused: {script}', True)
+
+
 # ---- Changed by hand
 
 CARL = "UPDATE mark SET verdict = 'Best', loop = NULL, theirs = NULL, ours = NULL WHERE seq = 3"
@@ -256,6 +314,10 @@ CHANGES = [
     ('a paper', "UPDATE paper SET text = x'30310a30320a'", False, [
         'paper p: its text has another hash', 'mark 1, anna on p: Best is kept, and Refused']),
     ('no answer', 'PRAGMA foreign_keys=OFF; DELETE FROM answer', False, ['what mark 1 names in answer is not there']),
+    ('names of no point', "INSERT INTO names SELECT sha256, CAST('sha256 ' || sha256 || x'0a393920780a' AS BLOB) "
+     'FROM paper', False, ['paper p: its names are not as they were taken in: line 2: point 99 is no statement and no DO']),
+    ('names of none', "INSERT INTO names SELECT sha256, CAST('2 update' AS BLOB) FROM paper", False, [
+        'paper p: its names are not as they were taken in: line 1 is not sha256 and the hash of this paper']),
     ('no rule', 'DROP TRIGGER mark_in_turn', False, ['trigger mark_in_turn is not as a register has it']),
     ('another rule', 'CREATE TRIGGER more AFTER INSERT ON mark BEGIN SELECT 1; END', False, ['trigger more is not']),
     ('a certificate', "INSERT INTO certificate VALUES ('abcd-abcd-abcd-abcd', 1, '2999')", False, [
@@ -412,7 +474,7 @@ def small_day(tally: Tally, folder: pathlib.Path) -> None:
 
 def main() -> None:
     tally = Tally()
-    for part in (files, again, exports, writers, ended, commits, changed, certificates, taken_in, small_day):
+    for part in (files, again, exports, writers, ended, commits, forms, changed, certificates, taken_in, small_day):
         with tempfile.TemporaryDirectory() as name:
             part(tally, pathlib.Path(name))
     tally.close()

@@ -139,6 +139,30 @@ def by_mark(tally: Tally, folder: pathlib.Path) -> None:
         tally.check(words, run(*command).failed(words), run(*command))
 
 
+def names(tally: Tally, folder: pathlib.Path) -> None:
+    """The names of statements that the hall has left in its folder go along into the register; those beside the paper
+    come first."""
+    answers, bound = folder / 'named', hashlib.sha256(EXAMPLES['p']).hexdigest()
+    sit(answers)
+    (folder / 'p.hex').write_bytes(EXAMPLES['p'])
+    (answers / 'other.names').write_text(f'sha256 {"0" * 64}\n2 other\n')
+    (answers / 'p.names').write_text(f'sha256 {bound}\n2 update\n')
+    collect = [DESK, 'collect', answers, '--new', '--register']
+    mark = [DESK, 'mark', folder / 'p.hex', '--sitting', answers, '--new', '--register']
+    for number, (command, beside, wanted) in enumerate([(collect, '', 'update'), (mark, '', 'update'),
+                                                        (mark, 'relax', 'relax'), (collect, 'relax', 'update')]):
+        if beside:
+            (folder / 'p.names').write_text(f'sha256 {bound}\n2 {beside}\n')
+        register = folder / f'{number}.db'
+        seen = run(*command, register)
+        with registers.opened(str(register)) as opened:
+            kept = opened.names(bound)
+        tally.check(f'names by {command[1]}', kept == f'sha256 {bound}\n2 {wanted}\n'.encode(), (seen, kept))
+        tally.check(f'audited, {number}', run(DESK, 'audit', register).status == 0)
+    (answers / 'p.names').write_text(f'sha256 {bound}\n6 end\n')
+    tally.check('names that are none', run(*collect, folder / 'none.db').failed('point 6 is no statement', 1))
+
+
 def refused(tally: Tally, folder: pathlib.Path) -> None:
     """A hall that is open, a log that is changed or of nothing: nothing is taken in."""
     answers, register = folder / 'answers', folder / 'register.db'
@@ -206,7 +230,7 @@ def changed(tally: Tally, folder: pathlib.Path) -> None:
 
 def main() -> None:
     tally = Tally()
-    for part in (collected, by_mark, refused, changed):
+    for part in (collected, by_mark, names, refused, changed):
         with tempfile.TemporaryDirectory() as name:
             part(tally, pathlib.Path(name))
     tally.close()

@@ -149,6 +149,25 @@ def exported(tally: Tally, folder: pathlib.Path) -> None:
     tally.check('the same again', whole == {file: file.read_bytes() for file in slips.glob('*/*')})
 
 
+def named(tally: Tally, folder: pathlib.Path) -> None:
+    """The names of statements that lay beside the paper when it was marked stand on the pages; a register whose names
+    were changed by hand hands nothing out."""
+    register, slips, paper = folder / 'register.db', folder / 'slips', folder / 'p.hex'
+    paper.write_bytes(EXAMPLES['p'])
+    bound = hashlib.sha256(EXAMPLES['p']).hexdigest()
+    (folder / 'p.names').write_text(f'sha256 {bound}\n0 sweep\n2 update\n10 copy\n')
+    run(DESK, 'mark', paper, *ANSWERS, '--register', register, '--new')
+    (folder / 'p.names').unlink()
+    run(DESK, 'export', register, '--slips', slips)
+    for reader in ('candidate', 'examiner'):
+        words = words_of(page_of(slips, 'bert', 'p', reader))
+        told = 'dependence 4: carried by loop 0, copy 10 to update 2: gaps 1 to 2 and 11 to 13.'
+        tally.check(f'names for the {reader}', told in words, words)
+    change(register, "UPDATE names SET text = CAST('2 update' AS BLOB)", False)
+    seen = run(DESK, 'export', register, '--slips', slips)
+    tally.check('names that were changed', seen.status == 2 and 'not as it was made' in seen.err, seen)
+
+
 def no_longer(tally: Tally, folder: pathlib.Path) -> None:
     """What a later mark took the place of is handed out no more."""
     register, slips, late = a_register(folder), folder / 'slips', folder / 'late' / 'anna.hex'
@@ -325,7 +344,7 @@ def no_certificate(tally: Tally, folder: pathlib.Path) -> None:
 
 def main() -> None:
     tally = Tally()
-    for part in (numbers, in_words, exported, no_longer, not_written, certified, no_certificate):
+    for part in (numbers, in_words, exported, named, no_longer, not_written, certified, no_certificate):
         with tempfile.TemporaryDirectory() as name:
             part(tally, pathlib.Path(name))
     tally.close()
