@@ -136,7 +136,7 @@ fn enter(
 }
 
 // The innermost loop that holds all gaps from s + 1 to t.
-fn home_of(points: &[u8], own: &[usize], ends: &[usize], s: usize, t: usize) -> usize
+pub fn home_of(points: &[u8], own: &[usize], ends: &[usize], s: usize, t: usize) -> usize
     requires { ⌜ Points (now points) ⌝ }
     requires { ⌜ OwnIs (now points) (now own) ⌝ }
     requires { ⌜ EndsAre (now points) (now ends) ⌝ }

@@ -1,0 +1,2 @@
+-- Laws of the passes that number the sets.
+pub mod Numbering

@@ -1,0 +1,2 @@
+-- The sets that the steps of a lap name.
+pub mod Numbered

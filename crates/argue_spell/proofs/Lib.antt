@@ -1,0 +1,2 @@
+-- Laws of texts that are added to a buffer.
+pub mod Adding

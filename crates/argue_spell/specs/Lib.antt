@@ -1,0 +1,2 @@
+-- Claims and steps spelled into a lent buffer.
+pub mod Added
