@@ -6,6 +6,8 @@ from office.header import DECLARED
 DO, ENDDO, STATEMENT, INDEPENDENT, CARRIED, BARRED = (
     DECLARED.numbers[f'DESK_{kind}'] for kind in ('DO', 'ENDDO', 'STATEMENT', 'INDEPENDENT', 'CARRIED', 'BARRED'))
 FLAGGED, BARRIER, COUNT, FIRST_UNCUT, VERDICT, CUT, REFUSAL = 0x04, 0x21, 0x22, 0x23, 0x24, 0x25, 0x2F
+# Lines of arguments: a claim, a claim that leads, the gaps of a dependence, those from one on, those up to one.
+CLAIM, LED, CUTS, FROM, UPTO = 0x31, 0x32, 0x33, 0x34, 0x35
 # So many a paper has at most; loops are at most so many deep.
 POINTS, DEPENDENCES, BARS = (DECLARED.numbers[f'DESK_{many}'] for many in ('POINTS', 'DEPENDENCES', 'BARS'))
 DEEP = 8
