@@ -1,6 +1,5 @@
--- What the claims so far exclude, as one number a gap: one more than the innermost loop that excludes it. A loop around
--- the gap then has it excluded inside exactly if the number is above its own.
--- Main statements: `Excludes`, `strike-excludes`, `excludes-says`.
+-- The table of what is excluded, once one more claim holds, and that what the code asks of a gap is what the claim says.
+-- Main statements: `strike-excludes`, `excludes-says`.
 use mathlib.Core.Path.{_≡_, refl, sym, ap, _∙_}
 use mathlib.Core.Bool.{Bool, true, false, _&&_, _||_, not}
 use mathlib.Core.List.{List, [], _∷_, _++_}
@@ -18,6 +17,7 @@ use Rattle.paper_nests.specs.Loops.{isDo, endOf, ownerOf, isAround, inLoop}
 use Rattle.paper_placements.specs.Placements.{loopCount}
 use Rattle.argue_claims.specs.Arguments.{Claim, Known, Count, isLow, says, knownOut, most, keyLots, knownOf}
 use Rattle.argue_weigh.specs.Striking.{larger, excludesAt, Struck}
+use Rattle.argue_weigh.specs.Excluding.{excludedIn, Excludes}
 
 -- above the larger of two is above either
 above-larger : (k a b : ℕ) → ltb k (larger a b) ≡ (ltb k a || ltb k b)
@@ -59,27 +59,12 @@ module _ (n : Nest) (key : List ℕ) where
       let r : knownOut n key d (ks ++ (k ∷ [])) g ≡ (knownOut n key d ks g || outBy d k g) = known-more d ks k g in
       rw r (or-assoc (outBy d j g) (knownOut n key d ks g) (outBy d k g))
 
-  -- excluded inside loop d: barred, of a loop with count 0, or by a claim
-  abbrev pub excludedIn : ℕ → List Known → ℕ → Bool
-  excludedIn d ks g =
-      isIn g (n .barred) ||
-      ((not (eqb (ownerOf (n .points) g) d) && eqb (loopCount n key (ownerOf (n .points) g)) 0) ||
-      knownOut n key d ks g)
-
-  -- the table says it of every loop and every gap of its range
-  pub record Excludes (ks : List Known) (struck : List ℕ) : Type 0 where
-    pub tells
-        : (d g : ℕ)
-        → isDo (n .points) d ≡ true
-        → isAround (n .points) g d ≡ true
-        → ltb (suc d) (at struck g) ≡ excludedIn d ks g
-
-  module _ (ks : List Known) (k : Known) (old new : List ℕ) (before : Excludes ks old)
+  module _ (ks : List Known) (k : Known) (old new : List ℕ) (before : Excludes n key ks old)
       (s : Struck (says n key k) (k .loop) (endOf (n .points) (k .loop)) old new) where
     excluded-more
         : (d g : ℕ) (x : Bool)
         → outBy d k g ≡ x
-        → excludedIn d (ks ++ (k ∷ [])) g ≡ (excludedIn d ks g || x)
+        → excludedIn n key d (ks ++ (k ∷ [])) g ≡ (excludedIn n key d ks g || x)
     excluded-more d g x e =
         rw (known-more d ks k g, e)
         (sym (or-last (isIn g (n .barred))
@@ -93,10 +78,10 @@ module _ (n : Nest) (key : List ℕ) where
         → isAround (n .points) g d ≡ true
         → at new g ≡ at old g
         → (isAround (n .points) g (k .loop) && says n key k g) ≡ false
-        → ltb (suc d) (at new g) ≡ excludedIn d (ks ++ (k ∷ [])) g
+        → ltb (suc d) (at new g) ≡ excludedIn n key d (ks ++ (k ∷ [])) g
     kept d g i a same e =
         let none : outBy d k g ≡ false = rw e (and-none (inLoop (n .points) d (k .loop))) in
-        rw same (before .tells d g i a ∙ sym (excluded-more d g false none ∙ or-turned (excludedIn d ks g) false))
+        rw same (before .tells d g i a ∙ sym (excluded-more d g false none ∙ or-turned (excludedIn n key d ks g) false))
       where
         and-none : (b : Bool) → (b && false) ≡ false
         and-none true = refl
@@ -109,7 +94,7 @@ module _ (n : Nest) (key : List ℕ) where
         → isAround (n .points) g d ≡ true
         → isAround (n .points) g (k .loop) ≡ true
         → says n key k g ≡ true
-        → ltb (suc d) (at new g) ≡ excludedIn d (ks ++ (k ∷ [])) g
+        → ltb (suc d) (at new g) ≡ excludedIn n key d (ks ++ (k ∷ [])) g
     raised d g i a b e =
         let la = and-true (ltb d g) (leb g (endOf (n .points) d)) a in
         let lb = and-true (ltb (k .loop) g) (leb g (endOf (n .points) (k .loop))) b in
@@ -133,7 +118,7 @@ module _ (n : Nest) (key : List ℕ) where
             (le-or j i)
 
     -- the table after a claim holds
-    pub strike-excludes : Excludes (ks ++ (k ∷ [])) new
+    pub strike-excludes : Excludes n key (ks ++ (k ∷ [])) new
     strike-excludes =
         record { tells = λ d g i a. go d g i a (isAround (n .points) g (k .loop)) refl (says n key k g) refl }
       where
@@ -155,7 +140,7 @@ module _ (n : Nest) (key : List ℕ) where
             → isAround (n .points) g (k .loop) ≡ b
             → (x : Bool)
             → says n key k g ≡ x
-            → ltb (suc d) (at new g) ≡ excludedIn d (ks ++ (k ∷ [])) g
+            → ltb (suc d) (at new g) ≡ excludedIn n key d (ks ++ (k ∷ [])) g
         go d g i a false z x e = kept d g i a (s .outside g (apart g z)) (rw z refl)
         go d g i a true z false e =
             let lb = and-true (ltb (k .loop) g) (leb g (endOf (n .points) (k .loop))) z in

@@ -3,3 +3,5 @@ pub mod Steps
 pub mod Stepping
 pub mod Strikes
 pub mod Excluding
+pub mod StepSets
+pub mod Taking

@@ -21,6 +21,7 @@ use Rattle.argue_claims.specs.Arguments.{Step, Claim, Known, Count, every, name
 use Rattle.argue_claims.specs.Arguments.{isLeft}
 use Rattle.argue_claims.proofs.Lots.{every-at}
 use Rattle.argue_weigh.specs.Naming.{leftAt, fineAt, Named}
+use Rattle.argue_weigh.specs.Excluding.{excludedIn}
 
 leb-not : (a b : ℕ) → leb a b ≡ not (ltb b a)
 leb-not a b =
@@ -44,13 +45,6 @@ every-alike f h (suc n) same =
     rw (here, before) refl
 
 module _ (n : Nest) (key : List ℕ) (k : Claim) (ks : List Known) (x : Count) (s : Step) where
-  -- what loops inside the claim's loop exclude, by a bar, a count of 0 or a claim
-  abbrev pub excluded : ℕ → Bool
-  excluded g =
-      isIn g (n .barred) ||
-      ((not (eqb (ownerOf (n .points) g) (k .loop)) && eqb (loopCount n key (ownerOf (n .points) g)) 0) ||
-      knownOut n key (k .loop) ks g)
-
   -- what the definition asks of each gap
   abbrev pub asked : ℕ → Bool
   asked g =
@@ -69,7 +63,7 @@ module _ (n : Nest) (key : List ℕ) (k : Claim) (ks : List Known) (x : Count) (
         → isAround (n .points) g (k .loop) ≡ true
         → holds gone g ≡ (factOut n key (x .facts) g || leads n key ks (s .via) g)
     pub struck-is
-        : (g : ℕ) → isAround (n .points) g (k .loop) ≡ true → ltb (suc (k .loop)) (at struck g) ≡ excluded g
+        : (g : ℕ) → isAround (n .points) g (k .loop) ≡ true → ltb (suc (k .loop)) (at struck g) ≡ excludedIn n key (k .loop) ks g
 
   module _ {last : ℕ} {ws gone owners struck : List ℕ} (t : StepTables last ws gone owners struck) where
     left-alike

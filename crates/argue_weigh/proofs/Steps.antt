@@ -142,5 +142,9 @@ module _ {fine left : ℕ → Bool} {last : ℕ} {old : List ℕ} {g : ℕ} {new
       record {
         long = n .long;
         more = λ i p q. n .more i (omega (arith, end, p)) q;
-        rest = λ i p. n .rest i (inr p);
+        rest = λ i p. n .rest i (other i p);
       }
+    where
+      other : (i : ℕ) → (i ≤ 0) ⊎ (last < i) → (i ≤ g) ⊎ (last < i)
+      other i (inl p) = inl (omega (arith, p))
+      other i (inr p) = inr p

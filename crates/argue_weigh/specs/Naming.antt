@@ -3,6 +3,7 @@
 use mathlib.Core.Path.{_≡_}
 use mathlib.Core.Bool.{Bool, _&&_, _||_, not}
 use mathlib.Core.List.{List}
+use mathlib.Core.Logic.{_⊎_}
 use Prim.Native.Nat.{ℕ, suc, _≤_, _<_}
 use lib.Dec.{eqb, ltb, leb}
 use lib.ListN.{length}
@@ -40,4 +41,4 @@ pub record NamingRoom (last : ℕ) (owners struck times : List ℕ) : Type 0 whe
 pub record Named (left : ℕ → Bool) (last : ℕ) (old new : List ℕ) : Type 0 where
   pub long : length new ≡ length old
   pub more : (g : ℕ) → 0 < g → g ≤ last → at new g ≡ named left (at old) g
-  pub rest : (g : ℕ) → last < g → at new g ≡ at old g
+  pub rest : (g : ℕ) → (g ≤ 0) ⊎ (last < g) → at new g ≡ at old g
