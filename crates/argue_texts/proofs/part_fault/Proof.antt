@@ -1,4 +1,5 @@
 -- The tests are those of the definition, in its order.
+use native.Mathlib.Omega.{arith}
 use Rattle.argue_texts.specs.Parts.{progressIn}
 use Rattle.argue_texts.proofs.PartFaults.{claims-led, claims-full, claims-good, by-first, by-led, by-good}
 use Rattle.argue_texts.proofs.PartFaults.{names-first, names-full, names-good, unknown-fault}
@@ -19,7 +20,7 @@ returns-2 : tie.Need-returns-2
 returns-2 c =
     let t = c .before .before .before .before in
     claims-full (progressIn (t .before .before .args .x)) (t .before .before .args .p) (t .enum-told .given .1)
-    (c .before .before .if1 .left) (c .if2 .taken)
+    (c .before .before .if1 .left) (omega (arith, c .if2 .taken))
 
 enum-told-2 : tie.Need-enum-told-2
 enum-told-2 c = search needs
@@ -49,7 +50,7 @@ returns-6 : tie.Need-returns-6
 returns-6 c =
     let t = c .before .before .before .before in
     names-full (progressIn (t .before .before .args .x)) (t .before .before .args .p) (t .enum-told3 .given .1)
-    (c .before .before .if5 .left) (c .if6 .taken)
+    (c .before .before .if5 .left) (omega (arith, c .if6 .taken))
 
 enum-told-4 : tie.Need-enum-told-4
 enum-told-4 c = search needs
@@ -58,7 +59,7 @@ returns-7 : tie.Need-returns-7
 returns-7 c =
     let t = c .before .before .before .before in
     claims-good (progressIn (t .before .before .args .x)) (t .before .before .args .p) (t .enum-told .given .1)
-    (c .before .before .if1 .left) (c .if2 .left)
+    (c .before .before .if1 .left) (omega (arith, c .if2 .left))
 
 returns-8 : tie.Need-returns-8
 returns-8 c =
@@ -70,7 +71,7 @@ returns-9 : tie.Need-returns-9
 returns-9 c =
     let t = c .before .before .before .before in
     names-good (progressIn (t .before .before .args .x)) (t .before .before .args .p) (t .enum-told3 .given .1)
-    (c .before .before .if5 .left) (c .if6 .left)
+    (c .before .before .if5 .left) (omega (arith, c .if6 .left))
 
 returns-10 : tie.Need-returns-10
 returns-10 c =
