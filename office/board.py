@@ -91,8 +91,11 @@ class Board(Picture):
         """A column of the board. Bands light a gap, and one that is pinned."""
         bands = ''.join(f'<rect class="{band}" y="-9999" width="{width:g}" height="{self.tall}"/>'
                         for band in ('band', 'band pinned'))
-        return '\n'.join([f'<svg class="{cls}" width="{width:g}" height="{self.height}" aria-hidden="true">', bands,
-                          *pieces, '</svg>'])
+        return '\n'.join([f'<svg class="{cls}" {self.size(width)} aria-hidden="true">', bands, *pieces, '</svg>'])
+
+    def size(self, width: float) -> str:
+        """The size of a column, which print may change."""
+        return f'width="{width:g}" height="{self.height}" viewBox="0 0 {width:g} {self.height}"'
 
     def nest_svg(self) -> str:
         """The nest, over it the buttons, and over these the names of loops."""
@@ -100,8 +103,9 @@ class Board(Picture):
         drawn = self.svg_of('', self.nest_width, self.taken())
         names = ''.join(f'<a href="{address(View(d))}" tabindex="-1"><text class="bold" x="{x:g}" y="{y + 4.55:g}">'
                         f'{html.escape(words)}</text></a>\n' for d, x, y, words in self.links)
-        return '\n'.join([f'<svg class="nest" width="{self.nest_width:g}" height="{self.height}" role="group" '
-                          'aria-label="gaps">', drawn, *self.buttons(), f'<g aria-hidden="true">{names}</g>', '</svg>'])
+        return '\n'.join([f'<svg class="nest" {self.size(self.nest_width)} role="toolbar" '
+                          'aria-orientation="vertical" aria-label="gaps">', drawn,
+                          *self.buttons(), f'<g aria-hidden="true">{names}</g>', '</svg>'])
 
     def lanes_svg(self) -> str:
         """The dependences: tallies and strips, or lanes, with what the page draws over them."""
@@ -133,7 +137,7 @@ class Board(Picture):
         """Which view this is, and the ways to others."""
         loop = self.view.loop
         if loop is None:
-            return '<b>The whole paper</b>'
+            return '<h2>The whole paper</h2>'
         state = '' if not self.paper.inside(loop) else ', unfolded' if self.view.unfold else ', loops inside folded'
         links = [link(WHOLE, 'Whole paper')]
         if loop in self.paper.owner:
@@ -141,16 +145,19 @@ class Board(Picture):
             links.append(link(View(around), f'Out to loop {around}'))
         if state:
             links.append(link(View(loop, not self.view.unfold), 'Fold' if self.view.unfold else 'Unfold'))
-        return f'<b>Loop {loop}{state}</b> {" ".join(links)}'
+        return f'<h2>Loop {loop}{state}</h2> {" ".join(links)}'
 
     def loops_told(self) -> str:
-        """The loops, each a link under the one around it, with its barriers and the dependences at home in it."""
-        items = []
+        """The loops, each a link in the list of the one around it, with its barriers and the dependences at home in
+        it."""
+        items, deep = [], 0
         for d in sorted(self.paper.end):
             current = ' aria-current="page"' if d == self.view.loop else ''
-            items.append(f'<li class="deep{self.paper.depth[d]}"><a href="{address(View(d))}"{current}>loop {d}</a> '
-                         f'<span data-tree="{d}">barriers 0, at home {len(self.paper.at_home[d])}</span></li>')
-        return '\n'.join(items)
+            lists = '<ul>' if self.paper.depth[d] > deep else '</li></ul>' * (deep - self.paper.depth[d]) + '</li>'
+            deep = self.paper.depth[d]
+            items.append(f'{lists * bool(items)}<li><a href="{address(View(d))}"{current}>loop {d}</a> '
+                         f'<span data-tree="{d}">barriers 0, at home {len(self.paper.at_home[d])}</span>')
+        return '\n'.join([*items, '</li></ul>' * deep + '</li>' * bool(items)])
 
     def told(self) -> str:
         """The dependences of the view in words, as items of a list; for practice the page adds what cuts each."""

@@ -4,7 +4,7 @@ import html
 import string
 from http import HTTPStatus
 
-from office.atlas import atlas, is_whole
+from office.atlas import atlas, is_whole, signs_of
 from office.board import Board
 from office.called import Called
 from office.chain import receipt_of
@@ -69,7 +69,8 @@ class OfPaper:
         whole, strips = view.loop is None, board.drawn is Drawn.STRIPS
         return string.Template(self.sitting.safe_substitute(
             paper=html.escape(self.name + PRACTICE * self.practice).replace('$', '$$'), row=board.tall,
-            loop='' if whole else view.loop, last=len(self.paper.points) - 1, large=LARGE * strips,
+            view='' if whole else f', loop {view.loop}', loop='' if whole else view.loop,
+            last=len(self.paper.points) - 1, large=LARGE * strips,
             where=board.where(), board=board.drawing(), map=board.map(), open=' open' * strips,
             loops=len(self.paper.end), tree=board.loops_told(), shown=len(board.shown),
             filter=FILTER * self.practice, homes=board.homes, dependences=board.told(),
@@ -83,6 +84,7 @@ class OfPaper:
             about = f'{counted(len(self.paper.points), "point")}, {counted(len(self.paper.dependences), "dependence")}.'
             self.printed = template('print.html').substitute(
                 paper=html.escape(self.name), about=about + IN_LOOPS * (not is_whole(figures)),
+                signs=html.escape(signs_of(figures)),
                 figures='\n'.join(f'<section>\n{figure.svg(style=False)}</section>' for figure in figures)).encode()
         return Reply(HTTPStatus.OK, HTML, self.printed)
 

@@ -3,7 +3,7 @@ import base64
 import html
 from dataclasses import dataclass
 
-from office.atlas import atlas, is_whole
+from office.atlas import atlas, is_whole, signs_of
 from office.paper import Paper, Placed
 from office.picture import Picture
 from office.printed import STYLE, TOP, facts
@@ -46,7 +46,8 @@ def figures(paper: Paper, shown: list[Shown], name: str, loops: list[int]) -> st
         return ''.join(figure(one, side.title) for (one,), side in zip(drawings, shown))
     pairs = [figure(one, f'Loop {one.view.loop}, {side.title}') for both in zip(*drawings)
              for one, side in zip(both, shown)]
-    return f'<p class="small">{IN_LOOPS}</p>\n{"".join(pairs)}' if pairs else ''
+    signs = html.escape(signs_of([one for both in drawings for one in both]))
+    return f'<p class="small">{IN_LOOPS} {signs}</p>\n{"".join(pairs)}' if pairs else ''
 
 
 def page(name: str, head: dict[str, str], paper: Paper, shown: list[Shown], told: list[str], loops: list[int]) -> str:

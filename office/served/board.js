@@ -196,7 +196,7 @@ function reach(button) {
 }
 
 function goToGap(button, block = 'nearest') {
-    button.focus({ preventScroll: true });
+    button.focus({ preventScroll: true, focusVisible: true });
     button.scrollIntoView({ block, inline: 'nearest' });
 }
 

@@ -249,7 +249,7 @@ def printed(tally: Tally, seen: Browser, folder: pathlib.Path) -> None:
         titles = [f'paper{loop}, barriers none' for loop in figures]
         tally.check(f'{name} to print', found == [titles, 11, found[2], 0, False] and found[2] <= 800, found)
         sheets = seen.sheets()
-        tally.check(f'{name}: sheets', sheets <= max(2 * len(figures), 2), (sheets, len(figures)))
+        tally.check(f'{name}: sheets', sheets <= len(figures), (sheets, len(figures)))
         told = complaints(seen)
         tally.check(f'{name}: the browser does not complain', told == [], told)
         hall.end()

@@ -136,6 +136,23 @@ class Browser:
                 told[node['name']['value']] = node['role']['value'], ''.join(pressed)
         return told
 
+    def outline(self, *roles: str) -> list[tuple[str, str, int]]:
+        """What a screen reader goes by: the things of some roles in their order, each with its words and its level."""
+        tree = self.ask('/goog/cdp/execute', cmd='Accessibility.getFullAXTree', params={})['nodes']
+        by_id = {node['nodeId']: node for node in tree}
+
+        def words(node: dict) -> str:
+            told = node.get('name', {}).get('value', '')
+            return told or ' '.join(words(by_id[one]) for one in node.get('childIds', []) if one in by_id).strip()
+
+        def found(node: dict) -> list[tuple[str, str, int]]:
+            level = [given['value']['value'] for given in node.get('properties', []) if given['name'] == 'level']
+            told = not node['ignored'] and node['role']['value'] in roles
+            mine = [(node['role']['value'], words(node), level[0] if level else 0)] if told else []
+            return mine + [one for child in node.get('childIds', []) if child in by_id for one in found(by_id[child])]
+
+        return found(tree[0])
+
     def screen(self, wide: int, high: int, zoom: int) -> None:
         """A window of so many points, each as large as the zoom says."""
         self.ask('/goog/cdp/execute', cmd='Emulation.setDeviceMetricsOverride', params={

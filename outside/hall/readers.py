@@ -2,7 +2,7 @@
 a strong zoom."""
 import pathlib
 
-from outside.hall.browser import Browser
+from outside.hall.browser import DOWN, Browser, until
 from outside.hall.opened import Hall
 from outside.hall.pages import GAP, Page
 from outside.measure import papers
@@ -54,6 +54,24 @@ for (const piece of document.querySelectorAll('body *')) {
 }
 return found;
 """
+# The colours that shapes and words of the board are painted with, and those that a reader has chosen.
+DRAWN = """
+const probe = document.body.appendChild(document.createElement('p'));
+const chosen = ['Canvas', 'CanvasText', 'GrayText'].map((colour) => {
+    probe.style.color = colour;
+    return getComputedStyle(probe).color;
+});
+probe.remove();
+const drawn = [];
+for (const shape of document.querySelectorAll('.board svg text, .board svg rect, .board svg path, .board svg circle')) {
+    const style = getComputedStyle(shape);
+    const stroke = Number.parseFloat(style.strokeWidth) ? style.stroke : 'none';
+    const painted = shape.closest('.tag:not(.on)') ? [] : [style.fill, stroke];
+    drawn.push(...painted.filter((paint) => paint !== 'none').map(
+        (paint) => [paint, shape.tagName, shape.getAttribute('class'), shape.parentElement.getAttribute('class')]));
+}
+return { chosen, drawn };
+"""
 SEEN = """
 const main = document.querySelector('main'), page = document.documentElement;
 scrollTo(0, 0);
@@ -102,6 +120,59 @@ def chosen(tally: Tally, page: Page) -> None:
     media(seen)
 
 
+def chosen_alone(tally: Tally, page: Page) -> None:
+    """Nothing that is drawn has another colour than those, also what is lit, compared and put."""
+    seen = page.browser
+    media(seen, forced_colors='active')
+    seen.open(f'{page.hall.address}#g3')
+    page.shows('chosen colours, at a gap')
+    seen.press('c', DOWN, DOWN)
+    found = seen.script(DRAWN)
+    other = [told for told in found['drawn'] if told[0] not in found['chosen']]
+    tally.check('chosen colours alone', len(found['drawn']) > 50 and not other, other)
+    media(seen)
+
+
+def read(tally: Tally, page: Page) -> None:
+    """What a screen reader goes by: headings that say where one is, the gaps as one set of buttons that arrow keys go
+    through, the loops in lists inside one another; each view has a title of its own."""
+    seen, paper = page.browser, page.paper
+    deep = max(paper.end, key=lambda d: paper.depth[d])
+    for view, called in (('', 'The whole paper'), (f'?loop={deep}', f'Loop {deep}')):
+        seen.open(f'{page.hall.address}{view}')
+        until(lambda: seen.script('return document.getElementById("state").textContent') != '', True)
+        seen.script('document.getElementById("loops").open = true')
+        many = len(paper.dependences) if not view else len(paper.at_home[deep])
+        found = seen.outline('heading', 'toolbar')
+        tally.check(f'headings of "{view}"', found == [
+            ('heading', 'paper, practice, anna', 1), ('heading', called, 2), ('toolbar', 'gaps', 0),
+            ('heading', f'Dependences: {many}', 2)], found)
+        title = seen.script('return document.title')
+        tally.check(f'title of "{view}"', title == f'anna: paper, practice{f", loop {deep}" if view else ""}', title)
+    levels = [(told.split()[1], level) for _, told, level in seen.outline('listitem') if told.startswith('loop ')]
+    wanted = [(str(d), paper.depth[d] + 1) for d in sorted(paper.end)]
+    tally.check('loops inside loops', levels == wanted, levels)
+
+
+def printed(tally: Tally, page: Page, name: str) -> None:
+    """On a sheet the sitting is as wide as there is room, with nothing cut off, and its words stand over it."""
+    seen = page.browser
+    seen.screen(703, 1000, 1)
+    seen.open(page.hall.address)
+    page.shows('to be printed')
+    seen.ask('/goog/cdp/execute', cmd='Emulation.setEmulatedMedia', params={'media': 'print'})
+    edges = seen.script("""
+        const box = (of) => document.querySelector(of).getBoundingClientRect();
+        const state = box('#state'), middle = [state.left + state.width / 2, state.top + state.height / 2];
+        const [nest, lanes, item] = ['.nest', '.lanes', '#dependences b'].map(box);
+        return [nest.left >= 0 && lanes.right <= innerWidth, Math.abs(nest.height - lanes.height) < 1,
+            document.elementFromPoint(...middle).id,
+            getComputedStyle(document.querySelector('#dependences b')).color];""")
+    tally.check(f'{name} on a sheet', edges == [True, True, 'state', 'rgb(23, 32, 42)'], edges)
+    seen.ask('/goog/cdp/execute', cmd='Emulation.setEmulatedMedia', params={'media': ''})
+    seen.screen(1280, 800, 1)
+
+
 def near(tally: Tally, page: Page) -> None:
     """At 400 percent, 320 by 256 points, the paper has the window to itself, and nothing scrolls two ways but it."""
     seen = page.browser
@@ -124,8 +195,11 @@ def readers(tally: Tally, seen: Browser, folder: pathlib.Path) -> None:
         page.shows('nothing put')
         page.turn(3)
         words(tally, page, name)
+        read(tally, page)
+        printed(tally, page, name)
         if name == 'p':
             chosen(tally, page)
+            chosen_alone(tally, page)
             near(tally, page)
         media(seen)
         hall.end()

@@ -4,7 +4,8 @@
   python3 -m outside.hall.sitting --screenshots DIR     pictures of the page, for the documents
 
 Needs the library's archive (rt staticlib host) and a browser, which is installed where that may be done. Without one
-the page is not tried, which is told; where CI is true it is a failure.
+the page is not tried, which is told; where CI is true it is a failure. Where Firefox is there, a short sitting is tried
+in it too.
 """
 import csv
 import os
@@ -15,7 +16,7 @@ import sys
 import tempfile
 import urllib.request
 
-from outside.hall import browser
+from outside.hall import browser, firefox
 from outside.hall.boards import boards
 from outside.hall.browser import DOWN, END, ENTER, ESCAPE, HOME, SHIFT, TAB, UP, Browser, Driver, until
 from outside.hall.charge_page import in_charge
@@ -294,6 +295,10 @@ def main() -> None:
         by_itself(tally, driver, folder)
         in_front(tally, driver, folder)
         driver.close()
+        if firefox.there():
+            firefox.sat(tally, folder)
+        else:
+            print('Firefox is not here, and the page was not tried in it')
     tally.close()
 
 
