@@ -155,6 +155,14 @@ class Desk:
         told = given(library().desk_compare(self.held, first, len(first), second, len(second)))
         return Compared(told.first, told.second, members(told.deciding))
 
+    def weigh(self, text: bytes) -> None:
+        """An argument text beside the key: refused, unless it holds."""
+        given(library().desk_weigh(self.held, text, len(text)))
+
+    def weigh_placement(self, placement: bytes, text: bytes) -> None:
+        """An argument text beside a placement text: refused, unless it holds."""
+        given(library().desk_weigh_placement(self.held, placement, len(placement), text, len(text)))
+
     def candidate_slip(self, text: bytes) -> bytes:
         return self.written(library().desk_candidate_slip, SLIP, text, len(text))
 

@@ -1,4 +1,4 @@
-"""A page to print: two placements on a paper, their pictures, their cost trees and the reasons. It needs no network."""
+"""A page to print: placements on a paper, their pictures, their cost trees and the reasons. It needs no network."""
 import base64
 import html
 from dataclasses import dataclass
@@ -10,11 +10,13 @@ from office.printed import STYLE, TOP, facts
 
 # By this a page is known as one; it names no kind, as those of before do not.
 BEGINS = f'{TOP}<title>'.encode()
-SIGN = ('Each loop stands under the one around it, by the point of its DO, with the count of its own barriers. A loop '
-        'marked &lt; decides. Gaps, points and counts are decimal on this page, hexadecimal in texts.')
+SIGN = ('Each loop stands under the one around it, by the point of its DO, with the count of its own barriers.{} Gaps, '
+        'points and counts are decimal on this page, hexadecimal in texts.')
+DECIDES = ' A loop marked &lt; decides.'
 IN_LOOPS = ('The paper is too large for a sheet: these are the loops that the reasons speak of, from the inside out, '
             'each with the dependences at home in it.')
 OF_PICTURES = """
+h2 { font-size: 12pt; margin: 6mm 0 2mm 0 }
 .two { display: grid; grid-template-columns: 1fr 1fr; gap: 8mm }
 figure { margin: 0 0 5mm 0; break-inside: avoid; overflow-x: auto }
 figcaption { font-weight: bold; margin-bottom: 2mm }
@@ -40,7 +42,7 @@ def figure(drawing: Picture, caption: str) -> str:
 
 
 def figures(paper: Paper, shown: list[Shown], name: str, loops: list[int]) -> str:
-    """Both placements on the whole paper, or on the loops that the reasons speak of."""
+    """The placements on the whole paper, or on the loops that the reasons speak of."""
     drawings = [atlas(paper, side.placed, name, loops) for side in shown]
     if all(map(is_whole, drawings)):
         return ''.join(figure(one, side.title) for (one,), side in zip(drawings, shown))
@@ -50,12 +52,14 @@ def figures(paper: Paper, shown: list[Shown], name: str, loops: list[int]) -> st
     return f'<p class="small">{IN_LOOPS} {signs}</p>\n{"".join(pairs)}' if pairs else ''
 
 
-def page(name: str, head: dict[str, str], paper: Paper, shown: list[Shown], told: list[str], loops: list[int]) -> str:
-    """The page, with a head of what is known, and the loops that the reasons speak of."""
+def page(name: str, head: dict[str, str], paper: Paper, shown: list[Shown], told: list[str], loops: list[int],
+         argument: str) -> str:
+    """The page, with a head of what is known, the loops that the reasons speak of, and the markup of an argument."""
     title = html.escape(f'{name}: {" and ".join(side.title for side in shown)}')
     trees = ''.join('<pre>{}</pre>\n'.format(html.escape('\n'.join([side.title, '', *side.tree]))) for side in shown)
     reasons = ''.join(f'<p>{html.escape(words)}</p>\n' for words in told)
+    sign = SIGN.format(DECIDES if len(shown) > 1 else '')
     return (f'{BEGINS.decode()}{title}</title>\n<meta name="viewport" content="width=device-width">\n'
             f'<style>{STYLE}{OF_PICTURES}</style>\n</head>\n<body>\n<h1>{title}</h1>\n{facts(head)}{reasons}'
-            f'<div class="two">\n{trees}</div>\n<p class="small">{SIGN}</p>\n{figures(paper, shown, name, loops)}'
-            '</body>\n</html>\n')
+            f'<div class="two">\n{trees}</div>\n<p class="small">{sign}</p>\n{figures(paper, shown, name, loops)}'
+            f'{argument}</body>\n</html>\n')

@@ -40,6 +40,7 @@ STYLE = (SERVED / 'drawing.css').read_text().partition('\n')[2]
 
 class Picture(Layout):
     """Drawn piece by piece into a list of elements. Unless it is known which dependences are cut, nothing tells it."""
+    style = STYLE
 
     def __init__(self, paper: Paper, placed: Placed, name: str, missing: tuple[int, ...] = (), view: View = WHOLE,
                  room: int = WIDE_ROOM, only: Collection[int] | None = None, known: bool = True):
@@ -374,7 +375,7 @@ class Picture(Layout):
         kind = f'{self.lanes_kind()}{" known" * self.known}'
         return '\n'.join([
             f'<svg xmlns="http://www.w3.org/2000/svg" {size} role="img" font-family="Helvetica, Arial, sans-serif">',
-            f'<title>{html.escape(self.title)}</title>', *[f'<style>\n{in_light(STYLE)}</style>'] * style,
+            f'<title>{html.escape(self.title)}</title>', *[f'<style>\n{in_light(self.style)}</style>'] * style,
             *['<rect width="100%" height="100%" fill="white"/>'] * style, *title,
             f'<g transform="translate(0 {top:g})">', *nest,
             *[f'<g class="tally" transform="translate({self.nest_width:g} 0)">', *tally, '</g>'] * bool(tally),

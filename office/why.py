@@ -1,4 +1,5 @@
-"""./desk why: how one placement beats another on a paper: both cost trees, the loop that decides, calls, in words."""
+"""./desk why: how one placement beats another on a paper, and why none beats the key: cost trees, the loop that
+decides, calls, and the key's argument, in words."""
 import argparse
 import contextlib
 import hashlib
@@ -7,26 +8,39 @@ import textwrap
 import time
 from dataclasses import dataclass
 
+from office.argued import Argued, argued, argument_lines, before
+from office.claim_figures import argument_markup
 from office.asked import (GAPS_HELP, PAPER_HELP, TURNS, TURNS_HELP, is_file, loaded, placement_asked, planned,
                           turns_asked)
-from office.command import Fault, printable, write_json, write_out, write_over
+from office.command import REFUSED, Fault, printable, write_json, write_out, write_over
 from office.frames import DO
-from office.library import DEARER, UNCUT, Compared, Desk, Mark
+from office.library import DEARER, UNCUT, Compared, Desk, Mark, refusal_of
 from office.names import named_paper
 from office.page import BEGINS, Shown, page
 from office.paper import Paper, Placed, loops_told, placed
 from office.refusal import Refused
+from office.result import hand_over, result_arguments
 from office.skipped import relied_on, skipped_told
 from office.trees import beside, drawn
 from office.words import VERDICTS, counted, gaps_named, spoken, stretches
 
-HELP = 'tells how one placement beats another on a paper, or how it stands beside the key'
-MORE = """  ./desk why paper.hex 4,7                  gaps 4 and 7 beside the key
+HELP = 'tells why no placement beats the key of a paper, or how one placement beats another'
+MORE = """  ./desk why paper.hex                      why no placement is better than the key
+  ./desk why paper.hex 4,7                  gaps 4 and 7 beside the key, and then the same
   ./desk why paper.hex 4,7 answer.hex       beside the placement of a file
   ./desk why paper.hex 4,7 --turns 10,2,3   calls, if the loops make so many turns, in the order of their DOs
-  ./desk why paper.hex 4,7 --html why.html  a page to print, with both pictures
+  ./desk why paper.hex 4,7 --html why.html  a page to print, with pictures
+  ./desk why paper.hex --text -o FILE       the argument for the key as a text
+
+That no placement is better is shown by an argument: claims about one loop after the other, from the inside out, each
+with sets of gaps of which one needs a barrier. The desk has weighed it. Anybody can weigh its text without the desk:
+
+  ./desk key paper.hex | grep ^21 > paper.key
+  python3 outside/argument.py paper.hex paper.key FILE
 """
 KEY, TEN, WIDE, FEW = 'the key', '10', 100, 6
+TEXT = 'argument'
+NOT_READ = (1, 2, 4, 5)
 INSIDE_OUT = ('Barriers are not added up: they are counted loop by loop, and the counts are compared from the inside '
               'out.')
 FEWEST = ('Of the key alone it is true that no correct placement makes fewer calls, and only where each inner loop '
@@ -50,9 +64,13 @@ class Side:
 
     @property
     def title(self) -> str:
-        many = len(self.placed.gaps)
-        gaps = f'{many} gaps' if many > FEW else gaps_named(self.placed.gaps)
+        gaps = gaps_titled(self.placed.gaps)
         return gaps if self.name == gaps else f'{self.name}: {gaps}'
+
+
+def gaps_titled(gaps: list[int]) -> str:
+    """Gaps in a title: by their numbers if they are few."""
+    return f'{len(gaps)} gaps' if len(gaps) > FEW else gaps_named(gaps)
 
 
 def side_of(desk: Desk, called: str, text: bytes) -> Side:
@@ -173,14 +191,67 @@ def head_of(asked: argparse.Namespace, name: str, text: bytes) -> dict[str, str]
 
 def arguments(parser: argparse.ArgumentParser) -> None:
     parser.add_argument('paper', metavar='PAPER', help=PAPER_HELP)
-    parser.add_argument('gaps', metavar='GAPS', help=GAPS_HELP)
+    parser.add_argument('gaps', metavar='GAPS', nargs='?', help=GAPS_HELP)
     parser.add_argument('other', metavar='GAPS', nargs='?', help='what to hold it beside; the key if none is named')
-    parser.add_argument('--turns', default=TEN, help=f'{TURNS_HELP} ({TEN})')
-    parser.add_argument('--html', metavar='FILE', help='writes a page for printing, with both pictures')
+    parser.add_argument('--turns', help=f'{TURNS_HELP} ({TEN})')
+    parser.add_argument('--argument', action='store_true', help='all of why no placement is better, however long it is')
+    parser.add_argument('--html', metavar='FILE', help='writes a page for printing, with pictures')
     parser.add_argument('--json', action='store_true', help='an object, for programs')
+    parser.add_argument('--text', action='store_true', help='the argument for the key as a text, in hexadecimal')
+    result_arguments(parser, 'another argument')
+
+
+def fitting(asked: argparse.Namespace) -> None:
+    """What cannot be asked for together is a fault."""
+    if asked.text and (asked.gaps is not None or asked.html is not None or asked.json):
+        raise Fault('--text writes the argument for the key of a paper, with nothing beside it')
+    if asked.output is not None and not asked.text:
+        raise Fault('-o is where the argument goes as a text: --text asks for it')
+    if asked.turns is not None and asked.gaps is None:
+        raise Fault('--turns counts the calls of a placement: name its gaps behind the paper')
+    if asked.argument and asked.other is not None:
+        raise Fault('--argument is about the key: name one placement to hold beside it, or none')
+
+
+def of_key(asked: argparse.Namespace) -> None:
+    """Why no placement is better than the key."""
+    desk, text = planned(asked.paper)
+    paper, key = named_paper(desk, asked.paper, text), placed(desk, desk.key())
+    found, tree = argued(desk, paper, key.counts), drawn(paper, key.counts)
+    if found is None:
+        raise Fault(before(found, True), REFUSED)
+    title = f'{KEY}: {gaps_titled(key.gaps)}'
+    if asked.text:
+        hand_over(asked, found.text, TEXT, lambda there: is_argument(desk, there))
+    elif asked.json:
+        write_json({'gaps': key.gaps, 'counts': loops_told(key.counts), 'argument': found.fields()})
+    elif asked.html is not None:
+        name = printable(pathlib.Path(asked.paper).stem)
+        markup = argument_markup(found, asked.argument, paper, key, name)
+        head = head_of(asked, name, text) | {'SHA-256 of the argument': found.sha256}
+        made_page = page(name, head, paper, [Shown(title, key, tree)], [], [], markup)
+        write_over(asked.html, made_page.encode(), begins=BEGINS)
+    else:
+        paragraphs = ['\n'.join([title, '', *tree]), *argument_lines(found, asked.argument)]
+        write_out(('\n\n'.join(paragraphs) + '\n').encode())
+
+
+def is_argument(desk: Desk, text: bytes) -> bool:
+    """Whether the desk reads a text as an argument, whether it holds or not."""
+    refusal = refusal_of(desk.weigh, text)
+    return refusal is None or refusal.number not in NOT_READ
 
 
 def main(asked: argparse.Namespace) -> None:
+    fitting(asked)
+    if asked.gaps is None:
+        of_key(asked)
+    else:
+        compared(asked)
+
+
+def compared(asked: argparse.Namespace) -> None:
+    """Two placements beside each other; one beside the key, and why none is better than that."""
     desk, text = planned(asked.paper) if asked.other is None else loaded(asked.paper)
     with contextlib.suppress(Refused):  # two placements can be compared on a paper that has no key
         desk.plan()
@@ -190,8 +261,8 @@ def main(asked: argparse.Namespace) -> None:
         second = side_of(desk, KEY, desk.key())
     else:
         second = side_of(desk, 'the second placement', placement_asked(asked.other, desk))
-    turns = turns_asked(asked.turns, len(paper.end))
-    made = calls_made(desk, asked.turns, turns, [first, second])
+    turns = turns_asked(asked.turns or TEN, len(paper.end))
+    made = calls_made(desk, asked.turns or TEN, turns, [first, second])
     held = desk.compare(first.text, second.text)
     correct = first.placed.uncut is None and second.placed.uncut is None
     trees = [drawn(paper, side.placed.counts, held.deciding if correct else []) for side in (first, second)]
@@ -199,20 +270,23 @@ def main(asked: argparse.Namespace) -> None:
     if correct:
         told.append(calls_words(paper, held, turns, made, first, second))
         told += skipped_told(paper, first.placed, first.name) + skipped_told(paper, second.placed, second.name)
+    found = argued(desk, paper, second.placed.counts) if asked.other is None else None
     if asked.json:
         sides = [side_told(paper, side) for side in (first, second)]
         write_json({'first': sides[0], 'second': sides[1], 'correct': correct, 'first_as_good': held.first,
                     'second_as_good': held.second, 'deciding': held.deciding, 'turns': list(turns),
-                    'calls': made or None, 'words': told})
+                    'calls': made or None, 'words': told, 'argument': found and found.fields()})
         return
     if asked.html is not None:
         shown = [Shown(side.title, side.placed, tree) for side, tree in zip((first, second), trees)]
         name = printable(pathlib.Path(asked.paper).stem)
         uncut = [side.placed.uncut for side in (first, second) if side.placed.uncut is not None]
         loops = held.deciding if correct else sorted({paper.home[number] for number in uncut})
-        made_page = page(name, head_of(asked, name, text), paper, shown, told, loops)
+        markup = '' if asked.other else argument_markup(found, asked.argument, paper, second.placed, name)
+        made_page = page(name, head_of(asked, name, text), paper, shown, told, loops, markup)
         write_over(asked.html, made_page.encode(), begins=BEGINS)
         return
     left, right = ([side.title, '', *tree] for side, tree in zip((first, second), trees))
     paragraphs = ['\n'.join(beside(left, right)), *('\n'.join(textwrap.wrap(words, WIDE)) for words in told)]
+    paragraphs += argument_lines(found, asked.argument) if asked.other is None else []
     write_out(('\n\n'.join(paragraphs) + '\n').encode())

@@ -274,7 +274,7 @@ def names(tally: Tally, folder: pathlib.Path) -> None:
     page = folder / 'named.html'
     run(DESK, 'why', paper, '1', '--html', page)
     pictures = re.findall(r'base64,([A-Za-z0-9+/=]+)"', page.read_text())
-    tally.check('on the page', len(pictures) == 2 and all(b'>bread<' in base64.b64decode(one) for one in pictures))
+    tally.check('on the page', len(pictures) == 3 and all(b'>bread<' in base64.b64decode(one) for one in pictures))
     answer, slips = folder / 'nobody.hex', folder / 'named'
     answer.write_bytes(b'')
     run(DESK, 'mark', paper, answer, '--slips', slips)
@@ -396,7 +396,7 @@ def reasons(tally: Tally, folder: pathlib.Path) -> None:
     page = folder / 'why.html'
     seen = run(DESK, 'why', q, '4,7', '--html', page)
     html = page.read_text()
-    tally.check('a page', seen == Seen(b'', '', 0) and html.count('src="data:image/svg+xml;base64,') == 2, seen)
+    tally.check('a page', seen == Seen(b'', '', 0) and html.count('src="data:image/svg+xml;base64,') == 5, seen)
     tally.check('no network, no script', not re.search(r'https?:|<script|<link|@import', html), html[:300])
     paper_hash = hashlib.sha256(q.read_bytes()).hexdigest()
     for word in ['size: A4', 'and this decides', 'loop 2: 1  &lt;', 'alt="q, barriers 4, 7"', '1,100 times',
@@ -410,7 +410,7 @@ def reasons(tally: Tally, folder: pathlib.Path) -> None:
     drawn = [base64.b64decode(data).decode() for data in re.findall(r'base64,([A-Za-z0-9+/=]+)"', html)]
     tally.check('whose placement it is', '<th>Placement of</th><td><bdi>anna</bdi></td>' in html, html[:900])
     sizes = [float(size) for one in drawn for size in re.findall(r'<svg [^>]*? width="([0-9.]+)"', one)]
-    titles = [re.search('<title>large, loop ([0-9]+),', one) for one in drawn]
+    titles = [re.search('<title>large, (loop|a claim about loop) ([0-9]+),', one) for one in drawn]
     tally.check('a large paper by the loops that decide', all(titles) and 0 < len(drawn) and max(sizes) <= 800, sizes)
     seen = run(DESK, 'why', q, '4,7', '--html', folder)
     tally.check('no page', seen.failed('no plain file'), seen)
