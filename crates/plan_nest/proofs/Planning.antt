@@ -1,19 +1,21 @@
 -- The tables of a nest are what settling and laying ask, and what the outermost loop lays is the key.
--- Main statements: `charts`, `lines`, `choices`, `key`, `top-height`.
+-- Main statements: `charts`, `lines`, `choices`, `key`, `top-height`, `unset-top`.
 use mathlib.Core.Path.{_≡_, refl, _∙_}
 use mathlib.Core.Bool.{true, false}
 use mathlib.Core.List.{List}
 use mathlib.Core.Logic.{⊎-elim}
-use Prim.Native.Nat.{ℕ, _≤_, _<_}
+use Prim.Native.Nat.{ℕ, _-_, _≤_, _<_}
 use native.Mathlib.Omega.{arith}
 use lib.ListN.{length}
 use Rattle.laws.specs.Entries.{at}
 use Rattle.laws.proofs.Connectives.{or-off}
 use Rattle.laws.proofs.Tests.{test}
-use Rattle.paper_nests.specs.Kinds.{POINTS}
+use Rattle.paper_nests.specs.Kinds.{POINTS, DEPTH}
 use Rattle.paper_nests.specs.Nests.{Dep}
 use Rattle.paper_nests.specs.Loops.{isDo, endOf}
+use Rattle.paper_nests.specs.Valid.{isShape}
 use Rattle.paper_nests.proofs.Levels.{point-in}
+use Rattle.paper_nests.proofs.Loops.{outermost}
 use Rattle.paper_placements.specs.Words.{holds}
 use Rattle.plan_method.specs.Sweep.{Loops, Lines, Tables, someOf, IsTable}
 use Rattle.plan_method.specs.Plan.{tableOf, keyOf}
@@ -24,7 +26,8 @@ use Rattle.plan_method.proofs.Rows.{row-fronts, row-idle}
 use Rattle.plan_method.proofs.Tables.{table-is}
 use Rattle.plan_tables.specs.Charts.{Points}
 use Rattle.plan_tables.specs.Prepared.{Prepared}
-use Rattle.plan_settle.specs.Settled.{HasHeight, Charts, LinesAt, Rows}
+use Rattle.plan_rows.specs.Made.{RowsCleared}
+use Rattle.plan_settle.specs.Settled.{HasHeight, Charts, LinesAt, Rows, Unset}
 use Rattle.plan_lay.specs.Laid.{Choices, LaySays}
 
 -- a front comes from a suffix of the loop's range
@@ -91,3 +94,8 @@ module _ (ps : List ℕ) (ds : List Dep) (own ends heights reach limit has : Lis
 -- the outermost loop has the greatest height
 pub top-height : (ps : List ℕ) → HasHeight ps 0 8
 top-height ps = refl
+
+-- the rows, cleared as far as the points go, are 0 in the range of the outermost loop
+pub unset-top : (ps : List ℕ) {xs xs′ : List ℕ} {n : ℕ} → isShape ps ≡ true → n ≡ length ps →
+    RowsCleared xs xs′ DEPTH (n - 1) → Unset xs′ 0 (endOf ps 0)
+unset-top ps shape e c h q low high a b = c .zero-at h q low high a (omega (arith, outermost ps shape))

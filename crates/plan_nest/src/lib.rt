@@ -36,9 +36,11 @@ pub fn plan(nest: Nest) -> Placement
         &mut has,
     );
     let points = nest.points;
-    // Here every entry is written before it is read.
+    // Of a loop with nothing to cut these are 0, as far as the points go.
     let mut left = [high; TABLE];
     let mut choice = [high; TABLE];
+    plan_rows::clear_rows(&mut left, Nest::DEPTH, n - 1);
+    plan_rows::clear_rows(&mut choice, Nest::DEPTH, n - 1);
     // The lists that the rows are made in, and the row that is swept.
     let mut need = [0; ROW];
     let mut cs = [0; ROW];

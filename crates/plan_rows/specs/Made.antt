@@ -1,9 +1,9 @@
 -- The row of one loop, made from the values of its suffixes: what is written, and that nothing else is.
--- Main definitions: `Copied`, `Cleared`, `Chosen`, `RowRoom`, `ListsRoom`, `RowMade`.
+-- Main definitions: `Copied`, `Cleared`, `RowsCleared`, `Chosen`, `RowRoom`, `ListsRoom`, `RowMade`.
 use mathlib.Core.Path.{_≡_}
 use mathlib.Core.Bool.{Bool}
 use mathlib.Core.List.{List}
-use Prim.Native.Nat.{ℕ, suc, _+_, _-_, _≤_, _<_}
+use Prim.Native.Nat.{ℕ, suc, _+_, _-_, _*_, _≤_, _<_}
 use lib.Dec.{ltb}
 use lib.ListN.{length}
 use Rattle.laws.specs.Entries.{at}
@@ -20,6 +20,15 @@ Copied from base low high xs = (a : ℕ) → low < a → a ≤ high → at xs a 
 pub record Cleared (xs xs′ : List ℕ) (base low high : ℕ) : Type 0 where
   pub zero-at : (q : ℕ) → low < q → q ≤ high → row xs′ base q ≡ 0
   pub kept : Kept xs xs′ (base + low) (base + high)
+
+-- of the rows 1 to h, row r at r * 256, the entries from 1 to e are 0, and all others as before
+pub record RowsCleared (xs xs′ : List ℕ) (h e : ℕ) : Type 0 where
+  pub zero-at : (r q : ℕ) → 0 < r → r ≤ h → 0 < q → q ≤ e → row xs′ (r * 256) q ≡ 0
+  pub kept
+      : (r q : ℕ)
+      → q < 256
+      → (0 < r → r ≤ h → 0 < q → e < q)
+      → row xs′ (r * 256) q ≡ row xs (r * 256) q
 
 -- the better of two fronts
 abbrev pub BetterSays : ℕ → ℕ → ℕ → ℕ → ℕ → ℕ → ℕ → ℕ → Type 0

@@ -1,11 +1,12 @@
 // The row of one loop: its values for each suffix, and from them the fronts and choices.
 use plan_starts::Front;
 ghost use mathlib.Core.Path.{_≡_};
-ghost use Prim.Native.Nat.{_+_, _<_, min};
+ghost use Prim.Native.Nat.{_+_, _*_, _<_, min};
 ghost use lib.ListN.{length};
 ghost use Rattle.plan_starts.specs.Grounds.{Kept};
 ghost use Rattle.plan_rows.specs.Valued.{CloseSays, CeilingSays, ClosedSays, FrontsIn, ValuesRoom};
-ghost use Rattle.plan_rows.specs.Made.{Copied, Cleared, BetterSays, ChooseSays, RowRoom, ListsRoom, RowMade};
+ghost use Rattle.plan_rows.specs.Made.{Copied, Cleared, RowsCleared, BetterSays, ChooseSays};
+ghost use Rattle.plan_rows.specs.Made.{RowRoom, ListsRoom, RowMade};
 
 // The places of a row, one for each point.
 pub const ROW: usize = 256;
@@ -61,7 +62,21 @@ pub fn copy_row(from: &[u16], base: usize, d: usize, e: usize, xs: &mut [usize])
     }
 }
 
-// The same entries set to 0.
+// The entries from 1 to e of the rows 1 to h set to 0.
+pub fn clear_rows(xs: &mut [u16], h: usize, e: usize)
+    requires { ⌜ h * 256 + e < length (now xs) ⌝ }
+    requires { ⌜ 0 < e ⌝ }
+    requires { ⌜ e < 256 ⌝ }
+    ensures { λ r. ⌜ RowsCleared (now (xs .entry)) (now (xs .exit)) h e ⌝ }
+{
+    let mut r = 0;
+    while r < h {
+        r += 1;
+        clear(xs, r * ROW, 0, e);
+    }
+}
+
+// The entries from d + 1 to e of the row that starts at base set to 0.
 fn clear(xs: &mut [u16], base: usize, d: usize, e: usize)
     requires { ⌜ base + e < length (now xs) ⌝ }
     requires { ⌜ d < e ⌝ }

@@ -5,4 +5,5 @@ pub mod Lists
 pub mod Some
 pub mod Turns
 pub mod Own
+pub mod Quiet
 pub mod Grounded

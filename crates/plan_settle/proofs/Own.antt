@@ -136,10 +136,10 @@ module _
               (le-or l d);
           left-kept = λ r q x y.
               rw (a .e-is) at (kept-columns left left′ d e h short (m .left-kept)) r q x y ∙
-              s .left-kept r q x y;
+              rw at-end at (s .left-kept) r q x y;
           choice-kept = λ r q x y.
               rw (a .e-is) at (kept-columns choice choice′ d e h short (m .choice-kept)) r q x y ∙
-              s .choice-kept r q x y;
+              rw at-end at (s .choice-kept) r q x y;
         }
       where
         short : e < 256

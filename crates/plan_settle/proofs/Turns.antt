@@ -25,7 +25,7 @@ use Rattle.paper_nests.proofs.Gaps.{Child, owner-after-do, owner-after-plain, o
 use Rattle.plan_method.specs.Sweep.{Lines, Tables, childSome, IsTable}
 use Rattle.plan_method.specs.Home.{loopsIn}
 use Rattle.plan_sweeps.specs.Listed.{row}
-use Rattle.plan_settle.specs.Settled.{HasHeight, LinesAt, Rows, Fronts, KeptColumns, SettleSays}
+use Rattle.plan_settle.specs.Settled.{HasHeight, LinesAt, Rows, Fronts, KeptColumns, Unset, SettleSays}
 use Rattle.plan_settle.proofs.Heights.{child-height}
 use Rattle.plan_settle.proofs.Calls.{Asked, Call}
 use Rattle.plan_settle.proofs.Some.{some-none, some-plain, some-child}
@@ -42,8 +42,8 @@ pub record Settling (ps reach limit has left₀ choice₀ : List ℕ) (d : ℕ) 
   pub owner : ownerOf ps i ≡ d
   pub left-length : length left ≡ length left₀
   pub choice-length : length choice ≡ length choice₀
-  pub left-kept : KeptColumns left₀ left d (endOf ps d)
-  pub choice-kept : KeptColumns choice₀ choice d (endOf ps d)
+  pub left-kept : KeptColumns left₀ left d i
+  pub choice-kept : KeptColumns choice₀ choice d i
   pub fronts : Fronts ps left (suc d) i
   pub sofar
       : (N : Lines) (T : Tables)
@@ -60,10 +60,20 @@ first-above : (a b : ℕ) → ltb 0 (firstOf a b) ≡ (ltb 0 a || ltb 0 b)
 first-above zero b = refl
 first-above (suc a) b = rw (lt-ltb 0 (suc a) (omega arith)) refl
 
--- columns inside others
-columns-join : (xs ys zs : List ℕ) (d e a b : ℕ) → d ≤ a → b ≤ e → KeptColumns xs ys d e → KeptColumns ys zs a b →
-    KeptColumns xs zs d e
-columns-join xs ys zs d e a b h k p s r q n o = s r q n (λ z. omega (arith, o (omega arith))) ∙ p r q n o
+-- columns, and more of them further right
+columns-more : (xs ys : List ℕ) (d i : ℕ) → KeptColumns xs ys d i → KeptColumns xs ys d (suc i)
+columns-more xs ys d i p r q n o = p r q n (λ z. omega (arith, o z))
+
+columns-join : (xs ys zs : List ℕ) (d a b : ℕ) → d ≤ a → a ≤ b → KeptColumns xs ys d a → KeptColumns ys zs a b →
+    KeptColumns xs zs d (suc b)
+columns-join xs ys zs d a b h k p s r q n o =
+    s r q n (λ z. omega (arith, o (omega arith))) ∙ p r q n (λ z. omega (arith, o z))
+
+-- what is 0 further right stays 0
+unset-kept : (xs ys : List ℕ) (d i e f : ℕ) → d ≤ i → e ≤ f → f < POINTS → Unset xs d f → KeptColumns xs ys d i →
+    Unset ys i e
+unset-kept xs ys d i e f a b c u p h q low high x y =
+    p h q (omega arith) (λ z. x) ∙ u h q low high (omega arith) (omega arith)
 
 module _
     {ps own ends reach limit has left₀ choice₀ : List ℕ} {d h : ℕ}
@@ -130,8 +140,8 @@ module _
                   s .owner;
               left-length = s .left-length;
               choice-length = s .choice-length;
-              left-kept = s .left-kept;
-              choice-kept = s .choice-kept;
+              left-kept = columns-more left₀ left d i (s .left-kept);
+              choice-kept = columns-more choice₀ choice d i (s .choice-kept);
               fronts = λ l k q j m b x y z. s .fronts l k q j m (earlier l j b) x y z;
               sofar = λ N T t n.
                   let r : Sofar ps N T left choice d some i = s .sofar N T t n in
@@ -166,6 +176,15 @@ module _
           inside : endOf ps i < endOf ps d
           inside = child-ends-inside ps shape d i child
 
+          below : d ≤ i
+          below = omega (arith, s .from)
+
+          inner : endOf ps i ≤ endOf ps d
+          inner = omega (arith, inside)
+
+          few : endOf ps d < POINTS
+          few = omega (arith, end-there ps shape d (a .is-do), a .charts .few)
+
           low : HasHeight ps i (h - 1)
           low = child-height ps shape d i h (a .is-do) loop (s .from) (s .owner) (a .height)
 
@@ -181,7 +200,18 @@ module _
                 left-room = omega (arith, s .left-length, a .room .left-room);
                 choice-room = omega (arith, s .choice-length, a .room .choice-room);
               },
-              (loop, low),
+              (
+                loop,
+                (
+                  low,
+                  (
+                    unset-kept left₀ left d i (endOf ps i) (endOf ps d) below inner few (a .left-unset)
+                        (s .left-kept),
+                    unset-kept choice₀ choice d i (endOf ps i) (endOf ps d) below inner few (a .choice-unset)
+                        (s .choice-kept),
+                  ),
+                ),
+              ),
             ),
           )
 
@@ -206,10 +236,10 @@ module _
                 owner = owner-after-child ps shape d i child;
                 left-length = left-same ∙ s .left-length;
                 choice-length = choice-same ∙ s .choice-length;
-                left-kept = columns-join left₀ left left′ d (endOf ps d) i (endOf ps i) (omega (arith, s .from))
-                    (omega (arith, inside)) (s .left-kept) (z .left-kept);
-                choice-kept = columns-join choice₀ choice choice′ d (endOf ps d) i (endOf ps i)
-                    (omega (arith, s .from)) (omega (arith, inside)) (s .choice-kept) (z .choice-kept);
+                left-kept = columns-join left₀ left left′ d i (endOf ps i) (omega (arith, s .from))
+                    (omega (arith, end-after ps shape i loop)) (s .left-kept) (z .left-kept);
+                choice-kept = columns-join choice₀ choice choice′ d i (endOf ps i) (omega (arith, s .from))
+                    (omega (arith, end-after ps shape i loop)) (s .choice-kept) (z .choice-kept);
                 fronts = λ l k q j m b c e u. ⊎-elim
                     (λ (y : i ≤ l). z .fronts l k q j y (later l j b) c e u)
                     (λ (y : l < i). rw (z .left-kept k q (narrow l q j u)

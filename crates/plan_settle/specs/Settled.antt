@@ -1,8 +1,8 @@
 -- The planner's tables as the code's arrays: at one height the ranges of the loops are disjoint, so that they share a
 -- row of 256 places; row h starts at h * 256, and row 0 is spare.
--- Main definitions: `HasHeight`, `Charts`, `LinesAt`, `Rows`, `Fronts`, `KeptColumns`, `SettleSays`.
+-- Main definitions: `HasHeight`, `Charts`, `LinesAt`, `Rows`, `Fronts`, `KeptColumns`, `Unset`, `Quiet`, `SettleSays`.
 use mathlib.Core.Path.{_≡_}
-use mathlib.Core.Bool.{true}
+use mathlib.Core.Bool.{Bool, true}
 use mathlib.Core.List.{List}
 use Prim.Native.Nat.{ℕ, _+_, _*_, _≤_, _<_}
 use lib.ListN.{length, take}
@@ -84,6 +84,18 @@ Fronts ps left low high =
 -- in each row the places outside d + 1 … e are as before
 abbrev pub KeptColumns : List ℕ → List ℕ → ℕ → ℕ → Type 0
 KeptColumns xs xs′ d e = (r q : ℕ) → q < POINTS → (d < q → e < q) → row xs′ (r * 256) q ≡ row xs (r * 256) q
+
+-- in the row of each height the places d + 1 … e are 0
+abbrev pub Unset : List ℕ → ℕ → ℕ → Type 0
+Unset xs d e = (h q : ℕ) → 0 < h → h ≤ DEPTH → d < q → q ≤ e → row xs (h * 256) q ≡ 0
+
+-- no loop from d up to e is the home of a dependence
+abbrev pub Quiet : List ℕ → ℕ → ℕ → Type 0
+Quiet has d e = (l : ℕ) → d ≤ l → l < e → at has l ≡ 0
+
+pub record QuietSays (has : List ℕ) (d e : ℕ) (quiet : Bool) : Type 0 where
+  pub none : quiet ≡ true → Quiet has d e
+  pub all : Quiet has d e → quiet ≡ true
 
 -- the rows of d and the loops inside it, of any lines that the tables hold
 pub record SettleSays (ps reach limit has left choice left′ choice′ : List ℕ) (d : ℕ) : Type 0 where

@@ -1,12 +1,14 @@
 -- `plan` meets its contract: the tables are what settling and laying ask, and what loop 0 lays is the key (Planning).
+use Prim.Native.Nat.{_≤_, _<_}
 use native.Mathlib.Omega.{arith}
 use lib.ListN.{length}
 use Rattle.laws.proofs.Copies.{copies}
+use Rattle.paper_nests.specs.Kinds.{POINTS}
 use Rattle.paper_nests.specs.Stored.{nestIn}
 use Rattle.paper_nests.proofs.Levels.{starts-with-do}
-use Rattle.paper_nests.proofs.Loops.{end-after}
+use Rattle.paper_nests.proofs.Loops.{end-after, outermost}
 use Rattle.plan_tables.proofs.Preparing.{count-there, unowned-filled, blank-filled, points-of, fits-of}
-use Rattle.plan_nest.proofs.Planning.{charts, choices, key, top-height}
+use Rattle.plan_nest.proofs.Planning.{charts, choices, key, top-height, unset-top}
 use borrow.Author.Needs.{needs}
 use Rattle.plan_nest.proofs.plan.Statement.{statement}
 use Rattle.plan_nest.proofs.plan.Tie as tie
@@ -15,11 +17,30 @@ use Rattle.plan_nest.proofs.plan.Tie as tie
 abbrev called : tie.After-prepare → tie.Start
 called c = c .before .before .before .before .before .before .before
 
+abbrev filled : tie.After-clear-rows → tie.After-prepare
+filled c = c .before .before .before .before .before .before .before .before .before
+
+abbrev cleared : tie.After-clear-rows2 → tie.After-clear-rows
+cleared c = c .before .before .before
+
+abbrev emptied : tie.After-settle → tie.After-clear-rows2
+emptied c =
+    let l = c .before .before .before .before .before .before .before in
+    l .before .before .before .before .before .before .before
+
 abbrev prepared : tie.After-settle → tie.After-prepare
-prepared c = c .before .before .before .before .before .before .before .before .before .before .before .before .before .before .before .before .before .before .before .before
+prepared c = filled (cleared (emptied c))
 
 abbrev settled : tie.After-lay → tie.After-settle
 settled c = c .before .before .before .before .before .before .before .before .before .before .before .before .before .before .before .before
+
+-- there are points, and not too many
+there : (c : tie.Start) → (1 < c .args .nest .count) × (c .args .nest .count ≤ POINTS)
+there c =
+    let n = nestIn (c .args .nest) in
+    let w = points-of n (c .pre .1) in
+    let l = end-after (n .points) (w .shape) 0 (starts-with-do (n .points) (w .shape)) in
+    (omega (arith, c .pre .0 .count-is, outermost (n .points) (w .shape)), omega (arith, c .pre .0 .count-is, w .few))
 
 cast-high : tie.Need-cast-high
 cast-high c =
@@ -66,9 +87,31 @@ prepare-requires c κs =
       ),
     )
 
+slice-aggregate-clear-rows : tie.Need-slice-aggregate-clear-rows
+slice-aggregate-clear-rows c = search needs
+
+sub-clear-rows : tie.Need-sub-clear-rows
+sub-clear-rows c =
+    let s = there (called (c .before .before .before .before .before .before .before .before)) in
+    omega arith
+
+clear-rows-requires : tie.Need-clear-rows-requires
+clear-rows-requires c κs =
+    let s = there (called (c .before .before .before .before .before .before .before .before)) in
+    search needs
+
+slice-aggregate-clear-rows-2 : tie.Need-slice-aggregate-clear-rows-2
+slice-aggregate-clear-rows-2 c = search needs
+
+sub-clear-rows-2 : tie.Need-sub-clear-rows-2
+sub-clear-rows-2 c = let s = there (called (filled (c .before .before))) in omega arith
+
+clear-rows-requires-2 : tie.Need-clear-rows-requires-2
+clear-rows-requires-2 c κs = let s = there (called (filled (c .before .before))) in search needs
+
 array-share-prefix-points : tie.Need-array-share-prefix-points
 array-share-prefix-points c =
-    let b = called (c .before .before .before .before .before .before .before) in
+    let b = called (filled (cleared (c .before))) in
     count-there (b .args .nest .count) (b .args .nest .points) (b .pre .0 .count-is)
 
 slice-aggregate-settle : tie.Need-slice-aggregate-settle
@@ -109,10 +152,13 @@ slice-aggregate-settle-12 c = search needs
 
 settle-requires : tie.Need-settle-requires
 settle-requires c κs =
-    let b = c .before .before .before .before .before .before .before .before .before .before .before .before .before .before .before .before .before .before .before in
+    let e = c .before .before .before .before .before .before .before .before .before .before .before .before .before in
+    let b = filled (cleared e) in
     let n = called b .args .nest in
     let p = called b .pre in
     let r = b .prepare in
+    let l = cleared e .clear-rows in
+    let k = e .clear-rows2 in
     let ps = nestIn n .points in
     let ds = nestIn n .deps in
     let w = points-of (nestIn n) (p .1) in
@@ -131,10 +177,19 @@ settle-requires c κs =
             reach-room = omega (arith, r .kept .1 .1 .1 .1 .0);
             limit-room = omega (arith, r .kept .1 .1 .1 .1 .1 .0);
             has-room = omega (arith, r .kept .1 .1 .1 .1 .1 .1 .0);
-            left-room = omega arith;
-            choice-room = omega arith;
+            left-room = omega (arith, l .kept .0);
+            choice-room = omega (arith, k .kept .0);
           },
-          (starts-with-do ps (w .shape), top-height ps),
+          (
+            starts-with-do ps (w .shape),
+            (
+              top-height ps,
+              (
+                unset-top ps (w .shape) (p .0 .count-is) (l .ensures),
+                unset-top ps (w .shape) (p .0 .count-is) (k .ensures),
+              ),
+            ),
+          ),
         ),
       ),
     )
@@ -151,16 +206,28 @@ slice-aggregate-lay : tie.Need-slice-aggregate-lay
 slice-aggregate-lay c = called (prepared (c .before .before .before .before .before .before .before .before)) .pre .0 .count-is
 
 slice-aggregate-lay-2 : tie.Need-slice-aggregate-lay-2
-slice-aggregate-lay-2 c = search needs
+slice-aggregate-lay-2 c =
+    let l = c .before .before in
+    let r = prepared (l .before .before .before .before .before .before .before) .prepare in
+    omega (arith, r .kept .1 .0)
 
 slice-aggregate-lay-3 : tie.Need-slice-aggregate-lay-3
-slice-aggregate-lay-3 c = search needs
+slice-aggregate-lay-3 c =
+    let l = c .before .before .before in
+    let r = prepared (l .before .before .before .before .before .before .before) .prepare in
+    omega (arith, r .kept .1 .1 .0)
 
 slice-aggregate-lay-4 : tie.Need-slice-aggregate-lay-4
-slice-aggregate-lay-4 c = search needs
+slice-aggregate-lay-4 c =
+    let l = c .before .before .before .before in
+    let r = prepared (l .before .before .before .before .before .before .before) .prepare in
+    omega (arith, r .kept .1 .1 .1 .1 .0)
 
 slice-aggregate-lay-5 : tie.Need-slice-aggregate-lay-5
-slice-aggregate-lay-5 c = search needs
+slice-aggregate-lay-5 c =
+    let l = c .before .before .before .before .before in
+    let r = prepared (l .before .before .before .before .before .before .before) .prepare in
+    omega (arith, r .kept .1 .1 .1 .1 .1 .0)
 
 slice-aggregate-lay-6 : tie.Need-slice-aggregate-lay-6
 slice-aggregate-lay-6 c = search needs
@@ -173,11 +240,15 @@ slice-aggregate-lay-8 c = search needs
 
 lay-requires : tie.Need-lay-requires
 lay-requires c κs =
-    let s = c .before .before .before .before .before .before .before .before .before .before .before .before .before .before .before .settle in
-    let b = prepared (c .before .before .before .before .before .before .before .before .before .before .before .before .before .before .before) in
+    let l = c .before .before .before .before .before .before .before .before in
+    let z = l .before .before .before .before .before .before .before in
+    let s = z .settle in
+    let b = prepared z in
     let n = called b .args .nest in
     let p = called b .pre in
     let r = b .prepare in
+    let l = cleared (emptied z) .clear-rows in
+    let k = emptied z .clear-rows2 in
     let ps = nestIn n .points in
     let ds = nestIn n .deps in
     let w = points-of (nestIn n) (p .1) in
@@ -197,8 +268,8 @@ lay-requires c κs =
           record {
             reach-room = omega (arith, r .kept .1 .1 .1 .1 .0);
             limit-room = omega (arith, r .kept .1 .1 .1 .1 .1 .0);
-            left-room = omega (arith, s .kept .1 .1 .1 .1 .1 .1 .0);
-            choice-room = omega (arith, s .kept .1 .1 .1 .1 .1 .1 .1 .0);
+            left-room = omega (arith, s .kept .1 .1 .1 .1 .1 .1 .0, l .kept .0);
+            choice-room = omega (arith, s .kept .1 .1 .1 .1 .1 .1 .1 .0, k .kept .0);
           },
           (
             starts-with-do ps (w .shape),
@@ -236,8 +307,9 @@ returns c =
     let has = r .last .1 .1 .1 .1 .1 .1 .0 in
     let left = s .last .1 .1 .1 .1 .1 .1 .0 in
     let choice = s .last .1 .1 .1 .1 .1 .1 .1 .0 in
+    let none = l .before .before .before .before .before .before .before .before .before .empty in
     key ps ds own ends heights reach limit has w (r .ensures) left choice (s .ensures .rows)
-    (l .before .before .before .before .before .before .before .before .before .empty .result .words) (l .lay .result .words) (l .before .before .before .before .before .before .before .before .before .empty .ensures) (l .lay .ensures .0)
+    (none .result .words) (l .lay .result .words) (none .ensures) (l .lay .ensures .0)
 
 pub plan-spec : {M : Type 1} → statement M
 plan-spec =
@@ -251,6 +323,12 @@ plan-spec =
     slice-aggregate-prepare-5
     slice-aggregate-prepare-6
     prepare-requires
+    slice-aggregate-clear-rows
+    sub-clear-rows
+    clear-rows-requires
+    slice-aggregate-clear-rows-2
+    sub-clear-rows-2
+    clear-rows-requires-2
     array-share-prefix-points
     slice-aggregate-settle
     slice-aggregate-settle-2

@@ -1,5 +1,6 @@
 -- `settle` meets its contract; the height falls at each call. The invariant of its loop: the loops inside d that lie
--- before i are settled (`Settling`). At its end the loop's own row is made (`done`).
+-- before i are settled (`Settling`). At its end the loop's own row is made (`done`). Where nothing is to be cut the
+-- rows stay as they are (`quiet-done`).
 use mathlib.Core.Path.{_∙_}
 use Prim.Native.Nat.{ℕ, _+_, _-_, _*_, _<_}
 use native.Mathlib.Omega.{arith}
@@ -9,6 +10,7 @@ use Rattle.plan_settle.proofs.Calls.{Call, called}
 use Rattle.plan_settle.proofs.Lists.{Lent, lent-all, lent-on, lent-room}
 use Rattle.plan_settle.proofs.Turns.{Settling, begin, on-plain, child-asked, child-long, child-short, on-child}
 use Rattle.plan_settle.proofs.Own.{done}
+use Rattle.plan_settle.proofs.Quiet.{quiet-done}
 use Rattle.plan_settle.proofs.Grounded.{row-room}
 use borrow.Fn.Kinds.{In}
 use borrow.Fn.PlainCycle.{Measures, is, falls, and}
@@ -16,6 +18,7 @@ use Rattle.plan_settle.proofs.settle.Reads as settle
 use Rattle.plan_settle.proofs.settle.Kinds as settle-kinds
 use Rattle.plan_settle.proofs.+settle.Lts-settle as lts
 use Rattle.plan_rows.proofs.make_row.Reads as make-row-reads
+use Rattle.plan_settle.proofs.is_quiet.Reads as is-quiet-reads
 use Rattle.plan_sweeps.proofs.first_or.Reads as first-or-reads
 use Rattle.plan_settle.proofs.+settle.{statement}
 use Rattle.plan_settle.proofs.+settle.Tie.{close}
@@ -31,6 +34,8 @@ settle-below t = and 12 settle-kinds.ps (falls 12 settle-kinds.ps _<_ μ-settle 
 
 abbrev callees : ℕ → lts.Claims
 callees t = (
+  is-quiet-reads.Asked,
+  is-quiet-reads.Learnt,
   settle-below t,
   settle.Post,
   first-or-reads.Asked,
@@ -51,19 +56,22 @@ abbrev μ-loop : lts.MeasureT-loop
     e - i
 
 module _ (t : ℕ) where
-  -- places: the call, with its slices known, a turn, at a loop inside, where that is settled and looked at, and where
-  -- the loop's own row is made
+  -- places: the call, with its slices known, where something is to be cut, a turn, at a loop inside, where that is
+  -- settled and looked at, and where the loop's own row is made
   abbrev Start : Type 0
   Start = lts.Start (callees t) (settle-at t) settle.Post Inv-loop μ-loop
 
   abbrev Known : Type 0
   Known = lts.After-slice-known6 (callees t) (settle-at t) settle.Post Inv-loop μ-loop
 
+  abbrev Noisy : Type 0
+  Noisy = lts.Else1 (callees t) (settle-at t) settle.Post Inv-loop μ-loop
+
   abbrev Turn : Type 0
   Turn = lts.At-loop (callees t) (settle-at t) settle.Post Inv-loop μ-loop
 
   abbrev Inside : Type 0
-  Inside = lts.Then1 (callees t) (settle-at t) settle.Post Inv-loop μ-loop
+  Inside = lts.Then2 (callees t) (settle-at t) settle.Post Inv-loop μ-loop
 
   abbrev Settled : Type 0
   Settled = lts.After-settle (callees t) (settle-at t) settle.Post Inv-loop μ-loop
@@ -77,8 +85,11 @@ module _ (t : ℕ) where
   abbrev known : Known → Start
   known c = c .before .before .before .before .before .before .before .before .before .before .before .before
 
+  abbrev noisy : Noisy → Known
+  noisy c = c .before .before .before
+
   abbrev turn : Turn → Start
-  turn c = known (c .before .before .before)
+  turn c = known (noisy (c .before .before))
 
   abbrev inside : Inside → Turn
   inside c = c .before .before .before
@@ -110,26 +121,34 @@ module _ (t : ℕ) where
   shared-slice-read-e : lts.Need-shared-slice-read-e (callees t) (settle-at t) settle.Post Inv-loop μ-loop
   shared-slice-read-e c = let a = call (known (c .before)) in omega arith
 
+  is-quiet-requires : lts.Need-is-quiet-requires (callees t) (settle-at t) settle.Post Inv-loop μ-loop
+  is-quiet-requires c κs = let a = call (known (c .before)) in omega arith
+
+  returns : lts.Need-returns (callees t) (settle-at t) settle.Post Inv-loop μ-loop
+  returns c =
+      let a = call (known (c .before .before .before)) in
+      quiet-done a (c .before .is-quiet .ensures .none (c .if1 .taken))
+
   mul-base : lts.Need-mul-base (callees t) (settle-at t) settle.Post Inv-loop μ-loop
-  mul-base c = let a = call (known (c .before)) in omega arith
+  mul-base c = let a = call (known (noisy c)) in omega arith
 
   sub-kids : lts.Need-sub-kids (callees t) (settle-at t) settle.Post Inv-loop μ-loop
-  sub-kids c = let a = call (known (c .before)) in omega arith
+  sub-kids c = let a = call (known (noisy c)) in omega arith
 
   mul-some : lts.Need-mul-some (callees t) (settle-at t) settle.Post Inv-loop μ-loop
-  mul-some c = let a = call (known (c .before)) in omega arith
+  mul-some c = let a = call (known (noisy c)) in omega arith
 
   shared-slice-read-some : lts.Need-shared-slice-read-some (callees t) (settle-at t) settle.Post Inv-loop μ-loop
-  shared-slice-read-some c = let a = call (known (c .before .before)) in omega arith
+  shared-slice-read-some c = let a = call (known (noisy (c .before))) in omega arith
 
   add-i : lts.Need-add-i (callees t) (settle-at t) settle.Post Inv-loop μ-loop
-  add-i c = let a = call (known (c .before .before)) in omega arith
+  add-i c = let a = call (known (noisy (c .before))) in omega arith
 
   loop-holds : lts.Need-loop-holds (callees t) (settle-at t) settle.Post Inv-loop μ-loop
-  loop-holds c = (begin (call (known (c .before .before))), lent-all)
+  loop-holds c = (begin (call (known (noisy (c .before)))), lent-all)
 
-  shared-slice-read-if1 : lts.Need-shared-slice-read-if1 (callees t) (settle-at t) settle.Post Inv-loop μ-loop
-  shared-slice-read-if1 c = let a = call (turn (c .before .before)) in omega arith
+  shared-slice-read-if2 : lts.Need-shared-slice-read-if2 (callees t) (settle-at t) settle.Post Inv-loop μ-loop
+  shared-slice-read-if2 c = let a = call (turn (c .before .before)) in omega arith
 
   sub-settle : lts.Need-sub-settle (callees t) (settle-at t) settle.Post Inv-loop μ-loop
   sub-settle c = let a = call (turn (inside (c .before .before .before .before .before .before))) in omega arith
@@ -141,7 +160,7 @@ module _ (t : ℕ) where
         omega (arith, turn l .pre .0, call (turn l) .low),
         (
           lent-room (l .loop .inv .1) (lists (turn l)),
-          child-asked (call (turn l)) (l .loop .inv .0) (i .before .before .loop-test .taken) (i .if1 .taken),
+          child-asked (call (turn l)) (l .loop .inv .0) (i .before .before .loop-test .taken) (i .if2 .taken),
         ),
       )
 
@@ -180,14 +199,14 @@ module _ (t : ℕ) where
       let i = settled (looked (c .before)) in
       let l = inside i in
       let a = call (turn l) in
-      omega (arith, child-short a (l .loop .inv .0) (i .before .before .loop-test .taken) (i .if1 .taken))
+      omega (arith, child-short a (l .loop .inv .0) (i .before .before .loop-test .taken) (i .if2 .taken))
 
   loop-less : lts.Need-loop-less (callees t) (settle-at t) settle.Post Inv-loop μ-loop
   loop-less c =
       let i = settled (looked (c .before)) in
       let l = inside i in
       let more = i .before .before .loop-test .taken in
-      omega (arith, child-long (call (turn l)) (l .loop .inv .0) more (i .if1 .taken), more)
+      omega (arith, child-long (call (turn l)) (l .loop .inv .0) more (i .if2 .taken), more)
 
   loop-again : lts.Need-loop-again (callees t) (settle-at t) settle.Post Inv-loop μ-loop
   loop-again c =
@@ -196,7 +215,7 @@ module _ (t : ℕ) where
       let l = inside i in
       let s = k .settle in
       let n = s .kept .1 .1 .1 .1 .1 .1 in (
-        on-child (call (turn l)) (l .loop .inv .0) (i .before .before .loop-test .taken) (i .if1 .taken) (n .0)
+        on-child (call (turn l)) (l .loop .inv .0) (i .before .before .loop-test .taken) (i .if2 .taken) (n .0)
             (n .1 .0) (s .ensures) (c .before .first-or .ensures),
         lent-on (l .loop .inv .1) record {
           need-length = n .1 .1 .0;
@@ -215,7 +234,7 @@ module _ (t : ℕ) where
   loop-again-2 : lts.Need-loop-again-2 (callees t) (settle-at t) settle.Post Inv-loop μ-loop
   loop-again-2 c =
       let l = c .before .before .before in
-      (on-plain (call (turn l)) (l .loop .inv .0) (c .before .before .loop-test .taken) (c .if1 .left), l .loop .inv .1)
+      (on-plain (call (turn l)) (l .loop .inv .0) (c .before .before .loop-test .taken) (c .if2 .left), l .loop .inv .1)
 
   make-row-requires : lts.Need-make-row-requires (callees t) (settle-at t) settle.Post Inv-loop μ-loop
   make-row-requires c κs =
@@ -254,8 +273,8 @@ module _ (t : ℕ) where
       let m = c .before .before .before .before .before .before .before .before .before .before .before .before in
       m .make-row .kept .1 .1 .1 .1 .1 .1 .1 .1 .1 .0 ∙ made m .loop .inv .1 .link-length
 
-  returns : lts.Need-returns (callees t) (settle-at t) settle.Post Inv-loop μ-loop
-  returns c =
+  returns-2 : lts.Need-returns-2 (callees t) (settle-at t) settle.Post Inv-loop μ-loop
+  returns-2 c =
       let m = c .before .before .before .before .before .before .before .before .before .before .before .before in
       let l = made m in
       done (call (turn l)) (l .loop .inv .0) (omega (arith, m .before .before .before .before .before .before .before .loop-test)) (m .make-row .ensures)
@@ -268,13 +287,15 @@ pub +settle-spec : {M : Type 1} → statement M
     μ-loop
     (mul-e t)
     (shared-slice-read-e t)
+    (is-quiet-requires t)
+    (returns t)
     (mul-base t)
     (sub-kids t)
     (mul-some t)
     (shared-slice-read-some t)
     (add-i t)
     (loop-holds t)
-    (shared-slice-read-if1 t)
+    (shared-slice-read-if2 t)
     (sub-settle t)
     (settle-requires t)
     (add-first t)
@@ -297,4 +318,4 @@ pub +settle-spec : {M : Type 1} → statement M
     (same-length-4 t)
     (same-length-5 t)
     (same-length-6 t)
-    (returns t)
+    (returns-2 t)
