@@ -1,0 +1,2 @@
+-- The laps of a claim, over tables.
+pub mod Lapped

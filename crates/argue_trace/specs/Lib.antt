@@ -1,0 +1,2 @@
+-- One sweep of a lap, with its steps.
+pub mod Traced
