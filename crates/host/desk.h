@@ -13,7 +13,7 @@
      3   a point after a dependence or a barred gap
      4   a point before any DO or after the outermost loop; a dependence, a barred gap, or the end, while a loop is open
      5   a 257th point, a loop 9 deep, a 513th dependence, a 256th barred gap
-     6   s, t or d names no point, or one of the wrong sort; Count of a point that is no DO; the gaps of a dependence
+     6   s, t or d names no point, or one of the wrong sort; Count of a point that is no DO; the number of a dependence
          that is none
      7   an independent dependence with s at or after t; a carried one with a point not inside its loop
      8   a gap that is 0 or not below the number of points; in a text, one not above the gap before
@@ -160,8 +160,8 @@ typedef struct DeskMoved {
     Desk desk;
 } DeskMoved;
 
-/* A set of gaps by the textbook method or of a dependence, of loops by their DOs for the missing runs; empty where the
-   call is refused. */
+/* A set of gaps by the textbook method or of a dependence, of loops by their DOs where loops may not run; empty where
+   the call is refused. */
 typedef struct DeskChosen {
     uint8_t number;
     size_t line;
@@ -307,6 +307,17 @@ DeskAnswer desk_examiner_slip(Desk desk, const uint8_t *text, size_t length, uin
 /* The loops that need a barrier for their missing run: those that may not run and hold a barrier of the key on which a
    dependence past them relies. Numbers 10, 11. */
 DeskChosen desk_missing_runs(Desk desk);
+
+/* The loops on which a placement text relies for a dependence, which is named by its number, from 0: where every
+   barrier that cuts it stands in loops that may not run and lie apart from both its ends, those of them that hold one.
+   With all of these skipped it is not cut; where there are none, and it is cut, it stays cut whichever loops apart from
+   both its ends are skipped. No key is wanted. Numbers 10, then 1, 2, 8, 16 with their line, then 6. */
+DeskChosen desk_relied_on(Desk desk, const uint8_t *text, size_t length, size_t dependence);
+
+/* The loops that may not run and have one end alone of a dependence, which is named by its number, from 0: none but of
+   a carried dependence with s before t. Where such a loop is skipped in some turns and runs in others, the two calls
+   above may not list enough. Numbers 10, 6. */
+DeskChosen desk_one_end(Desk desk, size_t dependence);
 
 /* The barrier calls of the key in a run, given a byte of turns for each loop in order of its DO: 1 to 16 for the
    outermost, 2 to 16 for the others. A barrier counts the product of the turns of the loops around it.

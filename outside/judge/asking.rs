@@ -39,6 +39,10 @@ pub enum Call {
     /// Of two placement texts.
     Compare(Vec<u8>, Vec<u8>),
     MissingRuns,
+    /// Of a placement text, for the dependence of a number.
+    ReliedOn(Vec<u8>, usize),
+    /// Of the dependence of a number.
+    OneEnd(usize),
     /// With the turns of the loops.
     CountCalls(Vec<u8>),
     /// Of a placement text, with the turns of the loops.
@@ -75,6 +79,8 @@ impl Call {
             Call::Slip(true, ..) => "examiner's slip",
             Call::Compare(..) => "compare",
             Call::MissingRuns => "missing runs",
+            Call::ReliedOn(..) => "relied on",
+            Call::OneEnd(_) => "one end",
             Call::CountCalls(_) => "count calls",
             Call::PlacementCalls(..) => "placement calls",
             Call::Join(..) => "join",
@@ -88,10 +94,11 @@ impl Call {
             Call::Load(text) | Call::Mark(text) => shown(text),
             Call::List(list) | Call::CountCalls(list) => format!("{list:?}"),
             Call::Write(out) | Call::Sitting(out) => format!("a buffer of {} bytes", out.len()),
-            Call::Count(n) | Call::Put(n) | Call::Lift(n) | Call::Gaps(n) => n.to_string(),
+            Call::Count(n) | Call::Put(n) | Call::Lift(n) | Call::Gaps(n) | Call::OneEnd(n) => n.to_string(),
             Call::Over(planned, key) => format!("with a key: {planned}, words {key:?}"),
             Call::Slip(_, text, out) => format!("{}, a buffer of {} bytes", shown(text), out.len()),
             Call::Compare(a, b) => format!("{}, {}", shown(a), shown(b)),
+            Call::ReliedOn(text, n) => format!("{}, {n}", shown(text)),
             Call::PlacementCalls(text, turns) => format!("{}, {turns:?}", shown(text)),
             Call::Improve(turns, budget) => format!("{turns:?}, {budget} tries"),
             Call::Sheet(sheet) => format!("{sheet:?}"),
@@ -176,6 +183,8 @@ pub fn play(desk: &mut Desk, call: &Call) -> Reply {
             Call::Slip(examiner, text, out) => slips::play(*desk, *examiner, text, out),
             Call::Compare(a, b) => comparing::play(*desk, a, b),
             Call::MissingRuns => skipping::play(*desk),
+            Call::ReliedOn(text, dependence) => skipping::play_relied(*desk, text, *dependence),
+            Call::OneEnd(dependence) => skipping::play_one_end(*desk, *dependence),
             Call::CountCalls(turns) => runs::play(*desk, turns),
             Call::PlacementCalls(text, turns) => runs::play_placement(*desk, text, turns),
             Call::Join(a, b, out) => joining::play(a, b, out),

@@ -103,6 +103,8 @@ impl Desk {
             Call::Slip(examiner, text, out) => return slips::answer(self, *examiner, text, out),
             Call::Compare(a, b) => return comparing::answer(self, a, b),
             Call::MissingRuns => (number, values) = skipping::answer(self),
+            Call::ReliedOn(text, dependence) => return skipping::answer_relied(self, text, *dependence),
+            Call::OneEnd(dependence) => (number, values) = skipping::answer_one_end(self, *dependence),
             Call::CountCalls(turns) => return runs::answer(self, turns),
             Call::PlacementCalls(text, turns) => return runs::answer_placement(self, text, turns),
             Call::Join(a, b, out) => return joining::answer(a, b, out),

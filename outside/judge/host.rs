@@ -132,6 +132,8 @@ extern "C" {
     pub fn desk_examiner_slip(desk: Desk, text: *const u8, length: usize, out: *mut u8, room: usize) -> Answer;
     pub fn desk_compare(desk: Desk, a: *const u8, first: usize, b: *const u8, second: usize) -> Compared;
     pub fn desk_missing_runs(desk: Desk) -> Chosen;
+    pub fn desk_relied_on(desk: Desk, text: *const u8, length: usize, dependence: usize) -> Chosen;
+    pub fn desk_one_end(desk: Desk, dependence: usize) -> Chosen;
     pub fn desk_count_calls(desk: Desk, turns: *const u8, length: usize) -> Calls;
     pub fn desk_placement_calls(desk: Desk, text: *const u8, length: usize, turns: *const u8, loops: usize) -> Calls;
     pub fn desk_improve(desk: Desk, turns: *const u8, length: usize, budget: usize) -> Improved;

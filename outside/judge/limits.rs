@@ -103,7 +103,8 @@ fn last_flagged() -> impl Iterator<Item = Vec<Call>> {
         let mut nest = read_nest(&words(paper.0)).unwrap();
         let (last, others) = nest.dependences.split_last().unwrap();
         nest.dependences = filled(others, *last);
-        vec![Call::Load(nest.text()), Call::Plan, Call::MissingRuns]
+        let relied = Call::ReliedOn(barrier_lines(paper.1), DEPENDENCES - 1);
+        vec![Call::Load(nest.text()), Call::Plan, Call::MissingRuns, relied, Call::OneEnd(DEPENDENCES - 1)]
     })
 }
 

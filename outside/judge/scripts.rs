@@ -17,7 +17,7 @@ use crate::shapes;
 use crate::sheets::{every_sheet, random_sheet};
 use crate::skipping;
 use crate::slips::slip_length;
-use crate::texts::barrier_lines;
+use crate::texts::{barrier_lines, read_nest};
 use std::collections::BTreeMap;
 use std::sync::atomic::{AtomicUsize, Ordering::SeqCst};
 use std::sync::Mutex;
@@ -111,7 +111,7 @@ fn random_call(random: &mut Random, desk: &Desk, mix: Mix, edges: &[Vec<u8>]) ->
 }
 
 fn random_ask(random: &mut Random, desk: &Desk, edges: &[Vec<u8>]) -> Call {
-    match random.below(33) {
+    match random.below(37) {
         0 => Call::Count(random_point(random, desk)),
         1 | 2 => Call::Write(buffer(random, 5 * desk.key().len())),
         3 => Call::Sitting(buffer(random, 5 * desk.sitting.len())),
@@ -135,6 +135,8 @@ fn random_ask(random: &mut Random, desk: &Desk, edges: &[Vec<u8>]) -> Call {
         25 => Call::Shape,
         26 | 27 => Call::Gaps(shapes::random_dependence(random, desk)),
         28 | 29 => Call::Standing,
+        30 | 31 => Call::ReliedOn(placement_text(random, desk), shapes::random_dependence(random, desk)),
+        32 | 33 => Call::OneEnd(shapes::random_dependence(random, desk)),
         _ => Call::Mark(placement_text(random, desk)),
     }
 }
@@ -290,9 +292,9 @@ fn play_calls(calls: Vec<Call>, tally: &mut Numbers) -> Option<Vec<Call>> {
 /// every two placements on it, and of papers made for a call.
 fn fixed_scripts() -> Vec<Vec<Call>> {
     let lines = pairs().into_iter().map(|text| vec![Call::Load(text), Call::Plan]);
-    let flagged = (0..FIXED).map(|case| small_flagged(&mut Random::new(14, case)).text());
-    let made = skipping::PAPERS.iter().map(|paper| words(paper.0)).chain(flagged);
-    let asked = made.map(|text| vec![Call::Load(text), Call::Plan, Call::MissingRuns]);
+    let flagged = (0..FIXED).map(|case| small_flagged(&mut Random::new(14, case)));
+    let made = skipping::PAPERS.iter().map(|paper| read_nest(&words(paper.0)).unwrap()).chain(flagged);
+    let asked = made.enumerate().map(|(case, nest)| skipping::asks(&mut Random::new(17, case), &nest));
     let beside = (2..=SMALLEST).flat_map(every_shape).flat_map(|nest| comparisons(&nest));
     let every = (2..=SMALLEST).flat_map(every_paper).map(|nest| asks_of(&nest));
     let shapes = shapes::every_ask();
@@ -300,14 +302,17 @@ fn fixed_scripts() -> Vec<Vec<Call>> {
     first.chain(asked).chain(joins()).chain(every_sheet()).chain(beside).chain(shapes).chain(every).collect()
 }
 
-/// What is asked of a small paper: its missing runs; its calls under all turns from 2 to 4, under some if it is not one
-/// of the smallest; of these with no flags, tries for fewer calls.
+/// What is asked of a small paper: its missing runs, and which loops have one end of its dependences alone; its calls
+/// under all turns from 2 to 4, under some if it is not one of the smallest; of these with no flags, tries for fewer
+/// calls.
 fn asks_of(nest: &Nest) -> Vec<Call> {
     let mut turns = every_turns(nest.loops().len(), 2, 4);
     if nest.points.len() == SMALLEST || !nest.flagged.is_empty() { turns.drain(1..turns.len() - 1); }
     let counts = turns.into_iter().map(Call::CountCalls);
     let tries = if nest.points.len() < SMALLEST && nest.flagged.is_empty() { improvements(nest) } else { Vec::new() };
-    [Call::Load(nest.text()), Call::Plan, Call::MissingRuns].into_iter().chain(counts).chain(tries).collect()
+    let ends = (0..nest.dependences.len()).map(Call::OneEnd);
+    let begun = [Call::Load(nest.text()), Call::Plan, Call::MissingRuns];
+    begun.into_iter().chain(ends).chain(counts).chain(tries).collect()
 }
 
 /// Plays the script of a number; where there is a difference, gives the calls up to it.

@@ -1,6 +1,7 @@
-//! Loops that may not run (02, job 10), by the words of the job: which of them need a barrier for their missing run.
+//! Loops that may not run (02, job 10), by the words of the job: which of them need a barrier for their missing run, on
+//! which of them a placement relies for one dependence, and which have one of its ends alone.
 
-use crate::asking::{Call, Reply};
+use crate::asking::{guarded, lend, Call, Reply, GUARD};
 use crate::desk::Desk;
 use crate::desk_check::{check_altered, load, replies};
 use crate::host::{self, words_of};
@@ -8,7 +9,7 @@ use crate::nests::*;
 use crate::order::search;
 use crate::papers::*;
 use crate::self_check::Checks;
-use crate::texts::{read_nest, shown};
+use crate::texts::{barrier_lines, read_nest, read_placement, shown};
 
 /// The loop of DO d may not run, and neither end of the dependence lies from its DO to its ENDDO.
 fn is_foreign(nest: &Nest, x: &Dependence, d: usize) -> bool {
@@ -19,18 +20,31 @@ fn is_foreign(nest: &Nest, x: &Dependence, d: usize) -> bool {
 /// "At one of its gaps d + 1 to e."
 fn is_inside(nest: &Nest, d: usize, g: usize) -> bool { d < g && g <= nest.end[d] }
 
-/// The DOs of the loops that need a barrier for their missing run, rising. A dependence lists each loop that is foreign
-/// to it and has a barrier that cuts it, unless a barrier that cuts it lies outside all loops foreign to it.
+/// The DOs of the loops on which a placement relies for a dependence, rising: each loop that is foreign to it and has a
+/// barrier that cuts it, unless a barrier that cuts it lies outside all loops foreign to it.
+pub fn relied(nest: &Nest, x: &Dependence, gaps: &[usize]) -> Vec<usize> {
+    let foreign: Vec<usize> = nest.flagged.iter().copied().filter(|&d| is_foreign(nest, x, d)).collect();
+    let cutting: Vec<usize> = gaps.iter().copied().filter(|&g| nest.has_gap(x, g)).collect();
+    if cutting.iter().any(|&g| !foreign.iter().any(|&d| is_inside(nest, d, g))) { return Vec::new() }
+    foreign.into_iter().filter(|&d| cutting.iter().any(|&g| is_inside(nest, d, g))).collect()
+}
+
+/// The DOs of the loops that need a barrier for their missing run, rising: those on which the key relies for some
+/// dependence.
 pub fn listed(nest: &Nest, key: &[usize]) -> Vec<usize> {
     let mut listed = vec![false; nest.points.len()];
-    for x in &nest.dependences {
-        let foreign: Vec<usize> = nest.flagged.iter().copied().filter(|&d| is_foreign(nest, x, d)).collect();
-        let cutting: Vec<usize> = key.iter().copied().filter(|&g| nest.has_gap(x, g)).collect();
-        if cutting.iter().any(|&g| !foreign.iter().any(|&d| is_inside(nest, d, g))) { continue }
-        let has_one = |d: &&usize| cutting.iter().any(|&g| is_inside(nest, **d, g));
-        foreign.iter().filter(has_one).for_each(|&d| listed[d] = true);
-    }
+    nest.dependences.iter().for_each(|x| relied(nest, x, key).into_iter().for_each(|d| listed[d] = true));
     (0..listed.len()).filter(|&d| listed[d]).collect()
+}
+
+/// The DOs of the loops that may not run and have one end alone strictly between DO and ENDDO, the other before the DO
+/// or behind the ENDDO, rising; of a carried dependence with s before t, of others none.
+pub fn one_end(nest: &Nest, x: &Dependence) -> Vec<usize> {
+    if x.kind != CARRIED || x.t <= x.s { return Vec::new() }
+    let inside = |d: usize, p: usize| d < p && p < nest.end[d];
+    let apart = |d: usize, p: usize| p < d || nest.end[d] < p;
+    let alone = |d: usize| inside(d, x.s) && apart(d, x.t) || inside(d, x.t) && apart(d, x.s);
+    nest.flagged.iter().copied().filter(|&d| alone(d)).collect()
 }
 
 /// What the call answers: 10, then 11, or the listed DOs.
@@ -40,8 +54,48 @@ pub fn answer(desk: &Desk) -> (u8, Vec<usize>) {
     (0, words_of(&listed(nest, desk.key())))
 }
 
-/// The library's own answer.
+/// What the call answers for a placement text and a dependence: 10, then the faults of the text, then 6, or the loops.
+pub fn answer_relied(desk: &Desk, text: &[u8], dependence: usize) -> Reply {
+    let reply = |number, line, loops: &[usize]| Reply { number, line, values: words_of(loops), lent: guarded(text) };
+    let Some(nest) = &desk.nest else { return reply(10, 0, &[]) };
+    match (read_placement(nest, text), nest.dependences.get(dependence)) {
+        (Err(r), _) => reply(r.number, r.line, &[]),
+        (Ok(_), None) => reply(6, 0, &[]),
+        (Ok(gaps), Some(x)) => reply(0, 0, &relied(nest, x, &gaps)),
+    }
+}
+
+/// What the call answers for a dependence: 10, then 6, or the loops that have one of its ends alone.
+pub fn answer_one_end(desk: &Desk, dependence: usize) -> (u8, Vec<usize>) {
+    let Some(nest) = &desk.nest else { return (10, words_of(&[])) };
+    let Some(x) = nest.dependences.get(dependence) else { return (6, words_of(&[])) };
+    (0, words_of(&one_end(nest, x)))
+}
+
+/// The library's own answers.
 pub fn play(desk: host::Desk) -> Reply { unsafe { host::desk_missing_runs(desk) }.into() }
+
+pub fn play_relied(desk: host::Desk, text: &[u8], dependence: usize) -> Reply {
+    let (lent, length) = lend(text);
+    let told = unsafe { host::desk_relied_on(desk, lent[GUARD.len()..].as_ptr(), length, dependence) };
+    Reply { lent, ..told.into() }
+}
+
+pub fn play_one_end(desk: host::Desk, dependence: usize) -> Reply {
+    unsafe { host::desk_one_end(desk, dependence) }.into()
+}
+
+/// What is asked of a paper: its missing runs; of each dependence, on which loops some gaps rely, few or many of them,
+/// and which loops have one of its ends alone.
+pub fn asks(random: &mut Random, nest: &Nest) -> Vec<Call> {
+    let mut calls = vec![Call::Load(nest.text()), Call::Plan, Call::MissingRuns];
+    for i in 0..nest.dependences.len() {
+        let chance = random.pick(&[1, 2, 2, 4]);
+        let gaps: Vec<usize> = (1..nest.points.len()).filter(|_| random.one_in(chance)).collect();
+        calls.extend([Call::ReliedOn(barrier_lines(&gaps), i), Call::OneEnd(i)]);
+    }
+    calls
+}
 
 /// Papers with their keys and listed loops.
 pub const PAPERS: [(&str, &[usize], &[usize]); 16] = [
@@ -83,9 +137,69 @@ pub fn check_skipping(checks: &mut Checks) {
         let rest = [Call::Over(true, None), load("01 04 02 02 110002"), Call::Plan];
         check_altered(checks, &[&script[..], &rest].concat());
     }
+    check_one(checks);
     let some = (0..400).filter(|&case| check_random(checks, &mut Random::new(12, case))).count();
     checks.that("papers with listed loops among them", some > 40);
     (0..4).for_each(|case| check_full(checks, &mut Random::new(13, case)));
+}
+
+/// Of one dependence: on which loops a placement relies, and which have one end alone.
+fn check_one(checks: &mut Checks) {
+    let asked = |text: &str, gaps: &str, i| replies(&[load(text), Call::ReliedOn(words(gaps), i)], 1)[0].clone();
+    let told = |number, line, loops: &[usize]| (number, line, words_of(loops));
+    let beside = "01 03 04 03 02 04 03 02 03 02 12020303 110108";
+    let relied: [(&str, usize, &[usize]); 6] = [
+        ("2103 2106", 1, &[2, 5]), ("2104", 1, &[2]), ("2103 2105", 1, &[]), ("2103", 0, &[]), ("2109", 1, &[]),
+        ("2106", 1, &[5]),
+    ];
+    for (gaps, i, wanted) in relied {
+        checks.that(&format!("{gaps} relies on {wanted:?} for {i}"), asked(beside, gaps, i) == told(0, 0, wanted));
+    }
+    checks.that("no dependence 2", asked(beside, "2103", 2) == told(6, 0, &[]));
+    checks.that("its text first", asked(beside, "2103 2103", 2) == told(8, 2, &[]));
+    checks.that("no nest to rely in", asked("04", "00", 0) == told(10, 0, &[]));
+    let ends: [(&str, &[usize]); 8] = [
+        ("12000103", &[2]), ("12000305", &[2]), ("12000501", &[]), ("12000303", &[]), ("12000105", &[]),
+        ("12000205", &[]), ("12000104", &[]), ("110103", &[]),
+    ];
+    for (line, wanted) in ends {
+        let script = [load(&format!("01 03 04 03 02 03 02 {line}")), Call::OneEnd(0), Call::OneEnd(1)];
+        let same = replies(&script, 2) == [told(0, 0, wanted), told(6, 0, &[])];
+        checks.that(&format!("one end of {line} in {wanted:?}"), same);
+    }
+    checks.that("no nest to have an end in", replies(&[Call::OneEnd(0)], 1)[0] == told(10, 0, &[]));
+    let script = [load(beside), Call::ReliedOn(words("2103"), 1), Call::OneEnd(0), Call::Plan, Call::OneEnd(1)];
+    check_altered(checks, &script);
+    let some = (0..1200).filter(|&case| check_relied(checks, &mut Random::new(18, case))).count();
+    checks.that("placements that rely on loops among them", some > 20);
+}
+
+/// On a small paper with some gaps: a dependence that is cut loses all its barriers under some set of loops foreign to
+/// it, skipped, exactly where loops are relied on; and then under the set of these. Which loops have one end alone is
+/// told once more, by the order of four points.
+fn check_relied(checks: &mut Checks, random: &mut Random) -> bool {
+    let (nest, chance) = (small_flagged(random), random.pick(&[2, 3, 5]));
+    let gaps: Vec<usize> = (1..nest.points.len()).filter(|_| random.one_in(chance)).collect();
+    let lost = |x: &Dependence, skipped: &[usize]| {
+        let gone = |g: usize| skipped.iter().any(|&d| is_inside(&nest, d, g));
+        skipped.iter().all(|&d| is_foreign(&nest, x, d)) && gaps.iter().all(|&g| !nest.has_gap(x, g) || gone(g))
+    };
+    for x in nest.dependences.iter().filter(|x| gaps.iter().any(|&g| nest.has_gap(x, g))) {
+        let loops = relied(&nest, x, &gaps);
+        let sets = (0..1usize << nest.flagged.len()).map(|set| -> Vec<usize> {
+            nest.flagged.iter().enumerate().filter(|(i, _)| set >> i & 1 == 1).map(|(_, &d)| d).collect()
+        });
+        let same = sets.into_iter().any(|skipped| lost(x, &skipped)) != loops.is_empty();
+        checks.that("relied on by sets of skipped loops", same && (loops.is_empty() || lost(x, &loops)));
+    }
+    for x in &nest.dependences {
+        let ordered = |d: &&usize| {
+            let (d, e) = (**d, nest.end[**d]);
+            x.kind == CARRIED && (d < x.s && x.s < e && e < x.t || x.s < d && d < x.t && x.t < e)
+        };
+        checks.that("one end by order", nest.flagged.iter().filter(ordered).copied().eq(one_end(&nest, x)));
+    }
+    nest.dependences.iter().any(|x| !relied(&nest, x, &gaps).is_empty())
 }
 
 /// On a small paper, with every set of flagged loops skipped; tells whether it has listed loops.

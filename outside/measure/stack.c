@@ -56,6 +56,8 @@ CALL(desk_textbook_, chosen = desk_textbook(desk))
 CALL(desk_candidate_slip_, answer = desk_candidate_slip(desk, key, written, out, sizeof out))
 CALL(desk_examiner_slip_, answer = desk_examiner_slip(desk, key, written, out, sizeof out))
 CALL(desk_missing_runs_, chosen = desk_missing_runs(desk))
+CALL(desk_relied_on_, chosen = desk_relied_on(desk, key, written, 0))
+CALL(desk_one_end_, chosen = desk_one_end(desk, 0))
 CALL(desk_count_calls_, calls = desk_count_calls(desk, turns, loops))
 CALL(desk_placement_calls_, calls = desk_placement_calls(desk, key, written, turns, loops))
 CALL(desk_join_, joined = desk_join(text, length, text, length, out, sizeof out))
@@ -122,6 +124,8 @@ static void *day(void *number) {
     TELL(desk_candidate_slip);
     TELL(desk_examiner_slip);
     TELL(desk_missing_runs);
+    TELL(desk_relied_on);
+    TELL(desk_one_end);
     TELL(desk_count_calls);
     TELL(desk_placement_calls);
     TELL(desk_join);

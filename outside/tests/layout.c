@@ -189,6 +189,8 @@ static void sizes(Desk desk, DeskPlain plain) {
     GIVES(OnDesk, desk_standing, sizeof(DeskStanding), room, desk);
     GIVES(OnNumber, desk_gaps, sizeof(DeskChosen), room, desk, 5);
     GIVES(OnDesk, desk_missing_runs, sizeof(DeskChosen), room, desk);
+    GIVES(OnTurns, desk_relied_on, sizeof(DeskChosen), room, desk, P, 0, 5);
+    GIVES(OnNumber, desk_one_end, sizeof(DeskChosen), room, desk, 5);
     GIVES(OnText, desk_count_calls, sizeof(DeskCalls), room, desk, P, 0);
     GIVES(OnTwo, desk_placement_calls, sizeof(DeskCalls), room, desk, P, 0, P, 0);
     GIVES(OnTwo, desk_compare, sizeof(DeskCompared), room, desk, P, 0, P, 0);
@@ -280,6 +282,11 @@ static void skipping(Desk desk) {
     desk = desk_plan(desk).desk;
     DeskChosen listed = desk_missing_runs(desk);
     that("missing runs", listed.number == 0 && listed.set.words[0] == 1u << 2 && listed.set.words[3] == 0);
+    listed = desk_relied_on(desk, (const uint8_t *)"2103\n", 5, 1);
+    that("relied on", listed.number == 0 && listed.set.words[0] == 1u << 2 && listed.set.words[3] == 0);
+    listed = desk_relied_on(desk, (const uint8_t *)"2103\n2103\n", 10, 1);
+    that("relied on refused", listed.number == 8 && listed.line == 2 && listed.set.words[0] == 0);
+    that("one end", desk_one_end(desk, 1).number == 0 && desk_one_end(desk, 2).number == 6);
     DeskPlain plain = {.loaded = true, .nest = desk.nest, .planned = true};
     desk = desk_go_over(plain);
     that("gone over with flags", desk.planned && desk.nest.flags == 1 && desk.key.words[0] == 1u << 3);

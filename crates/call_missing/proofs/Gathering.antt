@@ -1,5 +1,6 @@
 -- The dependences one after the other, from the last: the loops that each has listed are added.
--- Main statements: `Gathered`, what a turn keeps; `gather-start`, `gather-on`, `gather-done`; `are-loops`.
+-- Main statements: `are-loops`, `barriered`; `Gathered`, what a turn keeps; `gather-start`, `gather-on`, `gather-done`;
+-- `listed-alone`, of one dependence.
 use mathlib.Core.Path.{_≡_, refl, sym, ap, _∙_}
 use mathlib.Core.Bool.{Bool, true, false, _&&_}
 use mathlib.Core.List.{List, [], _∷_}
@@ -10,6 +11,7 @@ use Rattle.laws.specs.Choice.{isIn}
 use Rattle.laws.specs.Entries.{at}
 use Rattle.laws.proofs.Tests.{and-true}
 use Rattle.laws.proofs.Members.{among-drop}
+use Rattle.laws.proofs.Connectives.{or-off}
 use Rattle.laws.proofs.Ors.{or-turned}
 use Rattle.paper_nests.specs.declared.Dependence as DE
 use Rattle.paper_nests.specs.Kinds.{POINTS}
@@ -17,7 +19,7 @@ use Rattle.paper_nests.specs.Nests.{Dep}
 use Rattle.paper_nests.specs.Loops.{isDo, endOf, HasEnds, isAround}
 use Rattle.paper_nests.specs.Stored.{depIn}
 use Rattle.paper_nests.specs.Valid.{isShape, areDeps}
-use Rattle.paper_nests.proofs.Deps.{deps-fit}
+use Rattle.paper_nests.proofs.Deps.{Fits, deps-fit}
 use Rattle.paper_nests.proofs.Loops.{end-after, end-there, nested}
 use Rattle.paper_placements.specs.Words.{GAPS, holds, gapsIn}
 use Rattle.paper_placements.proofs.Words.{gapsOf-same, gapsOf-up-to}
@@ -116,3 +118,24 @@ module _ {ps : List ℕ} {ds : List Dep} {ends key ws : List ℕ} where
 
       told : i ≡ 0 → (d : ℕ) → d < GAPS → holds r d ≡ isListed ps ds fs (gapsIn key) d
       told e d l = g .so-far fs (all fs f) d l ∙ ap (λ (k : ℕ). isListed ps (drop k ds) fs (gapsIn key) d) e
+
+-- words with the loops that a dependence adds to none
+pub listed-alone
+    : {ps fs ends key ws : List ℕ} (none : List ℕ) (e : DE.Dependence) (r : List ℕ)
+    → Barriered ps fs ends key ws
+    → Fits ps (depIn e)
+    → ((d : ℕ) → holds none d ≡ false)
+    → ListedBySays ends ws key none e r
+    → gapsIn r ≡ listedOf ps (depIn e ∷ []) fs (gapsIn key)
+unfolding gapsIn listedOf isListed
+listed-alone {ps} {fs} {ends} {key} {ws} none e r b fits empty says =
+    gapsOf-same (holds r) listed GAPS 0 (λ d a l. told d (omega arith)) ∙
+    gapsOf-up-to listed (length ps) GAPS (b .few)
+    (λ d a l. listed-below ps (depIn e ∷ []) fs (gapsIn key) (b .flags) d a)
+  where
+    listed : ℕ → Bool
+    listed = isListed ps (depIn e ∷ []) fs (gapsIn key)
+
+    told : (d : ℕ) → d < GAPS → holds r d ≡ isListed ps (depIn e ∷ []) fs (gapsIn key) d
+    told d l =
+        says ps fs b fits d l ∙ rw (empty d) (sym (or-off (isListedBy ps fs (gapsIn key) (depIn e) d)))

@@ -1,5 +1,5 @@
 -- Which flagged loops need a barrier for their missing run.
--- Main definitions: `isListedBy`, `isListed`, `listedOf`; `NeedsBarrier`, the same as a statement.
+-- Main definitions: `isListedBy`, `isListed`, `listedOf`, `listedBy`; `NeedsBarrier`, the same as a statement.
 use mathlib.Core.Path.{_≡_}
 use mathlib.Core.Bool.{Bool, true, false, _&&_, _||_, not}
 use mathlib.Core.List.{List, [], _∷_}
@@ -7,7 +7,7 @@ use Prim.Native.Nat.{ℕ}
 use lib.ListN.{length}
 use Rattle.laws.specs.Choice.{isIn}
 use Rattle.laws.specs.Members.{Among}
-use Rattle.paper_nests.specs.Nests.{Dep}
+use Rattle.paper_nests.specs.Nests.{Dep, Nest}
 use Rattle.paper_nests.specs.Loops.{isAround}
 use Rattle.paper_nests.specs.Gaps.{hasGap}
 use Rattle.paper_placements.specs.Words.{gapsOf}
@@ -34,6 +34,10 @@ isListed ps (e ∷ es) fs gs d = isListedBy ps fs gs e d || isListed ps es fs gs
 -- the DOs of the listed loops, rising
 unfoldable pub listedOf : List ℕ → List Dep → List ℕ → List ℕ → List ℕ
 listedOf ps ds fs gs = gapsOf (isListed ps ds fs gs) (length ps) 0
+
+-- those that one dependence alone has listed
+abbrev pub listedBy : Nest → List ℕ → Dep → List ℕ
+listedBy n gs e = listedOf (n .points) (e ∷ []) (n .flagged) gs
 
 -- a gap outside all the loops that are foreign to the dependence
 abbrev pub Outside : List ℕ → List ℕ → Dep → ℕ → Type 0

@@ -12,10 +12,12 @@ ghost use mathlib.Core.Bool.{true};
 ghost use Prim.Native.Nat.{_+_, _≤_, _<_};
 ghost use lib.ListN.{length};
 ghost use Rattle.laws.specs.Choice.{pick, between};
+ghost use Rattle.laws.specs.Members.{Among};
 ghost use Rattle.paper_nests.specs.Valid.{isValid};
-ghost use Rattle.paper_nests.specs.Stored.{nestIn, IsCounted};
-ghost use Rattle.paper_placements.specs.Words.{GAPS};
+ghost use Rattle.paper_nests.specs.Stored.{depIn, nestIn, IsCounted};
+ghost use Rattle.paper_placements.specs.Words.{GAPS, gapsIn};
 ghost use Rattle.desk.specs.Desks.{IsMade};
+ghost use Rattle.call_missing.specs.Listed.{listedBy};
 ghost use Rattle.call_missing.specs.Says.{AreDos, ListedSays, MissingSays};
 ghost use Rattle.call_missing.specs.Covering.{isApart, AreLoops, WithBarrier, CoverSays, RangeListed, ListedBySays};
 
@@ -35,6 +37,20 @@ pub fn missing_runs(desk: Desk) -> Chosen
         line: 0,
         set: listed_loops(nest, flagged, desk.key),
     }
+}
+
+// The loops that one of the dependences has listed for a placement, by their DOs.
+pub fn listed_by(nest: Nest, p: Placement, e: Dependence) -> Placement
+    requires { ⌜ IsCounted nest ⌝ }
+    requires { ⌜ isValid (nestIn nest) ≡ true ⌝ }
+    requires { ⌜ Among (depIn e) (nestIn nest .deps) ⌝ }
+    ensures { λ r. ⌜ gapsIn (r .words) ≡ listedBy (nestIn nest) (gapsIn (p .words)) (depIn e) ⌝ }
+{
+    let count = nest.count;
+    let points = nest.points;
+    let ends = paper_nests::ends_of(&points[..count]);
+    let loops = with_barrier(&ends, set_of(&nest.flagged, nest.flags), p);
+    list_by(&ends, loops, p, Placement::empty(), e)
 }
 
 // The loops that are listed for the key; `flagged` has the loops that may not run. Of both, bit d is the loop of DO d.

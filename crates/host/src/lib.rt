@@ -11,6 +11,7 @@ ghost use Rattle.call_moves.specs.Says.{PutSays, LiftSays, BackSays, SittingSay
 ghost use Rattle.call_sheet.specs.Says.{endsOf};
 ghost use Rattle.call_sheet.specs.Sheets.{sheet};
 ghost use Rattle.call_missing.specs.Says.{MissingSays};
+ghost use Rattle.call_skipped.specs.Says.{ReliedSays, OneEndSays};
 ghost use Rattle.call_shape.specs.Says.{ShapeSays};
 ghost use Rattle.call_gaps.specs.Says.{GapsSays};
 ghost use Rattle.call_standing.specs.Says.{StandingSays};
@@ -250,6 +251,22 @@ pub extern "C" fn desk_missing_runs(desk: Desk) -> Chosen
     ensures { λ r. ⌜ MissingSays desk r ⌝ }
 {
     call_missing::missing_runs(desk)
+}
+
+#[no_mangle]
+pub extern "C" fn desk_relied_on(desk: Desk, text: &[u8], dependence: usize) -> Chosen
+    requires { ⌜ IsMade desk ⌝ }
+    ensures { λ r. ⌜ ReliedSays desk (now (text .entry)) dependence r ⌝ }
+{
+    call_skipped::relied_on(desk, text, dependence)
+}
+
+#[no_mangle]
+pub extern "C" fn desk_one_end(desk: Desk, dependence: usize) -> Chosen
+    requires { ⌜ IsMade desk ⌝ }
+    ensures { λ r. ⌜ OneEndSays desk dependence r ⌝ }
+{
+    call_skipped::one_end(desk, dependence)
 }
 
 #[no_mangle]
