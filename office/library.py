@@ -137,6 +137,16 @@ class Desk:
         """The DOs of the loops that need a barrier for their missing run."""
         return members(given(library().desk_missing_runs(self.held)).set)
 
+    def relied_on(self, text: bytes, dependence: int) -> list[int]:
+        """The DOs of the loops that may not run on which a placement text relies for a dependence: it is uncut where
+        they are skipped."""
+        return members(given(library().desk_relied_on(self.held, text, len(text), dependence)).set)
+
+    def one_end(self, dependence: int) -> list[int]:
+        """The DOs of the loops that may not run and have one end alone of a dependence that goes forward into the next
+        turn; none of any other."""
+        return members(given(library().desk_one_end(self.held, dependence)).set)
+
     def count_calls(self, turns: bytes) -> int:
         """The key's barrier calls, with a number of turns for each loop in order of its DO."""
         return int(given(library().desk_count_calls(self.held, turns, len(turns))).calls)

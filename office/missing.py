@@ -3,7 +3,7 @@ import argparse
 
 from office.asked import PAPER_HELP, planned
 from office.command import tell, write_json, write_out
-from office.paper import Dependence, Paper, paper_on
+from office.library import Desk
 
 HELP = 'lists the loops that may not run and need a barrier for their missing run'
 MORE = """A loop a line, by the point of its DO; none where no loop needs one. The list is for loops that are skipped in
@@ -11,22 +11,14 @@ every turn or in none. A dependence for which it may not be enough where a loop 
 on standard error."""
 
 
-def loops_of_one_end(paper: Paper, x: Dependence) -> list[int]:
-    """The loops that may not run and have one end alone in them, of a dependence that goes forward into the next turn:
-    in one of its two turns such a loop may be skipped while the dependence occurs."""
-    if x.d is None or x.s >= x.t:
-        return []
-    loops = [(d, paper.end[d]) for d in sorted(paper.flagged)]
-    return [d for d, e in loops if d < x.s < e and not d <= x.t <= e or d < x.t < e and not d <= x.s <= e]
-
-
-def told(paper: Paper) -> list[str]:
-    """Of which dependences the list does not speak where a loop is skipped in some turns alone, a sentence each."""
+def told(desk: Desk) -> list[str]:
+    """Of which dependences the list does not speak where a loop is skipped in some turns alone, a sentence each: in one
+    of their two turns a loop that has one of their ends may be skipped while they occur."""
     sentences = []
-    for number, x in enumerate(paper.dependences):
-        if loops := loops_of_one_end(paper, x):
+    for number, (_, d, s, t) in enumerate(desk.nest.dependences):
+        if loops := desk.one_end(number):
             inside = f'loop {loops[0]}' if len(loops) == 1 else f'each of the loops {", ".join(map(str, loops))}'
-            sentences.append(f'dependence {number} goes from {x.s} in one turn of loop {x.d} to {x.t} in the next, '
+            sentences.append(f'dependence {number} goes from {s} in one turn of loop {d} to {t} in the next, '
                              f'with one end alone in {inside}: where that is skipped in some turns and runs in others, '
                              'what is listed may not be enough')
     return sentences
@@ -44,4 +36,4 @@ def main(asked: argparse.Namespace) -> None:
         write_json({'loops': loops})
     else:
         write_out(''.join(f'loop {d}\n' for d in loops).encode())
-    tell('desk', '\n'.join(told(paper_on(desk))))
+    tell('desk', '\n'.join(told(desk)))

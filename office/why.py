@@ -51,12 +51,14 @@ UNCOUNTED = 'Calls are not counted on a paper with barred gaps or with loops tha
 @dataclass(frozen=True)
 class Side:
     """A placement in the comparison: what a sentence calls it if its gaps are many, its text, what the slip tells of
-    it, the desk's verdict where there is a key, and how many dependences it leaves uncut."""
+    it, the desk's verdict where there is a key, how many dependences it leaves uncut, and on which loops that may not
+    run it relies, by the dependences that it leaves uncut without them."""
     called: str
     text: bytes
     placed: Placed
     mark: Mark | None
     uncut: int
+    relied: dict[int, list[int]]
 
     @property
     def name(self) -> str:
@@ -84,7 +86,7 @@ def side_of(desk: Desk, called: str, text: bytes) -> Side:
         uncut = desk.put(gap)
     for gap in told.gaps:
         desk.lift(gap)
-    return Side(called, text, told, mark, uncut)
+    return Side(called, text, told, mark, uncut, relied_on(desk, text))
 
 
 def verdict(name: str, mark: Mark) -> str:
@@ -172,13 +174,12 @@ def calls_words(paper: Paper, held: Compared, turns: bytes, made: list[int], fir
     return told
 
 
-def side_told(paper: Paper, side: Side) -> dict[str, object]:
+def side_told(side: Side) -> dict[str, object]:
     """A placement for programs."""
     mark = None if side.mark is None else {**vars(side.mark), 'verdict': VERDICTS[side.mark.verdict]}
-    relied = [(number, relied_on(paper, x, side.placed.gaps)) for number, x in enumerate(paper.dependences)]
     return {'gaps': side.placed.gaps, 'counts': loops_told(side.placed.counts), 'first_uncut': side.placed.uncut,
             'uncut': side.uncut, 'mark': mark,
-            'skipped': [{'dependence': number, 'loops': loops} for number, loops in relied if loops]}
+            'skipped': [{'dependence': number, 'loops': loops} for number, loops in side.relied.items()]}
 
 
 def head_of(asked: argparse.Namespace, name: str, text: bytes) -> dict[str, str]:
@@ -269,10 +270,10 @@ def compared(asked: argparse.Namespace) -> None:
     told = [reasons(paper, held, first, second)]
     if correct:
         told.append(calls_words(paper, held, turns, made, first, second))
-        told += skipped_told(paper, first.placed, first.name) + skipped_told(paper, second.placed, second.name)
+        told += skipped_told(first.relied, first.name) + skipped_told(second.relied, second.name)
     found = argued(desk, paper, second.placed.counts) if asked.other is None else None
     if asked.json:
-        sides = [side_told(paper, side) for side in (first, second)]
+        sides = [side_told(side) for side in (first, second)]
         write_json({'first': sides[0], 'second': sides[1], 'correct': correct, 'first_as_good': held.first,
                     'second_as_good': held.second, 'deciding': held.deciding, 'turns': list(turns),
                     'calls': made or None, 'words': told, 'argument': found and found.fields()})

@@ -23,10 +23,8 @@ from office.frames import placement_text, text_of
 from office.keeping import finding_of
 from office.library import Desk
 from office.listing import spelled
-from office.paper import paper_on, placed
 from office.refusal import Refusal, answered
 from office.sittings import hash_of
-from office.skipped import relied_on
 from outside.tests.collecting import end, sit
 from outside.trying import DESK, DRAW, EXAMPLES, KEY, PROGRAM, ROOT, Seen, Tally, run
 
@@ -420,7 +418,8 @@ def as_json(tally: Tally, folder: pathlib.Path) -> None:
 
 
 def skipping(tally: Tally, folder: pathlib.Path) -> None:
-    """Loops that may not run are named; what the words say of the key is what Missing runs gives, on random papers."""
+    """Loops that may not run are named; those on which the key relies are those that Missing runs gives, on random
+    papers."""
     paper = folder / 'skipped.hex'
     paper.write_bytes(SKIPPED)
     need = 'loop 2 needs a barrier for its missing run: some dependence is cut inside alone'
@@ -446,8 +445,7 @@ def skipping(tally: Tally, folder: pathlib.Path) -> None:
         desk = Desk()
         desk.load(start + text_of(lines))
         desk.plan()
-        nest, key = paper_on(desk), placed(desk, desk.key())
-        relied = {d for x in nest.dependences for d in relied_on(nest, x, key.gaps)}
+        relied = {d for number in range(len(lines)) for d in desk.relied_on(desk.key(), number)}
         tally.check(f'missing runs, turn {turn}', sorted(relied) == desk.missing_runs(), (points, lines))
 
 

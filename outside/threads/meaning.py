@@ -20,8 +20,6 @@ from collections.abc import Iterator
 
 from office.frames import CARRIED, INDEPENDENT, frames_of, placement_text
 from office.library import Desk
-from office.missing import loops_of_one_end
-from office.paper import paper_on
 from office.refusal import Refused
 from outside.threads import rules
 from outside.threads.building import SANITIZED, compiled, sanitizer
@@ -221,8 +219,7 @@ def in_some_turns(tally: Tally, two: Interpreter, nests: list[Nest]) -> None:
         key, listed = planned(nest)
         desk = Desk()
         desk.load(nest.text)
-        paper = paper_on(desk)
-        told = [number for number, x in enumerate(paper.dependences) if loops_of_one_end(paper, x)]
+        told = [number for number in range(len(nest.dependences)) if desk.one_end(number)]
         wanted = [number for number, x in enumerate(nest.dependences) if one_end_in(nest, x)]
         tally.check('what ./desk missing tells', told == wanted, (nest.text, told, wanted))
         for _ in range(PARTLY):
