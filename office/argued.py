@@ -2,6 +2,7 @@
 programs; by its hash."""
 import hashlib
 import textwrap
+from collections.abc import Callable
 from dataclasses import dataclass
 
 from office.claim_words import ABOUT, NONE_FOUND, NOTHING, Told, claims_told, closing, long
@@ -39,20 +40,20 @@ class Argued:
         return {'text': self.text.decode(), 'sha256': self.sha256, 'claims': claims, 'words': words}
 
 
-def argument_of(desk: Desk, paper: Paper, counts: dict[int, int]) -> bytes | None:
-    """The text of an argument that the desk weighs and finds to hold of its key, which has these counts: one that was
+def argument_of(paper: Paper, counts: dict[int, int], weigh: Callable[[bytes], object]) -> bytes | None:
+    """The text of an argument that a call finds to hold of a key, or of a placement with the key's counts: one that was
     made shorter, or in its stead the one that was found; None if neither holds."""
     found = Laps(paper, counts).claims
     for claims in (shortened(Ground(paper, counts), found), found):
         text = argument_text(claims)
-        if refusal_of(desk.weigh, text) is None:
+        if refusal_of(weigh, text) is None:
             return text
     return None
 
 
 def argued(desk: Desk, paper: Paper, counts: dict[int, int]) -> Argued | None:
     """The argument of the key on a desk, whose counts are given; None if none is found."""
-    text = argument_of(desk, paper, counts)
+    text = argument_of(paper, counts, desk.weigh)
     if text is None:
         return None
     known = Ground(paper, counts).follow(claims_in(text))

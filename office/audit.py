@@ -1,5 +1,6 @@
 """./desk audit: whether a register is as it was made. Its file, its rules, its chain and every hash are looked at, and
-every mark is made again by the proved calls from the bytes that it has."""
+every mark is made again by the proved calls from the bytes that it has; of every paper an argument for its key is
+weighed."""
 import argparse
 import contextlib
 import io
@@ -9,11 +10,14 @@ from collections import Counter
 from collections.abc import Callable, Iterable
 from dataclasses import dataclass, field
 
+from office.argued import argument_of
+from office.claims import claims_in
 from office.command import REFUSED, Fault, write_json, write_out
 from office.keeping import finding_of
 from office.library import Desk
 from office.marks import HEAD, NO_MARK, Finding, Mark, sha256_of
 from office.names import names_bound
+from office.paper import paper_on, placed
 from office.played import Played
 from office.progress import Progress
 from office.refusal import Refused
@@ -24,7 +28,8 @@ from office.words import ABSENT, UNREAD, counted
 
 HELP = 'looks at a register whether all is as it was made, and makes every mark again'
 MORE = """Each fault is told at its row, and the status is then 1. The chain of hashes shows an edit; that the end was
-cut off, or all written anew, only a head can show that was noted elsewhere. Every ./desk mark tells it.
+cut off, or all written anew, only a head can show that was noted elsewhere. Every ./desk mark tells it. Of each paper
+it is told that an argument holds by which no placement is better than its key; ./desk why prints it.
 
   ./desk audit register.db
   ./desk audit register.db --head 7634cff2bb080a8f
@@ -40,6 +45,8 @@ class Audit:
     end: tuple[int, str]
     faults: list[str] = field(default_factory=list)
     papers: dict[str, tuple[str, Desk | None]] = field(default_factory=dict)
+    # The argument for the key of each paper that has one, by the paper's hash.
+    arguments: dict[str, bytes] = field(default_factory=dict)
     answers: dict[str, bytes] = field(default_factory=dict)
     made_by: Counter[tuple[str, str]] = field(default_factory=Counter)
     # The mark that holds for each candidate and paper, and which mark took the place of which.
@@ -83,11 +90,12 @@ class Audit:
                 if wanted.get(name) != there.get(name)]
 
     def texts(self) -> list[str]:
-        """Papers and answers by their hashes; papers get their key."""
+        """Papers and answers by their hashes; papers get their key, and an argument for it is weighed."""
         for sha256, name, text in self.register.asked('SELECT sha256, name, text FROM paper'):
             self.note(f'paper {name}', lambda: hashed_otherwise(sha256, text))
-            self.papers[sha256] = name, planned(text) if isinstance(text, bytes) else None
-            self.note(f'paper {name}', lambda: self.names(sha256))
+            desk = planned(text) if isinstance(text, bytes) else None
+            self.papers[sha256] = name, desk
+            self.note(f'paper {name}', lambda: [*self.names(sha256), *self.argument(sha256, desk)])
         for sha256, text in self.register.asked('SELECT sha256, text FROM answer'):
             self.note(f'answer {sha256}', lambda: hashed_otherwise(sha256, text))
             self.answers[sha256] = text
@@ -101,6 +109,16 @@ class Audit:
                 names_bound(names, sha256, desk.nest.points)
         except ValueError as fault:
             return [f'its names are not as they were taken in: {fault}']
+        return []
+
+    def argument(self, sha256: str, desk: Desk | None) -> list[str]:
+        """The argument for the key of a paper, weighed."""
+        if desk is None:
+            return []
+        text = argument_of(paper_on(desk), placed(desk, desk.key()).counts, desk.weigh)
+        if text is None:
+            return ['no argument for its key was found that holds']
+        self.arguments[sha256] = text
         return []
 
     def marks(self) -> list[str]:
@@ -194,9 +212,11 @@ class Audit:
         many = [counted(end, 'mark'), counted(len(self.papers), 'paper'), counted(len(self.answers), 'answer')]
         by = [f'{counted(some, "mark")} by desk {desk}, library {str(library)[:HEAD]}'
               for (desk, library), some in self.made_by.items()]
+        held = [f'paper {self.papers[sha256][0]}: its argument holds, {counted(len(claims_in(text)), "claim")}, '
+                f'SHA-256 {sha256_of(text)}' for sha256, text in self.arguments.items()]
         well = counted(len(self.faults), 'fault') if self.faults else 'all as it was made'
         known = f'; the head {head} is among them' if head is not None and not self.faults else ''
-        return [*self.faults, *by, f'{", ".join(many)}: {well}{known}; head {own[:HEAD]}']
+        return [*self.faults, *by, *held, f'{", ".join(many)}: {well}{known}; head {own[:HEAD]}']
 
 
 def hashed_otherwise(sha256: str, text: bytes) -> list[str]:
@@ -229,7 +249,9 @@ def main(asked: argparse.Namespace) -> None:
         audit.look(head)
         if asked.json:
             write_json({'marks': audit.end[0], 'papers': len(audit.papers), 'answers': len(audit.answers),
-                        'faults': audit.faults, 'head': audit.end[1]})
+                        'faults': audit.faults, 'head': audit.end[1],
+                        'arguments': [{'paper_sha256': paper, 'argument_sha256': sha256_of(text)}
+                                      for paper, text in audit.arguments.items()]})
         else:
             write_out('\n'.join([*audit.report(head), '']).encode())
     if audit.faults:

@@ -2,10 +2,12 @@
 import argparse
 import unicodedata
 
+from office.argued import argument_of
 from office.certificate_page import BEGINS, Office, certificate_page
 from office.chain import now
 from office.command import REFUSED, Fault, printable, read_plain, write_json, write_out, write_over
-from office.marks import Mark
+from office.marks import Mark, sha256_of
+from office.paper import placed
 from office.register import Register, opened, readable
 from office.stored import Stored
 from office.view import verdict
@@ -75,18 +77,21 @@ def main(asked: argparse.Namespace) -> None:
         stored = Stored(register)
         with register.adding():
             mark = best_of(register, asked.candidate, asked.paper)
-            stored.answer(mark)
+            answer, on = stored.answer(mark), stored.paper(mark)
             register.add_certificate(mark, now())
         given = register.certificate(mark.certificate())
         if given is None:
             raise Fault(f'the certificate {mark.certificate()} is not in the register')
-        page = certificate_page(office, stored.called(mark), stored.paper(mark), mark, given[1])
+        argument = argument_of(on.paper, placed(on.desk, answer).counts,
+                               lambda text: on.desk.weigh_placement(answer, text))
+        page = certificate_page(office, stored.called(mark), on, mark, given[1], argument)
     if asked.html is None:
         write_out(page)
     else:
         write_over(asked.html, page, begins=BEGINS)
         if asked.json:
             write_json({'number': mark.certificate(), 'at': given[1], 'mark': mark.seq, 'candidate': mark.candidate,
-                        'paper_sha256': mark.paper, 'answer_sha256': mark.answer})
+                        'paper_sha256': mark.paper, 'answer_sha256': mark.answer,
+                        'argument_sha256': argument and sha256_of(argument)})
         else:
             write_out(f'{printable(asked.html)}: certificate {mark.certificate()}\n'.encode())

@@ -4,7 +4,7 @@
     lib              the library, shared and as an archive; pkgconfig; the unit of a hall for systemd
     lib/marking-desk the office in Python, the proved program, and which release this is
     include          desk.h
-    share            manual pages, words to complete, README, docs and examples
+    share            manual pages, words to complete, README, docs, examples and the checker of arguments
 """
 import pathlib
 import string
@@ -54,7 +54,7 @@ def tree_of(release: Release) -> Tree:
     }
     for path in tracked('office'):
         tree[f'{HOME}/{path}'] = File((ROOT / path).read_bytes())
-    for path in tracked('README.md', 'CHANGELOG.md', 'docs', 'examples'):
+    for path in tracked('README.md', 'CHANGELOG.md', 'docs', 'examples', 'outside/argument.py'):
         tree[f'{DOC}/{path}'] = File((ROOT / path).read_bytes())
     asked = subprocess.run([str(ROOT / 'key'), '--help'], capture_output=True, text=True, check=True)
     return tree | manuals.manuals(asked.stdout) | manuals.completion()

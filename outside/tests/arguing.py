@@ -332,11 +332,11 @@ def not_found(tally: Tally) -> None:
     desk.load(EXAMPLES['q'])
     desk.plan()
     paper, counts, found = paper_on(desk), placed(desk, desk.key()).counts, Found(EXAMPLES['q'])
-    tally.check('nothing holds', argued.argument_of(desk, paper, counts) is None)
+    tally.check('nothing holds', argued.argument_of(paper, counts, desk.weigh) is None)
     tally.check('that is said', argued.argument_lines(None, True)[0].split() == NONE_FOUND.split())
     for calls, claims in ((1, found.short), (2, found.plain)):
         desk.calls = calls
-        tally.check(f'at call {calls}', argued.argument_of(desk, paper, counts) == argument_text(claims))
+        tally.check(f'at call {calls}', argued.argument_of(paper, counts, desk.weigh) == argument_text(claims))
 
 
 def main() -> None:

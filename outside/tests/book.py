@@ -17,13 +17,18 @@ import subprocess
 import sys
 import tempfile
 import time
+from unittest import mock
 
 from office import register as registers
 from office.audit import Audit
 from office.chain import now
 from office.command import Fault
-from office.marks import Mark, certificate_in
+from office.library import Desk
+from office.marks import Mark, certificate_in, sha256_of
+from office.refusal import Refusal, Refused
 from office.schema import APPLICATION, SCHEMAS
+from office.words import counted
+from outside.measure import papers
 from outside.measure.whole_day import day, marks_in
 from outside.tests.workday import rows_of, text_of
 from outside.trying import DESK, EXAMPLES, ROOT, Seen, Tally, run
@@ -375,6 +380,27 @@ def changed(tally: Tally, folder: pathlib.Path) -> None:
             except sqlite3.IntegrityError:
                 tally.check(f'refused: {script}', True)
     flipped(tally, whole, register)
+    argued(tally, folder)
+
+
+def argued(tally: Tally, folder: pathlib.Path) -> None:
+    """An audit weighs an argument for each paper, and names the paper whose does not hold."""
+    register, large = folder / 'argued.db', folder / 'large.hex'
+    large.write_bytes(papers.text('mixed'))
+    for number, paper in enumerate([P, Q, large]):
+        run(DESK, 'mark', paper, ANSWERS[0], '--register', register, *['--new'] * (number == 0))
+    seen = run(DESK, 'audit', register)
+    for name, paper in {'p': P, 'q': Q, 'large': large}.items():
+        text = run(DESK, 'why', paper, '--text').out
+        claims = sum(line.startswith(b'31') for line in text.splitlines())
+        told = f'paper {name}: its argument holds, {counted(claims, "claim")}, SHA-256 {sha256_of(text)}'
+        tally.check(f'the argument of {name}', told in seen.out.decode().splitlines() and seen.status == 0, seen)
+    with registers.opened(str(register)) as opened:
+        audit = Audit(opened, opened.end())
+        with mock.patch.object(Desk, 'weigh', side_effect=Refused(Refusal(21, 1))):
+            audit.look(None)
+        wanted = {f'paper {name}: no argument for its key was found that holds' for name in ('p', 'q', 'large')}
+        tally.check('none that holds', {*audit.faults} == wanted and not audit.arguments, audit.faults)
 
 
 def flipped(tally: Tally, whole: pathlib.Path, register: pathlib.Path) -> None:

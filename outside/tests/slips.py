@@ -8,6 +8,7 @@ import json
 import pathlib
 import re
 import shutil
+import sys
 import tempfile
 from collections.abc import Callable
 from unittest import mock
@@ -18,8 +19,9 @@ from office.slip_files import Made, Slips, slips_of
 from office.slip_words import slip_in
 from outside.tests.book import ANSWERS, P, Q, change
 from outside.tests.workday import KEYS, slip_of, text_of, verdict
-from outside.trying import DESK, EXAMPLES, Seen, Tally, run
+from outside.trying import DESK, EXAMPLES, ROOT, Seen, Tally, run
 
+ARGUMENTS = ROOT / 'examples' / 'arguments'
 NAMES = 'id,name\nanna,"Ávila, Anna"\nbert,Bert\ncarl,Carl\ndora,Dora\neva,Eva\n'
 OFFICE = ['--office', 'Office & Sons', '--place', 'Berne']
 NUMBER = re.compile('[a-z2-9]{4}(?:-[a-z2-9]{4}){3}')
@@ -260,12 +262,15 @@ def certified(tally: Tally, folder: pathlib.Path) -> None:
     paper, answer = (hashlib.sha256(file.read_bytes()).hexdigest() for file in (P, ANSWERS[0]))
     told = json.loads(run(*ask, '--html', page, '--json').out)
     at = told.pop('at')
+    argument = hashlib.sha256((ARGUMENTS / 'p.hex').read_bytes()).hexdigest()
     tally.check('for programs', told == {'number': number, 'mark': 1, 'candidate': 'anna', 'paper_sha256': paper,
-                                         'answer_sha256': answer} and f'Berne, {at[:10]}' in words, told)
+                                         'answer_sha256': answer, 'argument_sha256': argument}
+                and f'Berne, {at[:10]}' in words, told)
     tally.check('the page is the same', page.read_text() == markup)
     tally.check('the page or JSON', run(*ask, '--json').failed('--html FILE writes the page to a file'))
     for word in ['Office & Sons Berne', 'Ávila, Anna', 'paper p with the mark Best', paper, answer, 'is a theorem',
-                 f'./desk verify REGISTER {number}', 'Berne, 20']:
+                 f'./desk verify REGISTER {number}', 'Berne, 20', argument, 'outside/argument.py',
+                 './desk why PAPER --text']:
         tally.check(f'the page has {word}', word in words, words)
     tally.check('to print', 'size: A4' in markup and not re.search(r'https?:|<script|<link|@import|src=', markup))
     tally.check('the same again', run(*ask).out == page.read_bytes() and run(*ask, '--html', page).status == 0)
@@ -290,6 +295,14 @@ def certified(tally: Tally, folder: pathlib.Path) -> None:
         seen = run(DESK, 'verify', changed, 'aaaa-aaaa-aaaa-aaaa' if name == 'the certificate' else number)
         word = 'is damaged: ./desk audit' if name == 'its hash' else 'not as it was made'
         tally.check(f'{name} was changed', seen.failed(word), seen)
+    other, best = ROOT / 'examples' / 'r.hex', folder / 'anna.hex'
+    best.write_bytes(text_of([3, 6]))
+    run(DESK, 'mark', other, best, '--register', register)
+    told = json.loads(run(*ask, '--paper', 'r', '--html', folder / 'r.html', '--json').out)
+    kept = hashlib.sha256((ARGUMENTS / 'r.hex').read_bytes()).hexdigest()
+    tally.check('of a placement that is not the printed key', told['argument_sha256'] == kept, told)
+    seen = run(sys.executable, ROOT / 'outside' / 'argument.py', other, best, ARGUMENTS / 'r.hex')
+    tally.check('and the checker takes it', seen == Seen(b'holds\n', '', 0), seen)
 
 
 def no_certificate(tally: Tally, folder: pathlib.Path) -> None:
