@@ -110,6 +110,27 @@ pub end-past : (s : List ℕ) (i : ℕ) → length s ≤ i → length (takeDigit
 unfolding takeDigits
 end-past s i h = rw (drop-of-length-le s h)
 
+-- the digits are those before i and those from i on
+abbrev pub Digits-to : List ℕ → ℕ → Type 0
+Digits-to s i = i + length (takeDigits (drop i s)) ≡ length (takeDigits s)
+
+pub to-next
+    : (s : List ℕ) (i j : ℕ)
+    → j ≡ i + 1
+    → i < length s
+    → isHex (getD s i 0) ≡ true
+    → Digits-to s i
+    → Digits-to s j
+to-next s i j n h e p = rw n (end-on s i h e ∙ p)
+
+pub to-end
+    : (s : List ℕ) (i : ℕ)
+    → i < length s
+    → isHex (getD s i 0) ≡ false
+    → Digits-to s i
+    → i ≡ length (takeDigits s)
+to-end s i h e p = omega (arith, end-here s i h e)
+
 -- an 0a is no digit
 digit-on : (b : ℕ) → isHex b ≡ true → b ≡ FEED → ⊥
 digit-on b h e = let z : _≡_ {A = ℕ} 0 1 = cc (ap isHex e, h) in absurd (omega arith)

@@ -1,8 +1,8 @@
 // Lines of digits: a reader that answers one line at a time, and the writer of one frame.
 ghost use mathlib.Core.Path.{_≡_};
 ghost use mathlib.Core.Bool.{true};
-ghost use Prim.Native.Nat.{_≤_, _<_};
-ghost use lib.ListN.{length, getD};
+ghost use Prim.Native.Nat.{_+_, _≤_, _<_};
+ghost use lib.ListN.{length, getD, drop};
 ghost use Rattle.paper_lines.specs.Lines.{isHex, valueOf, allHex, isDigits, frameOf, digitOf, lineText};
 ghost use Rattle.paper_lines.specs.Reading.{takeDigits, lineAt, AreValues};
 ghost use Rattle.paper_lines.specs.Writing.{over};
@@ -99,12 +99,41 @@ pub fn put_frame(out: &mut [u8], frame: &[u8]) -> usize
     2 * i + 1
 }
 
-// How many digits a text starts with.
+// How many digits a text starts with; four are looked at in a turn.
 fn digits_in(text: &[u8], values: &[u8; BYTES]) -> usize
     requires { ⌜ AreValues (now values) ⌝ }
     ensures { λ r. ⌜ r ≡ length (takeDigits (now (text .entry))) ⌝ }
 {
     let mut i = 0;
+    while i + 3 < text.len() {
+        if is_hex(text[i], values) {
+            if is_hex(text[i + 1], values) {
+                if is_hex(text[i + 2], values) {
+                    if is_hex(text[i + 3], values) {
+                        i += 4;
+                    } else {
+                        return i + 3;
+                    }
+                } else {
+                    return i + 2;
+                }
+            } else {
+                return i + 1;
+            }
+        } else {
+            return i;
+        }
+    }
+    digits_from(text, i, values)
+}
+
+// The same, where the first ones are known to be digits.
+fn digits_from(text: &[u8], known: usize, values: &[u8; BYTES]) -> usize
+    requires { ⌜ AreValues (now values) ⌝ }
+    requires { ⌜ known ≤ length (now text) ⌝ }
+    ensures { λ r. ⌜ r ≡ known + length (takeDigits (drop known (now (text .entry)))) ⌝ }
+{
+    let mut i = known;
     while i < text.len() {
         if is_hex(text[i], values) {
             i += 1;
