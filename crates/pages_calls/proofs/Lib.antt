@@ -3,6 +3,8 @@ pub mod Flags
 pub mod MissingKept
 pub mod MissingCases
 pub mod Reading
+pub mod SkippedKept
+pub mod SkippedCases
 pub mod CompareKept
 pub mod CompareCases
 pub mod SlipFrames

@@ -15,22 +15,22 @@ use Rattle.pages.specs.Demands.{In, Body, Loop, GapOf, Paper}
 use Rattle.pages.proofs.Bodies.{loop-end}
 use Rattle.pages_calls.specs.MissingRuns.{Inside, Foreign, Cuts, Needs}
 
-abbrev points : List ℕ
+abbrev pub points : List ℕ
 points = 1 ∷ 3 ∷ 1 ∷ 3 ∷ 3 ∷ 2 ∷ 3 ∷ 2 ∷ []
 
 abbrev carried : Dependence
 carried = record { kind = 18; d = 2; s = 4; t = 3 }
 
-abbrev over : Dependence
+abbrev pub over : Dependence
 over = record { kind = 17; d = 0; s = 1; t = 6 }
 
-abbrev paper : Paper
+abbrev pub paper : Paper
 paper = record { points = points; deps = carried ∷ over ∷ []; barred = [] }
 
-loop-2 : Loop points 2 5
+pub loop-2 : Loop points 2 5
 loop-2 = record { begins = refl; body = Body.statement refl (Body.statement refl (Body.done refl)); ends = refl }
 
-foreign-2 : Foreign points (2 ∷ []) over 2
+pub foreign-2 : Foreign points (2 ∷ []) over 2
 foreign-2 =
     record {
       flagged = (0, refl);

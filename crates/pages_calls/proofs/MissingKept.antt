@@ -1,5 +1,5 @@
 -- The call on loops that may not run keeps its page.
--- Main statements: `foreign-is`, `is-foreign`, `needs`, `is-needed`, `missing-kept`.
+-- Main statements: `inside-is`, `belongs-is`, `foreign-is`, `is-foreign`, `needed`, `is-needed`, `missing-kept`.
 use mathlib.Core.Path.{_≡_, sym, _∙_, ap, subst}
 use mathlib.Core.Bool.{true, _&&_, _||_, not}
 use mathlib.Core.List.{List}
@@ -53,16 +53,16 @@ module _ (p : Paper) (fl : List ℕ) (valid : isValid (nestOf p fl) ≡ true) wh
   shape : isShape ps ≡ true
   shape = shaped p fl valid
 
-  flag-do : (l : ℕ) → isIn l fl ≡ true → isDo ps l ≡ true
+  pub flag-do : (l : ℕ) → isIn l fl ≡ true → isDo ps l ≡ true
   flag-do l h = flag-is-do ps fl (valid-is (nestOf p fl) valid .all-flags) l h
 
   -- inside a loop
-  inside-is : (l g : ℕ) → Inside ps l g → isAround ps g l ≡ true
+  pub inside-is : (l g : ℕ) → Inside ps l g → isAround ps g l ≡ true
   inside-is l g i =
       and-intro (lt-ltb l g (i .within .0)) (le-leb g (endOf ps l)
       (omega (arith, i .within .1, loop-end ps l (i .end) (i .loop))))
 
-  is-inside : (l g : ℕ) → isDo ps l ≡ true → isAround ps g l ≡ true → Inside ps l g
+  pub is-inside : (l g : ℕ) → isDo ps l ≡ true → isAround ps g l ≡ true → Inside ps l g
   is-inside l g d h =
       let z = and-true (ltb l g) (leb g (endOf ps l)) h in
       record {
@@ -72,7 +72,7 @@ module _ (p : Paper) (fl : List ℕ) (valid : isValid (nestOf p fl) ≡ true) wh
       }
 
   -- from its DO to its ENDDO
-  belongs-is : (l q : ℕ) → isDo ps l ≡ true → belongs ps l q ≡ true → (l ≤ q) × (q ≤ endOf ps l)
+  pub belongs-is : (l q : ℕ) → isDo ps l ≡ true → belongs ps l q ≡ true → (l ≤ q) × (q ≤ endOf ps l)
   belongs-is l q d h =
       let e = end-after ps shape l d in
       ⊎-elim
@@ -84,7 +84,7 @@ module _ (p : Paper) (fl : List ℕ) (valid : isValid (nestOf p fl) ≡ true) wh
       (or-true (eqb q l) (eqb q (endOf ps l)) z))
       (or-true (inLoop ps l q) (eqb q l || eqb q (endOf ps l)) h)
 
-  is-belonging : (l q : ℕ) → l ≤ q → q ≤ endOf ps l → belongs ps l q ≡ true
+  pub is-belonging : (l q : ℕ) → l ≤ q → q ≤ endOf ps l → belongs ps l q ≡ true
   is-belonging l q a b =
       ⊎-elim
       (λ (z : q ≡ l). or-right (inLoop ps l q) (or-left (eqb q (endOf ps l)) (eq-eqb q l z)))
@@ -97,7 +97,7 @@ module _ (p : Paper) (fl : List ℕ) (valid : isValid (nestOf p fl) ≡ true) wh
       (eq-or q l)
 
   -- foreign
-  foreign-is : (x : DE.Dependence) (l : ℕ) → Foreign ps fl x l → isForeign ps fl (depIn x) l ≡ true
+  pub foreign-is : (x : DE.Dependence) (l : ℕ) → Foreign ps fl x l → isForeign ps fl (depIn x) l ≡ true
   unfolding isForeign
   foreign-is x l f =
       let e = loop-end ps l (f .end) (f .loop) in
@@ -107,7 +107,7 @@ module _ (p : Paper) (fl : List ℕ) (valid : isValid (nestOf p fl) ≡ true) wh
       (ap not (false-by (λ z. let b = belongs-is l (x .s) d z in f .source (b .0, omega (arith, b .1, e)))))
       (ap not (false-by (λ z. let b = belongs-is l (x .t) d z in f .target (b .0, omega (arith, b .1, e))))))
 
-  is-foreign : (x : DE.Dependence) (l : ℕ) → isForeign ps fl (depIn x) l ≡ true → Foreign ps fl x l
+  pub is-foreign : (x : DE.Dependence) (l : ℕ) → isForeign ps fl (depIn x) l ≡ true → Foreign ps fl x l
   unfolding isForeign
   is-foreign x l h =
       let a = and-true (isIn l fl) (not (belongs ps l (x .s)) && not (belongs ps l (x .t))) h in
