@@ -150,7 +150,8 @@ class Board(Picture):
     def loops_told(self) -> str:
         """The loops, each a link in the list of the one around it, with its barriers and the dependences at home in
         it."""
-        items, deep = [], 0
+        items: list[str] = []
+        deep = 0
         for d in sorted(self.paper.end):
             current = ' aria-current="page"' if d == self.view.loop else ''
             lists = '<ul>' if self.paper.depth[d] > deep else '</li></ul>' * (deep - self.paper.depth[d]) + '</li>'

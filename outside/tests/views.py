@@ -116,7 +116,9 @@ def sizes(tally: Tally, name: str, paper: Paper) -> None:
     pages = OfPaper(paper, 'paper', True)
     small = []
     for view in [WHOLE, *(View(d) for d in paper.end)]:
-        body, elements = pages.page(view).substitute(candidate='anna', token='0' * 16).encode(), Elements()
+        told = dict.fromkeys(('said', 'refused', 'message', 'left'), '')
+        body = pages.page(view).substitute(candidate='anna', token='0' * 16, **told).encode()
+        elements = Elements()
         elements.feed(body.decode())
         size = len(body), len(gzip.compress(body)), elements.many
         most = SMALL_PAGE if name == 'p' else WHOLE_PAGE if view == WHOLE else LOOP_PAGE
