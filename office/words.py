@@ -8,8 +8,10 @@ RULES = {
     2: 'the kind is none of this text, or the line has the wrong length for its kind',
     3: 'a point stands after a dependence or a barred gap',
     4: 'an ENDDO or a statement stands before any DO, or a point after the outermost loop was closed, or a dependence, '
-       'a barred gap or the end comes while points are missing or a loop is open',
-    5: 'a 257th point, a loop 9 deep, a 513th dependence or a 256th barred gap; or the text has more than 8,192 bytes',
+       'a barred gap or the end comes while points are missing or a loop is open; in an argument a step stands before '
+       'any claim, or a claim leads no step',
+    5: 'a 257th point, a loop 9 deep, a 513th dependence, a 256th barred gap, a 4,097th claim or a 1,025th step of a '
+       'claim; or the text has more than 8,192 bytes',
     6: 's, t or d names no point, or a point of the wrong sort',
     7: 'an independent dependence has its s at or after its t, or a carried one has a point outside its loop',
     8: 'a gap is 0 or not below the number of points, or not above the gap before it',
@@ -29,6 +31,7 @@ RULES = {
     19: 'a sheet has 1 to 16 processors and 1 to 64 phases, a duration for each processor in each phase, and a set of '
         'waits for each after the first phase',
     20: 'a set of waits lacks its own processor, or names one that does not exist',
+    21: 'a line of the argument does not hold, or the placement is not correct',
 }
 
 UNCUT, DEARER, BEST = 'Uncut', 'Dearer', 'Best'

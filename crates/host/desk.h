@@ -11,8 +11,9 @@
      1   a line that is not an even, nonzero number of digits 0-9 a-f, then 0a
      2   a kind that is not of this text, or the wrong length for it
      3   a point after a dependence or a barred gap
-     4   a point before any DO or after the outermost loop; a dependence, a barred gap, or the end, while a loop is open
-     5   a 257th point, a loop 9 deep, a 513th dependence, a 256th barred gap
+     4   a point before any DO or after the outermost loop; a dependence, a barred gap, or the end, while a loop is open;
+         in an argument a step before any claim, or a claim that leads no step
+     5   a 257th point, a loop 9 deep, a 513th dependence, a 256th barred gap; a 4,097th claim, a 1,025th step of one
      6   s, t or d names no point, or one of the wrong sort; Count of a point that is no DO; the number of a dependence
          that is none
      7   an independent dependence with s at or after t; a carried one with a point not inside its loop
@@ -30,6 +31,7 @@
     18   the joint nest would have more than 256 points, more than 512 dependences, or a loop 9 deep
     19   a number of processors or phases out of range, or a slice that is not as long as they say
     20   a set of waits without its own processor, or with one that the sheet does not have
+    21   a line of an argument that does not hold, or a placement that is not correct
 
    A text or a buffer is lent as a pointer and a length in bytes; what a timing sheet lends has its length in numbers.
    Where the length is 0 the pointer is not read, and may be NULL. A buffer does not overlap a text that it is written
@@ -235,6 +237,13 @@ typedef struct DeskCompared {
     DeskPlacement deciding;
 } DeskCompared;
 
+/* `text` is the text at fault, 1 the placement or 2 the argument, or 0 for neither. Number 0: the argument holds. */
+typedef struct DeskWeighed {
+    uint8_t number;
+    uint8_t text;
+    size_t line;
+} DeskWeighed;
+
 /* DESK_UNCUT: dependence a, from 0, is the first that is uncut. DESK_DEARER: loop a has b barriers, and c in the key.
    All that is not named is 0. */
 typedef struct DeskMark {
@@ -347,6 +356,14 @@ DeskRunEnds desk_sheet(size_t processors, size_t phases, const uint16_t *duratio
 /* Holds two placement texts beside each other, on any nest, with a key or without. Numbers 10, then 1, 2, 8, 16 of the
    first text with their line, then those of the second. */
 DeskCompared desk_compare(Desk desk, const uint8_t *a, size_t first, const uint8_t *b, size_t second);
+
+/* Weighs an argument text, which tells why no correct placement is better: against the key, or against a placement text,
+   on any nest, with a key or without. Where it holds, the placement is a key. Numbers 10 and 11, of a placement 10 and
+   then 1, 2, 8, 16 of its text with their line; then 1, 2, 4, 5 of the argument with their line; then 21, with text 1
+   and line 0 where the placement is not correct, else with the first line that does not hold, or the line after the last
+   where a claim is missing. */
+DeskWeighed desk_weigh(Desk desk, const uint8_t *text, size_t length);
+DeskWeighed desk_weigh_placement(Desk desk, const uint8_t *placement, size_t gaps, const uint8_t *text, size_t length);
 
 /* A desk in use goes over from the kind before sittings: the nest is kept, the sitting is empty, and where there was a
    key it is worked out anew, unless Plan would refuse. `old` has a nest that desk_load accepted, or none (count, many,

@@ -1,5 +1,6 @@
 //! The calls of the library: what each is given, and what the library does with it.
 
+use crate::arguing;
 use crate::comparing;
 use crate::host::{self, Desk, Placement, PlainDesk, WORDS};
 use crate::improving;
@@ -38,6 +39,10 @@ pub enum Call {
     Slip(bool, Vec<u8>, Vec<u8>),
     /// Of two placement texts.
     Compare(Vec<u8>, Vec<u8>),
+    /// Of an argument text, against the key.
+    Weigh(Vec<u8>),
+    /// Of an argument text, the second, against a placement text.
+    WeighPlacement(Vec<u8>, Vec<u8>),
     MissingRuns,
     /// Of a placement text, for the dependence of a number.
     ReliedOn(Vec<u8>, usize),
@@ -78,6 +83,8 @@ impl Call {
             Call::Slip(false, ..) => "candidate's slip",
             Call::Slip(true, ..) => "examiner's slip",
             Call::Compare(..) => "compare",
+            Call::Weigh(_) => "weigh",
+            Call::WeighPlacement(..) => "weigh placement",
             Call::MissingRuns => "missing runs",
             Call::ReliedOn(..) => "relied on",
             Call::OneEnd(_) => "one end",
@@ -91,13 +98,13 @@ impl Call {
 
     pub fn shown(&self) -> String {
         let given = match self {
-            Call::Load(text) | Call::Mark(text) => shown(text),
+            Call::Load(text) | Call::Mark(text) | Call::Weigh(text) => shown(text),
             Call::List(list) | Call::CountCalls(list) => format!("{list:?}"),
             Call::Write(out) | Call::Sitting(out) => format!("a buffer of {} bytes", out.len()),
             Call::Count(n) | Call::Put(n) | Call::Lift(n) | Call::Gaps(n) | Call::OneEnd(n) => n.to_string(),
             Call::Over(planned, key) => format!("with a key: {planned}, words {key:?}"),
             Call::Slip(_, text, out) => format!("{}, a buffer of {} bytes", shown(text), out.len()),
-            Call::Compare(a, b) => format!("{}, {}", shown(a), shown(b)),
+            Call::Compare(a, b) | Call::WeighPlacement(a, b) => format!("{}, {}", shown(a), shown(b)),
             Call::ReliedOn(text, n) => format!("{}, {n}", shown(text)),
             Call::PlacementCalls(text, turns) => format!("{}, {turns:?}", shown(text)),
             Call::Improve(turns, budget) => format!("{turns:?}, {budget} tries"),
@@ -182,6 +189,8 @@ pub fn play(desk: &mut Desk, call: &Call) -> Reply {
             Call::Textbook => textbook_rule::play(*desk),
             Call::Slip(examiner, text, out) => slips::play(*desk, *examiner, text, out),
             Call::Compare(a, b) => comparing::play(*desk, a, b),
+            Call::Weigh(text) => arguing::play(*desk, text),
+            Call::WeighPlacement(placement, text) => arguing::play_placement(*desk, placement, text),
             Call::MissingRuns => skipping::play(*desk),
             Call::ReliedOn(text, dependence) => skipping::play_relied(*desk, text, *dependence),
             Call::OneEnd(dependence) => skipping::play_one_end(*desk, *dependence),

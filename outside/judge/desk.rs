@@ -1,6 +1,7 @@
 //! The judge's own desk (01, "The desk" and "Numbers from the state"; 02, jobs 4 to 7 and 10). A key is searched for,
 //! the sitting is a set of gaps, every count is made anew, and to take back it keeps every placement of before.
 
+use crate::arguing;
 use crate::asking::{guarded, Call, Reply};
 use crate::comparing;
 use crate::host::{self, gaps_of, KEPT};
@@ -102,6 +103,8 @@ impl Desk {
             Call::Textbook => (number, values) = textbook_rule::answer(self.nest.as_ref()),
             Call::Slip(examiner, text, out) => return slips::answer(self, *examiner, text, out),
             Call::Compare(a, b) => return comparing::answer(self, a, b),
+            Call::Weigh(text) => return arguing::answer(self, text),
+            Call::WeighPlacement(placement, text) => return arguing::answer_placement(self, placement, text),
             Call::MissingRuns => (number, values) = skipping::answer(self),
             Call::ReliedOn(text, dependence) => return skipping::answer_relied(self, text, *dependence),
             Call::OneEnd(dependence) => (number, values) = skipping::answer_one_end(self, *dependence),

@@ -110,6 +110,9 @@ pub struct Compared {
     pub deciding: Placement,
 }
 
+#[repr(C)]
+pub struct Weighed { pub number: u8, pub text: u8, pub line: usize }
+
 extern "C" {
     pub fn desk_new() -> Desk;
     pub fn desk_reset(desk: Desk) -> Desk;
@@ -131,6 +134,10 @@ extern "C" {
     pub fn desk_candidate_slip(desk: Desk, text: *const u8, length: usize, out: *mut u8, room: usize) -> Answer;
     pub fn desk_examiner_slip(desk: Desk, text: *const u8, length: usize, out: *mut u8, room: usize) -> Answer;
     pub fn desk_compare(desk: Desk, a: *const u8, first: usize, b: *const u8, second: usize) -> Compared;
+    pub fn desk_weigh(desk: Desk, text: *const u8, length: usize) -> Weighed;
+    pub fn desk_weigh_placement(
+        desk: Desk, placement: *const u8, gaps: usize, text: *const u8, length: usize,
+    ) -> Weighed;
     pub fn desk_missing_runs(desk: Desk) -> Chosen;
     pub fn desk_relied_on(desk: Desk, text: *const u8, length: usize, dependence: usize) -> Chosen;
     pub fn desk_one_end(desk: Desk, dependence: usize) -> Chosen;

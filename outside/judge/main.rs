@@ -21,6 +21,7 @@
 //!
 //! It links the library: rustc -O outside/judge/main.rs -L target/staticlib -l static=host -o target/judge
 
+mod arguing;
 mod barred_check;
 mod asking;
 mod comparing;

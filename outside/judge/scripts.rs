@@ -1,5 +1,6 @@
 //! Random scripts of the library's calls, in and out of turn, each call held against the judge's own desk.
 
+use crate::arguing;
 use crate::asking::{play, Call, Reply};
 use crate::comparing::comparisons;
 use crate::desk::{Desk, Key};
@@ -17,7 +18,7 @@ use crate::shapes;
 use crate::sheets::{every_sheet, random_sheet};
 use crate::skipping;
 use crate::slips::slip_length;
-use crate::texts::{barrier_lines, read_nest};
+use crate::texts::{barrier_lines, read_nest, read_placement};
 use std::collections::BTreeMap;
 use std::sync::atomic::{AtomicUsize, Ordering::SeqCst};
 use std::sync::Mutex;
@@ -111,7 +112,7 @@ fn random_call(random: &mut Random, desk: &Desk, mix: Mix, edges: &[Vec<u8>]) ->
 }
 
 fn random_ask(random: &mut Random, desk: &Desk, edges: &[Vec<u8>]) -> Call {
-    match random.below(37) {
+    match random.below(42) {
         0 => Call::Count(random_point(random, desk)),
         1 | 2 => Call::Write(buffer(random, 5 * desk.key().len())),
         3 => Call::Sitting(buffer(random, 5 * desk.sitting.len())),
@@ -137,6 +138,8 @@ fn random_ask(random: &mut Random, desk: &Desk, edges: &[Vec<u8>]) -> Call {
         28 | 29 => Call::Standing,
         30 | 31 => Call::ReliedOn(placement_text(random, desk), shapes::random_dependence(random, desk)),
         32 | 33 => Call::OneEnd(shapes::random_dependence(random, desk)),
+        34..=36 => Call::Weigh(arguing::random_text(random, desk, desk.key())),
+        37 | 38 => weigh(random, desk),
         _ => Call::Mark(placement_text(random, desk)),
     }
 }
@@ -154,6 +157,14 @@ fn nest_text(random: &mut Random, edges: &[Vec<u8>]) -> Vec<u8> {
         11..=26 => { let (text, n) = small_text(random); damage(random, &text, n) }
         _ => small_text(random).0,
     }
+}
+
+/// A placement text with an argument for it, or at times for the key.
+fn weigh(random: &mut Random, desk: &Desk) -> Call {
+    let placement = placement_text(random, desk);
+    let read = desk.nest.as_ref().and_then(|nest| read_placement(nest, &placement).ok());
+    let gaps = read.filter(|_| !random.one_in(8)).unwrap_or_else(|| desk.key().to_vec());
+    Call::WeighPlacement(placement, arguing::random_text(random, desk, &gaps))
 }
 
 /// Two papers or damaged texts, in part such that their joint nest is near a limit.
@@ -288,8 +299,8 @@ fn play_calls(calls: Vec<Call>, tally: &mut Numbers) -> Option<Vec<Call>> {
     if calls.iter().all(|call| make_counted(&mut pair, call, tally)) { None } else { Some(calls) }
 }
 
-/// What is asked of papers at the limits, of every two lines of a list, one behind the other, of every small paper and
-/// every two placements on it, and of papers made for a call.
+/// What is asked of papers at the limits, of arguments, of every two lines of a list, one behind the other, of every
+/// small paper and every two placements on it, and of papers made for a call.
 fn fixed_scripts() -> Vec<Vec<Call>> {
     let lines = pairs().into_iter().map(|text| vec![Call::Load(text), Call::Plan]);
     let flagged = (0..FIXED).map(|case| small_flagged(&mut Random::new(14, case)));
@@ -298,7 +309,8 @@ fn fixed_scripts() -> Vec<Vec<Call>> {
     let beside = (2..=SMALLEST).flat_map(every_shape).flat_map(|nest| comparisons(&nest));
     let every = (2..=SMALLEST).flat_map(every_paper).map(|nest| asks_of(&nest));
     let shapes = shapes::every_ask();
-    let first = at_limits().into_iter().chain(lines);
+    let argued = arguing::at_limits().into_iter().chain(arguing::arguments());
+    let first = at_limits().into_iter().chain(argued).chain(lines);
     first.chain(asked).chain(joins()).chain(every_sheet()).chain(beside).chain(shapes).chain(every).collect()
 }
 

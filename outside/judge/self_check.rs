@@ -1,6 +1,7 @@
 //! The judge's self-check: its reading has the cases of document 01, its several ways to one result agree, and every
 //! wrong answer put before it is noticed.
 
+use crate::arguing::check_arguing;
 use crate::barred_check::check_barred;
 use crate::comparing::check_comparing;
 use crate::desk_check::check_desk;
@@ -44,6 +45,7 @@ pub fn self_check() -> bool {
     check_textbook(&mut checks);
     check_slips(&mut checks);
     check_comparing(&mut checks);
+    check_arguing(&mut checks);
     check_skipping(&mut checks);
     check_runs(&mut checks);
     check_joining(&mut checks);

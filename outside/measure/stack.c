@@ -16,6 +16,9 @@ enum { PAGE = 4096, MARGIN = 256, PAINT = 0xa5, BUDGET = 40 };
 static uint8_t text[8192], key[DESK_TEXT], out[DESK_JOINT], turns[DESK_POINTS], list[4 * DESK_DEPENDENCES];
 static uint16_t durations[DESK_PROCESSORS * DESK_PHASES], waits[DESK_PROCESSORS * (DESK_PHASES - 1)];
 static size_t length, loops, gap, written;
+
+/* Two claims of the outermost loop, each with a step. */
+static const uint8_t argument[] = "3100ff00\n34\n31000000\n330000\n";
 static uint8_t *bottom;
 
 static Desk desk;
@@ -33,6 +36,7 @@ static DeskRunEnds ends;
 static DeskVersion version;
 static DeskJoined joined;
 static DeskCompared compared;
+static DeskWeighed weighed;
 
 #define CALL(name, does) static void name(void) { does; }
 CALL(desk_version_, version = desk_version())
@@ -65,6 +69,8 @@ CALL(desk_improve_, improved = desk_improve(desk, turns, loops, BUDGET))
 CALL(desk_sheet_, ends = desk_sheet(DESK_PROCESSORS, DESK_PHASES, durations, DESK_PROCESSORS * DESK_PHASES, waits,
                                     DESK_PROCESSORS * (DESK_PHASES - 1)))
 CALL(desk_compare_, compared = desk_compare(desk, key, written, key, written))
+CALL(desk_weigh_, weighed = desk_weigh(desk, argument, sizeof argument - 1))
+CALL(desk_weigh_placement_, weighed = desk_weigh_placement(desk, key, written, argument, sizeof argument - 1))
 
 static __attribute__((noinline)) void tell(const char *name, void (*call)(void)) {
     volatile uint8_t *top = (volatile uint8_t *)__builtin_frame_address(0) - MARGIN;
@@ -132,6 +138,8 @@ static void *day(void *number) {
     TELL(desk_improve);
     TELL(desk_sheet);
     TELL(desk_compare);
+    TELL(desk_weigh);
+    TELL(desk_weigh_placement);
     TELL(desk_reset);
     *(int *)number |= own[OWN - 1];
     return NULL;

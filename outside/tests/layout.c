@@ -68,6 +68,10 @@ AT(DeskMark, verdict, 16, 1);
 AT(DeskMark, a, 24, 8);
 AT(DeskMark, b, 32, 8);
 AT(DeskMark, c, 40, 8);
+SIZE(DeskWeighed, 16);
+AT(DeskWeighed, number, 0, 1);
+AT(DeskWeighed, text, 1, 1);
+AT(DeskWeighed, line, 8, 8);
 SIZE(DeskCompared, 56);
 AT(DeskCompared, number, 0, 1);
 AT(DeskCompared, text, 1, 1);
@@ -194,6 +198,8 @@ static void sizes(Desk desk, DeskPlain plain) {
     GIVES(OnText, desk_count_calls, sizeof(DeskCalls), room, desk, P, 0);
     GIVES(OnTwo, desk_placement_calls, sizeof(DeskCalls), room, desk, P, 0, P, 0);
     GIVES(OnTwo, desk_compare, sizeof(DeskCompared), room, desk, P, 0, P, 0);
+    GIVES(OnText, desk_weigh, sizeof(DeskWeighed), room, desk, P, 0);
+    GIVES(OnTwo, desk_weigh_placement, sizeof(DeskWeighed), room, desk, P, 0, P, 0);
     GIVES(OnTurns, desk_improve, sizeof(DeskImproved), room, desk, P, 0, 10);
     GIVES(OnSheet, desk_sheet, sizeof(DeskRunEnds), room, 2, 2, WORK, 4, WAITS, 2);
     GIVES(OnTexts, desk_join, sizeof(DeskJoined), room, P, 0, P, 0, lent, sizeof lent);
@@ -331,6 +337,24 @@ static void joining(void) {
     that("a line before a paper", desk_join(bars, 11, loops, 17, lent, sizeof lent).line == 5);
 }
 
+/* P's argument: dependence 0 wants a barrier of loop 1, dependence 2 one of loop 7. */
+static void weighing(Desk desk) {
+    const uint8_t *argument = (const uint8_t *)"31010000\n330000\n31070000\n330002\n";
+    const uint8_t *key = (const uint8_t *)"2105\n210b\n", *dearer = (const uint8_t *)"2103\n2109\n210d\n";
+    DeskWeighed held = desk_weigh(desk_plan(desk).desk, argument, 32);
+    that("holds", held.number == 0 && held.text == 0 && held.line == 0);
+    held = desk_weigh_placement(desk, key, 10, argument, 32);
+    that("holds of a placement", held.number == 0 && held.text == 0 && held.line == 0);
+    held = desk_weigh_placement(desk, dearer, 15, argument, 32);
+    that("a claim is missing", held.number == 21 && held.text == 2 && held.line == 5);
+    held = desk_weigh_placement(desk, dearer, 10, argument, 32);
+    that("not correct", held.number == 21 && held.text == 1 && held.line == 0);
+    held = desk_weigh_placement(desk, dearer, 14, argument, 32);
+    that("no placement text", held.number == 1 && held.text == 1 && held.line == 3);
+    held = desk_weigh_placement(desk, key, 10, argument + 9, 7);
+    that("a step before any claim", held.number == 4 && held.text == 2 && held.line == 1);
+}
+
 /* Where a length is 0 the pointer is not read: NULL in every place of every call, a desk with a key and one without. */
 static void empty(Desk desk) {
     Desk planned = desk_plan(desk).desk;
@@ -344,6 +368,8 @@ static void empty(Desk desk) {
     that("candidate's slip, written", desk_candidate_slip(desk, NULL, 0, lent, 28).value == 28);
     that("examiner's slip", desk_examiner_slip(planned, NULL, 0, NULL, 0).number == 9);
     that("compare", desk_compare(desk, NULL, 0, NULL, 0).number == 0 && desk_compare(desk, NULL, 0, NULL, 0).first);
+    that("weigh", desk_weigh(desk, NULL, 0).number == 11 && desk_weigh(planned, NULL, 0).line == 1);
+    that("weigh a placement", desk_weigh_placement(desk, NULL, 0, NULL, 0).number == 21);
     that("count calls", desk_count_calls(planned, NULL, 0).number == 17);
     that("placement calls", desk_placement_calls(desk, NULL, 0, NULL, 0).number == 17);
     that("improve", desk_improve(planned, NULL, 0, 10).number == 17);
@@ -369,6 +395,7 @@ int main(void) {
     sizes(desk, plain);
     fields(desk);
     told(desk);
+    weighing(desk);
     empty(desk);
     overlapping(desk);
     barred(desk_load(desk, FOUNDATION, sizeof FOUNDATION - 1).desk);

@@ -179,7 +179,7 @@ def form(tally: Tally, folder: pathlib.Path) -> None:
 
 def numbers(tally: Tally, folder: pathlib.Path) -> None:
     """Every number has words; every fault of a paper is told by its number with the line quoted."""
-    tally.check('words for 1 to 20', sorted(RULES) == list(range(1, 21)) and all(RULES.values()), RULES)
+    tally.check('words for 1 to 21', sorted(RULES) == list(range(1, 22)) and all(RULES.values()), RULES)
     paper = folder / 'faulty.hex'
     for text, number, line, word in FAULTS:
         paper.write_bytes(text)

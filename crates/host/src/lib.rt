@@ -1,5 +1,6 @@
 // The desk for programs in other languages: each call under its C name, over structs laid out as C lays them out. Most
 // only forward. desk.h beside this folder declares them all.
+ghost use Rattle.call_argument.specs.Says.{WeighSays, WeighPlacementSays};
 ghost use Rattle.call_compare.specs.Says.{CompareSays};
 ghost use Rattle.call_runs.specs.Says.{CallsSays, PlacementSays};
 ghost use Rattle.desk.specs.Desks.{IsMade, IsMadePlain};
@@ -21,6 +22,7 @@ ghost use Rattle.host.specs.Says.{MarkSays, VersionSays};
 ghost use Rattle.host.specs.Marks.{coded, markOut, verdictOut};
 ghost use Rattle.host.specs.Records.{recordsOf};
 ghost use mathlib.Core.Path.{_≡_};
+use call_argument::Weighed;
 use call_compare::Compared;
 use call_improve::Improved;
 use call_join::Joined;
@@ -243,6 +245,22 @@ pub extern "C" fn desk_compare(desk: Desk, a: &[u8], b: &[u8]) -> Compared
     ensures { λ r. ⌜ CompareSays desk (now (a .entry)) (now (b .entry)) r ⌝ }
 {
     call_compare::compare(desk, a, b)
+}
+
+#[no_mangle]
+pub extern "C" fn desk_weigh(desk: Desk, text: &[u8]) -> Weighed
+    requires { ⌜ IsMade desk ⌝ }
+    ensures { λ r. ⌜ WeighSays desk (now (text .entry)) r ⌝ }
+{
+    call_argument::weigh(desk, text)
+}
+
+#[no_mangle]
+pub extern "C" fn desk_weigh_placement(desk: Desk, placement: &[u8], text: &[u8]) -> Weighed
+    requires { ⌜ IsMade desk ⌝ }
+    ensures { λ r. ⌜ WeighPlacementSays desk (now (placement .entry)) (now (text .entry)) r ⌝ }
+{
+    call_argument::weigh_placement(desk, placement, text)
 }
 
 #[no_mangle]

@@ -1,2 +1,3 @@
--- Why arguments are worth that.
+-- Why arguments are worth that, and what a call's reply is worth.
 pub mod Kept
+pub mod Weighing

@@ -1,0 +1,2 @@
+-- An argument text weighed: what the calls promise.
+pub mod Says
