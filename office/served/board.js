@@ -12,6 +12,8 @@ const items = new Map(all('#dependences li').map((item) => [Number(item.dataset.
 const runs = new Map([...items].map(([d, item]) => [d, item.dataset.gaps.split(' ').map(
     (run) => run.split('-').map(Number))]));
 const homes = element('dependences').dataset.homes.split(' ').filter(Boolean);
+const atHome = new Map(homes.map((home) => [home, []]));
+homes.forEach((home, d) => atHome.get(home).push(d));
 const numbers = (text) => text.split(' ').map(Number);
 const bars = all('[data-bar]').map((bar) => ({ bar, of: numbers(bar.dataset.bar), x: Number(bar.dataset.x) }));
 const labels = all('[data-number]').map((bar) => ({ bar, of: numbers(bar.dataset.number) }));
@@ -33,11 +35,18 @@ function write(place, words) {
     }
 }
 
+// What is there already is not written again: of hundreds of gaps a reply changes one.
+function give(button, name, value) {
+    if (button.getAttribute(name) !== String(value)) {
+        button.setAttribute(name, value);
+    }
+}
+
 function showBarriers(told) {
     const there = new Set(told.gaps);
     for (const [gap, button] of buttons) {
-        button.setAttribute('aria-pressed', there.has(gap));
-        button.setAttribute('aria-disabled', told.handed_in);
+        give(button, 'aria-pressed', there.has(gap));
+        give(button, 'aria-disabled', told.handed_in);
         places.get(gap).classList.toggle('filled', there.has(gap));
     }
     const here = told.gaps.filter((gap) => buttons.has(gap));
@@ -59,7 +68,7 @@ function showCounts(counts, cuts) {
         write(place, `count ${counts.get(Number(place.dataset.count))}`);
     }
     for (const place of all('[data-tree]')) {
-        const mine = homes.flatMap((home, d) => home === place.dataset.tree ? [d] : []);
+        const mine = atHome.get(place.dataset.tree) ?? [];
         const open = cuts && mine.length ? `uncut ${mine.filter((d) => cuts[d] === 0).length} of` : 'at home';
         write(place, `barriers ${counts.get(Number(place.dataset.tree))}, ${open} ${mine.length}`);
     }
