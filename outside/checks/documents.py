@@ -267,12 +267,14 @@ def accounted(docs: Documents) -> Iterator[Check]:
 
 
 def apart(_: Documents) -> Iterator[Check]:
-    """A page uses the structs, other pages, and names that the contracts of calls cite, so that it can be read alone."""
+    """A page uses the structs, other pages, and names that the contracts of calls cite, so that it can be read alone;
+    the pages on arguments also what an argument is and what its text claims."""
     cites = {word for crate in CALLS for _, contract in contracts(crate) for word in re.findall(r"[\w′-]+", contract)}
     for path in sorted(CRATES.glob('pages*/specs/*.antt')):
         for crate, file, names in re.findall(r'^use Rattle·(\w+)[·\w]*\.specs\.(\w+)(.*)$', path.read_text(), re.M):
             used = set(re.findall(r"[\w′-]+", names))
-            held = file == 'declared' or crate.startswith('pages') or used <= cites
+            argued = path.parts[-3] == 'pages_arguments' and crate in ('argue_claims', 'argue_texts')
+            held = file == 'declared' or crate.startswith('pages') or argued or used <= cites
             yield Check(str(path.relative_to(ROOT)), f'{crate}/specs/{file}: {used} stand in contracts', held)
 
 
