@@ -10,8 +10,9 @@ NUMBERS = ('no', 'one', 'two', 'three', 'four', 'five', 'six', 'seven', 'eight',
 ABOUT = ("Why no placement is better: each claim is about every correct placement that has the key's counts in all "
          "loops inside the claim's loop.")
 NOTHING = 'No placement is better: the key has no barrier.'
-NONE_FOUND = ('No argument was found that the desk weighs and finds to hold. That no placement is better is proved for '
-              'every paper; for this one it is not shown line by line.')
+NONE_FOUND = ('No argument was found that holds, so it is not shown line by line why no placement is better. That none '
+              'is better than the key is proved for every paper, and so is that there is an argument: hand this paper '
+              'to whoever keeps the desk.')
 
 
 @dataclass(frozen=True)

@@ -262,8 +262,9 @@ def compared(asked: argparse.Namespace) -> None:
         second = side_of(desk, KEY, desk.key())
     else:
         second = side_of(desk, 'the second placement', placement_asked(asked.other, desk))
-    turns = turns_asked(asked.turns or TEN, len(paper.end))
-    made = calls_made(desk, asked.turns or TEN, turns, [first, second])
+    given = TEN if asked.turns is None else asked.turns
+    turns = turns_asked(given, len(paper.end))
+    made = calls_made(desk, given, turns, [first, second])
     held = desk.compare(first.text, second.text)
     correct = first.placed.uncut is None and second.placed.uncut is None
     trees = [drawn(paper, side.placed.counts, held.deciding if correct else []) for side in (first, second)]
@@ -283,7 +284,7 @@ def compared(asked: argparse.Namespace) -> None:
         name = printable(pathlib.Path(asked.paper).stem)
         uncut = [side.placed.uncut for side in (first, second) if side.placed.uncut is not None]
         loops = held.deciding if correct else sorted({paper.home[number] for number in uncut})
-        markup = '' if asked.other else argument_markup(found, asked.argument, paper, second.placed, name)
+        markup = argument_markup(found, asked.argument, paper, second.placed, name) if asked.other is None else ''
         made_page = page(name, head_of(asked, name, text), paper, shown, told, loops, markup)
         write_over(asked.html, made_page.encode(), begins=BEGINS)
         return

@@ -245,7 +245,10 @@ def typed(tally: Tally, folder: pathlib.Path) -> None:
     beside = run(DESK, 'why', q, '4,7').out.decode()
     tally.check('behind a placement', beside.endswith(OF_Q.partition('\n\n')[2].partition('\n\n')[2]) and
                 'So the key is better.' in beside, beside)
-    tally.check('not behind two', b'Why no placement' not in run(DESK, 'why', q, '4,7', '2,6').out)
+    for other in ('2,6', ''):
+        run(DESK, 'why', q, '4,7', other, '--html', folder / 'two.html')
+        told = run(DESK, 'why', q, '4,7', other).out.decode() + (folder / 'two.html').read_text()
+        tally.check(f'not behind two, {other}', 'no placement is better' not in told and 'argument' not in told, told)
     none, long = folder / 'none.hex', folder / 'long.hex'
     none.write_bytes(b'01\n03\n02\n')
     seen = run(DESK, 'why', none)
