@@ -8,7 +8,6 @@ from office.causes import Ask, gaps_told, no_gap, paper_cause, placement_cause
 from office.command import REFUSED, Fault, printable, read_in, tell
 from office.frames import DO, placement_text
 from office.library import Desk, Nest, refusal_of
-from office.listing import spelled
 from office.refusal import Refusal, Refused
 from office.taken import decimal_in, is_listing
 from office.words import RULES, counted, gaps_named, joined
@@ -75,6 +74,7 @@ def paper_in(file: str) -> bytes:
     text = read_in(file)
     if not is_listing(text):
         return text
+    from office.listing import spelled  # which takes long to load, and a text does not need it
     text = spelled(text, file)
     tell('desk', f'{printable(file)} is a listing: it is taken as the text that ./desk spell writes of it')
     return text

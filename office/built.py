@@ -4,19 +4,17 @@ are there.
   python3 -m office.built    builds the program, if need be, for ./key
 
 A stamp in target/built has the SHA-256 of every file that a thing was made of, and of what was made. Times decide
-nothing: a file whose size and time of change are as noted need not be hashed again, any other is.
+nothing: a file whose size and time of change are as noted need not be hashed again, any other is. What only a build
+needs is imported there, as every command looks here first.
 """
 import contextlib
-import fcntl
-import hashlib
 import os
 import pathlib
 import re
-import shutil
-import subprocess
 import time
 from collections.abc import Callable, Collection, Iterator
 from dataclasses import dataclass
+from typing import NamedTuple
 
 from office.command import ROOT, Fault, run
 from office.places import ARCHIVE, PROGRAM, SHARED, TARGET
@@ -26,12 +24,13 @@ STAMPS, LIST = TARGET / 'built', ROOT / 'crates.txt'
 PARTS = ('src', 'specs', 'proofs', 'stdin', 'stdout', 'args', 'data')
 # A file that was changed so shortly before it was noted may be changed again without another time, in nanoseconds.
 SETTLED = 2 * 10 ** 9
+# Digits of a hash.
+SHA256 = 64
 # Before the tool that built a thing, in its stamp.
 BY = 'by '
 
 
-@dataclass(frozen=True)
-class Noted:
+class Noted(NamedTuple):
     """A file in a stamp: its hash, its size, and its time of change, or 0 where that tells nothing yet."""
     sha256: str
     size: int
@@ -62,6 +61,7 @@ class Made:
 
     def sha256_of(self, path: str) -> str:
         """The hash of a file; of the list of crates that of the rows that matter."""
+        import hashlib
         if path == str(LIST):
             return hashlib.sha256(repr(rows_of(str(self.source))).encode()).hexdigest()
         with open(path, 'rb') as opened:
@@ -77,16 +77,18 @@ def rows_of(crate: str) -> dict[str, list[str]]:
     return {name: listed.get(name, []) for name in names}
 
 
-def files_in(folder: str, parts: Collection[str] = ()) -> Iterator[str]:
+def files_in(folder: str, parts: Collection[str] = ()) -> list[str]:
     """All files of a folder, or those of some parts of it."""
+    files: list[str] = []
     with os.scandir(folder) as entries:
         for entry in entries:
             if parts and entry.name not in parts:
                 continue
             if entry.is_dir():
-                yield from files_in(entry.path)
+                files += files_in(entry.path)
             else:
-                yield entry.path
+                files.append(entry.path)
+    return files
 
 
 def prove_archive() -> None:
@@ -150,6 +152,7 @@ def wanting(made: Made) -> str:
 
 def make_anew(made: Made, name: str, reason: str) -> None:
     """Builds a thing and notes what it was built of. The one before goes first: nothing is answered with it."""
+    import shutil
     if not shutil.which(made.tool):
         raise Fault(f'the {made.what} {reason}, and there is no {made.tool} to build it with')
     before = {path: noted_now(path, made.sha256_of(path)) for path in made.sources()}
@@ -172,6 +175,7 @@ def make_anew(made: Made, name: str, reason: str) -> None:
 @contextlib.contextmanager
 def alone(name: str) -> Iterator[None]:
     """While one desk builds, others wait."""
+    import fcntl
     STAMPS.mkdir(parents=True, exist_ok=True)
     lock = os.open(STAMPS / 'lock', os.O_RDWR | os.O_CREAT | os.O_CLOEXEC, 0o666)
     try:
@@ -191,11 +195,12 @@ def noted_of(made: Made) -> dict[str, Noted]:
         lines = made.stamp.read_text().splitlines()
     except (OSError, ValueError):
         return {}
-    lines = [line for line in lines if not line.startswith(BY)]
-    found = [re.fullmatch(r'([0-9a-f]{64}) (\d+) (\d+) (.+)', line) for line in lines]
-    if not all(found):
+    found = [line.split(' ', 3) for line in lines if not line.startswith(BY)]
+    try:
+        noted = {f'{ROOT}/{path}': Noted(sha256, int(size), int(changed)) for sha256, size, changed, path in found}
+    except ValueError:
         return {}
-    return {f'{ROOT}/{line[4]}': Noted(line[1], int(line[2]), int(line[3])) for line in found if line}
+    return noted if all(len(one.sha256) == SHA256 for one in noted.values()) else {}
 
 
 def note(made: Made, files: dict[str, Noted], by: str = '') -> None:
@@ -219,6 +224,7 @@ def built_by(made: Made) -> str:
 
 def tool_here(made: Made) -> str:
     """The tool that would build a thing here."""
+    import subprocess
     asked = {'rt': ['rt', 'version'], 'gcc': ['gcc', '--version']}[made.tool]
     told = subprocess.run(asked, stdin=subprocess.DEVNULL, capture_output=True, text=True, check=False).stdout
     return told.splitlines()[0] if told else made.tool
@@ -242,6 +248,7 @@ def as_noted(path: str, noted: Noted) -> bool:
 
 def step(*command: str) -> None:
     """A step of a build. What it says is told only if it fails."""
+    import subprocess
     done = subprocess.run(command, cwd=ROOT, stdin=subprocess.DEVNULL, stdout=subprocess.PIPE,
                           stderr=subprocess.STDOUT, check=False)
     if done.returncode != 0:
