@@ -1,9 +1,9 @@
 -- Two nests that agree on d's range, with tables that agree on the ranges of d's children, give the same steps of a
 -- sweep: its fronts are the same, and they alone decide about steps.
 -- Main statement: `trace-alike`.
-use mathlib.Core.Path.{_≡_, refl, sym, _∙_, ap}
+use mathlib.Core.Path.{_≡_, refl, sym, _∙_}
 use mathlib.Core.Bool.{Bool, true, false, _&&_}
-use mathlib.Core.List.{List, [], _∷_, _++_}
+use mathlib.Core.List.{[], _∷_, _++_}
 use Prim.Native.Nat.{ℕ, zero, suc, _≤_, _<_}
 use native.Mathlib.Omega.{arith}
 use lib.Dec.{eqb, ltb, leb}
@@ -18,7 +18,6 @@ use Rattle.plan_method.proofs.Walk.{seek-is, AtPlain, AtChild, Boundary, stop-b
 use Rattle.plan_method.proofs.Walk.{child-bound, plain-bound}
 use Rattle.plan_method.proofs.Alike.{Alike}
 use Rattle.plan_starts.proofs.Seeks.{seek-alike}
-use Rattle.argue_claims.specs.Arguments.{Step}
 use Rattle.argue_claims.specs.Arguments as claims
 use Rattle.argue_key.specs.Laps.{eventPlain, eventAt, eventChild, event, trace}
 

@@ -2,8 +2,8 @@
 -- Main definition: `Lapping`, what a turn keeps. Main statements: `lap-begin`, `lap-room`, `lap-on`, `lap-found`,
 -- `lap-done`.
 use mathlib.Core.Path.{_≡_, refl, sym, _∙_, ap}
-use mathlib.Core.Bool.{Bool, true, false}
-use mathlib.Core.List.{List, [], _∷_, _++_, append-nil, append-assoc}
+use mathlib.Core.Bool.{true, false}
+use mathlib.Core.List.{List, [], _++_, append-nil, append-assoc}
 use Prim.Native.Nat.{ℕ, zero, suc, _+_, _-_, _*_, _≤_, _<_}
 use native.Mathlib.Numerals.{add-one}
 use native.Mathlib.Omega.{arith}
@@ -18,7 +18,7 @@ use Rattle.plan_method.specs.Sweep.{Tables}
 use Rattle.argue_claims.specs.Arguments.{Step, Claim}
 use Rattle.argue_texts.specs.ArgumentTexts.{stepsText}
 use Rattle.argue_key.specs.Laps.{leadIn, lapEnd, lapSteps, laps}
-use Rattle.argue_spell.specs.Added.{FAR, Added}
+use Rattle.argue_spell.specs.Added.{Added}
 use Rattle.argue_spell.proofs.Adding.{added-none, added-then, added-as}
 use Rattle.argue_trace.proofs.Events.{steps-append}
 use Rattle.argue_laps.specs.Lapped.{LAP, LapRoom, LapGround, LapSays, LapsSay}

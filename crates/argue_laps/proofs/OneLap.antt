@@ -1,12 +1,12 @@
 -- One lap: the code's sweep over its lists is the lap's sweep over the nest, and so are its steps.
 -- Main statements: `close-none`, `close-in`, `close-put`, `lapped`.
 use mathlib.Core.Path.{_≡_, refl, sym, _∙_, ap}
-use mathlib.Core.Bool.{Bool, true, false, _&&_}
-use mathlib.Core.List.{List, [], _∷_, _++_}
-use Prim.Native.Nat.{ℕ, suc, _+_, _≤_, _<_, min}
+use mathlib.Core.Bool.{true, false, _&&_}
+use mathlib.Core.List.{List}
+use Prim.Native.Nat.{ℕ, _+_, _≤_, _<_, min}
 use native.Mathlib.Omega.{arith}
 use lib.Dec.{ltb}
-use lib.ListN.{length, set}
+use lib.ListN.{set}
 use borrow.Author.Tests.{lt-ltb, le-ltb}
 use Rattle.laws.specs.Choice.{pick}
 use Rattle.laws.specs.Entries.{at}
@@ -16,12 +16,12 @@ use Rattle.paper_nests.specs.Loops.{endOf}
 use Rattle.paper_nests.specs.declared.Nest as DN
 use Rattle.paper_nests.specs.Stored.{nestIn}
 use Rattle.paper_nests.proofs.Loops.{end-there}
-use Rattle.plan_method.specs.Sweep.{Tables, State, put, start, sweep}
+use Rattle.plan_method.specs.Sweep.{Tables, put, start}
 use Rattle.plan_method.specs.Home.{loopsIn, linesIn}
 use Rattle.plan_method.proofs.Instance.{loop-laws}
 use Rattle.plan_method.proofs.Alike.{Same, Alike, sweep-alike}
 use Rattle.plan_sweeps.specs.Listed.{listed, tabled, sweepOf}
-use Rattle.argue_claims.specs.Arguments.{Step, Claim}
+use Rattle.argue_claims.specs.Arguments.{Claim}
 use Rattle.argue_claims.specs.Arguments as claims
 use Rattle.argue_texts.specs.ArgumentTexts.{stepsText}
 use Rattle.argue_key.specs.Laps.{closeUp, closeStep, leadIn, lapNeed, lapSet, lapSwept, lapEnd, lapSteps, trace}
@@ -29,7 +29,7 @@ use Rattle.argue_spell.specs.Added.{stepText, Added}
 use Rattle.argue_spell.proofs.Adding.{added-then, added-as}
 use Rattle.argue_trace.specs.Traced.{leadAt, traceOf, TraceSays}
 use Rattle.argue_trace.proofs.Events.{steps-append, adds-none, adds-one}
-use Rattle.argue_laps.specs.Lapped.{LAP, LapRoom, LapGround, CloseSays, LapSays}
+use Rattle.argue_laps.specs.Lapped.{LapRoom, LapGround, CloseSays, LapSays}
 use Rattle.argue_laps.proofs.Alike.{trace-alike}
 use Rattle.argue_laps.proofs.Suffix.{Suffixed, need-lapped, set-lapped}
 

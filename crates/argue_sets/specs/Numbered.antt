@@ -11,7 +11,7 @@ use Rattle.paper_nests.specs.Nests.{Dep}
 use Rattle.paper_nests.specs.Loops.{isDo, endOf}
 use Rattle.plan_method.specs.Home.{startsAt, reachOf}
 use Rattle.plan_tables.specs.Charts.{TABLE, cell}
-use Rattle.argue_key.specs.Laps.{Start, starting, isBack, startsLater, lineNum}
+use Rattle.argue_key.specs.Laps.{starting, isBack, startsLater, lineNum}
 
 -- the set of the first line of home d that starts at a and ends where the reach does
 abbrev pub lineSet : List ℕ → List Dep → ℕ → ℕ → ℕ

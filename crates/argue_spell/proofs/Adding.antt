@@ -9,7 +9,7 @@ use lib.ListN.{length, length-append}
 use borrow.Rule.Slice.PartMut.{midOf, putMid}
 use Rattle.paper_lines.specs.Lines.{lineText}
 use Rattle.paper_lines.specs.Writing.{over}
-use Rattle.paper_lines.proofs.Writing.{text-length, over-length, over-part}
+use Rattle.paper_lines.proofs.Writing.{text-length, over-part}
 use Rattle.argue_texts.specs.ArgumentTexts.{CLAIM, BY, DEPENDENCE, setFrame, byText}
 use Rattle.argue_spell.specs.Added.{WORD, Added}
 

@@ -1,23 +1,16 @@
 // Claims and steps spelled into a lent buffer from a place on, each line only where there is room for it: without room
 // the length alone is counted.
-ghost use mathlib.Core.Path.{_≡_};
 ghost use Prim.Native.Nat.{_+_, _≤_, _<_};
 ghost use lib.ListN.{length};
 ghost use Rattle.paper_lines.specs.Lines.{lineText};
 ghost use Rattle.argue_claims.specs.Arguments.{st};
 ghost use Rattle.argue_texts.specs.ArgumentTexts.{setFrame, byText};
 ghost use Rattle.argue_spell.specs.Added.{FAR, WORD, headText, stepText, Added};
-
-// The kinds of frames: a claim, the claim that leads the next step, and the three sets of steps.
-const CLAIM: u8 = 49;
-
-const BY: u8 = 50;
-
-const DEPENDENCE: u8 = 51;
-
-const FROM: u8 = 52;
-
-const UPTO: u8 = 53;
+use argue_texts::BY;
+use argue_texts::CLAIM;
+use argue_texts::DEPENDENCE;
+use argue_texts::FROM;
+use argue_texts::UPTO;
 
 // The line of a claim; gives the place behind it.
 pub fn put_claim(out: &mut [u8], at: usize, d: usize, a: usize, b: usize) -> usize

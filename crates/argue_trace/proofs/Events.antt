@@ -1,7 +1,6 @@
 -- The steps at a child, case by case, and the text of one step.
 -- Main statements: `one-step`, `event-none`, `event-led`, `event-passed`, `event-lacks`, `event-behind`.
 use mathlib.Core.Path.{_≡_, refl, sym, _∙_, ap}
-use mathlib.Core.Bool.{Bool, true, false}
 use mathlib.Core.List.{List, [], _∷_, _++_, append-nil, append-assoc}
 use Prim.Native.Nat.{ℕ, suc, _≤_, _<_}
 use native.Mathlib.Omega.{arith}

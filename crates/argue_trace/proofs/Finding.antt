@@ -1,15 +1,14 @@
 -- The search for the claim that a step leads to: what is left of the claims gives the same as all of them.
 -- Main definition: `Searching`, what a turn keeps. Main statements: `from-other`, `from-none`, `from-later`, `from-is`,
 -- `search-start`, `search-found`, `search-on`, `search-done`.
-use mathlib.Core.Path.{_≡_, refl, sym, _∙_}
-use mathlib.Core.Bool.{Bool, true, false}
+use mathlib.Core.Path.{_≡_, sym}
+use mathlib.Core.Bool.{true, false}
 use mathlib.Core.List.{List, []}
 use Prim.Native.Nat.{ℕ, zero, suc, _+_, _≤_, _<_}
 use native.Mathlib.Numerals.{add-one}
 use native.Mathlib.Omega.{arith}
-use lib.Dec.{eqb, ltb, leb}
-use borrow.Author.Tests.{eq-eqb, ne-eqb, lt-ltb, le-ltb, le-leb, lt-leb}
-use Rattle.laws.specs.Choice.{pick}
+use lib.Dec.{eqb}
+use borrow.Author.Tests.{eq-eqb, ne-eqb, lt-ltb, le-leb, lt-leb}
 use Rattle.laws.specs.Entries.{at}
 use Rattle.laws.proofs.Connectives.{and-off}
 use Rattle.argue_claims.specs.Arguments.{claim}

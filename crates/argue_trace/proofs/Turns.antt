@@ -11,7 +11,7 @@ use lib.ListN.{getD}
 use borrow.Author.Tests.{lt-ltb, le-ltb, eq-eqb, ne-eqb}
 use Rattle.laws.specs.Entries.{at}
 use Rattle.laws.specs.Entries as entries
-use Rattle.plan_method.specs.Sweep.{State, st, bare, only, also, put, seek, stepPlain, stepChild, next, step, walk}
+use Rattle.plan_method.specs.Sweep.{State, st, bare, only, also, put, seek, stepPlain, next, step, walk}
 use Rattle.plan_method.specs.Sweep.{start, sweep}
 use Rattle.plan_sweeps.specs.Listed.{row, listed, tabled, laid, Stepped, sweepOf}
 use Rattle.argue_claims.specs.Arguments.{Step}

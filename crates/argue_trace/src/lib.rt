@@ -10,7 +10,7 @@ ghost use Rattle.plan_sweeps.specs.Listed.{row, SweepRoom};
 ghost use Rattle.argue_claims.specs.Arguments.{claim};
 ghost use Rattle.argue_texts.specs.ArgumentTexts.{stepsText};
 ghost use Rattle.argue_key.specs.Laps.{isFrom, findClaim, eventAt};
-ghost use Rattle.argue_spell.specs.Added.{FAR, WORD, Added};
+ghost use Rattle.argue_spell.specs.Added.{FAR, Added};
 ghost use Rattle.argue_trace.specs.Traced.{claimsAt, leadAt, HeadsRoom, SetsRoom, TraceSays};
 
 // How a sweep ends: its barriers and its front, and the place behind its steps.

@@ -1,7 +1,6 @@
 -- The suffix goes into the two rows, the sweep is that of the lap (OneLap), and the rows are as before.
-use mathlib.Core.Path.{_≡_}
 use native.Mathlib.Omega.{arith}
-use lib.ListN.{length, set, length-set}
+use lib.ListN.{length-set}
 use Rattle.laws.specs.Entries.{at}
 use Rattle.paper_nests.proofs.Loops.{end-after}
 use Rattle.argue_laps.specs.Lapped.{LapRoom}

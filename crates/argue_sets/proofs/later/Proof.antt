@@ -1,5 +1,4 @@
 -- The dependence takes the place of the last exactly if it goes back later.
-use native.Mathlib.Omega.{arith}
 use borrow.Author.Needs.{needs}
 use Rattle.argue_sets.proofs.Numbering.{later-line, later-other, later-cut, later-kept, later-taken}
 use Rattle.argue_sets.proofs.later.Statement.{statement}

@@ -2,7 +2,6 @@
 use mathlib.Core.Path.{sym, _∙_}
 use Prim.Native.Nat.{_-_}
 use native.Mathlib.Omega.{arith}
-use borrow.Author.Needs.{needs}
 use Rattle.argue_trace.proofs.Finding.{Searching, search-start, search-found, search-on, search-done}
 use Rattle.argue_trace.proofs.find_claim.Statement.{statement}
 use Rattle.argue_trace.proofs.find_claim.Tie as tie
