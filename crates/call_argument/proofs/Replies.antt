@@ -11,7 +11,7 @@ use Rattle.paper_nests.specs.Nests.{Nest}
 use Rattle.paper_placements.specs.Placements.{areGaps, avoids, uncut}
 use Rattle.paper_texts.specs.PlacementTexts.{Placed, placed}
 use Rattle.paper_texts.proofs.PlacedTexts.{read-avoids}
-use Rattle.argue_texts.specs.ArgumentTexts.{Fault, fault, argumentFault}
+use Rattle.argue_texts.specs.ArgumentTexts.{fault, argumentFault}
 use Rattle.desk.specs.Desks.{Desk, stateFault}
 use Rattle.desk.specs.Says.{readIn}
 use Rattle.call_argument.specs.Says.{PLACEMENT, ARGUMENT, UNHELD, reply, unheldOf, weighedBy}

@@ -1,14 +1,14 @@
 -- The calls that weigh an argument text keep their page: what they reply is `weighedBy` of the placement that the page
 -- says is placed, and without number the argument holds (`weighed-iff`).
 -- Main statement: `weighing-kept`.
-use mathlib.Core.Path.{_≡_, refl, sym, _∙_, ap, subst}
+use mathlib.Core.Path.{_≡_, refl, sym, _∙_, ap}
 use mathlib.Core.Bool.{true}
 use mathlib.Core.List.{List}
 use mathlib.Core.Logic.{_↔_}
 use Prim.Native.Nat.{ℕ}
 use native.Mathlib.Omega.{arith}
 use Rattle.paper_nests.specs.Stored.{nestIn}
-use Rattle.paper_placements.specs.Words.{gapsIn}
+use Rattle.argue_texts.specs.ArgumentTexts.{claimsIn}
 use Rattle.desk.specs.declared.Desk.{Desk}
 use Rattle.desk.specs.Desks.{deskIn, IsMade, stateFault}
 use Rattle.desk.specs.Says.{readIn}
@@ -18,13 +18,12 @@ use Rattle.call_argument.specs.Says.{WeighSays, WeighPlacementSays, weighedBy}
 use Rattle.call_argument.proofs.Replies.{key-refused, key-weighed, placement-refused, placement-faulty}
 use Rattle.call_argument.proofs.Replies.{placement-weighed}
 use Rattle.call_argument.proofs.Holding.{weighed-iff}
-use Rattle.pages.specs.Demands.{paperIn, Key, Since, KeyOn, Places, OutOfTurn}
+use Rattle.pages.specs.Demands.{paperIn, Key, Since, KeyOn, Places}
 use Rattle.pages.proofs.Desks.{reached-made, since-made, since-is}
 use Rattle.pages.proofs.Kept.{has-nest, key-same, paperOn}
 use Rattle.pages_requests.proofs.Papers.{nest-state, no-nest-state, turn-state}
 use Rattle.pages_calls.proofs.Reading.{places-read, not-read}
-use Rattle.pages_arguments.specs.Argued.{Argues}
-use Rattle.pages_arguments.specs.Weighing.{Named, Holds, Weighing}
+use Rattle.pages_arguments.specs.Weighing.{Holds, Weighing}
 use Rattle.pages_arguments.proofs.Kept.{argued-kept}
 
 -- the parts of equal replies
@@ -59,7 +58,7 @@ module _ (d : Desk) (m : IsMade d) (loaded : d .loaded ≡ true) (p s : List ℕ
       let e =
       named r _ (h ∙ sym (placement-faulty (deskIn d) p s (nest-state d loaded) (x .number) (x .place) (x .gaps) refl
       (not-read d m loaded p bad))) in
-      ((λ z. not-read d m loaded p bad (sym (e .0) ∙ z)), e .1 .0)
+      ((λ z. not-read d m loaded p bad (sym (e .0) ∙ z)), e .1)
 
   placement-held : (gs : List ℕ) → Places (paperOn d) p gs → (r .number ≡ 0) ↔ Holds d gs s
   placement-held gs one =
@@ -73,7 +72,7 @@ placement-key
 placement-key t d p s gs r q h one z =
     let loaded = since-holds t d (since-is t d q) .has-nest in
     let held = placement-held d (since-made t d q) loaded p s r h gs one .0 z in
-    argued-kept .sound t d gs _ q (held .1)
+    argued-kept .sound t d gs (claimsIn s) q (held .1)
 
 pub weighing-kept : Weighing
 weighing-kept =
