@@ -97,6 +97,12 @@ def in_charge(tally: Tally, driver: Driver, folder: pathlib.Path) -> None:
     page.shows('nothing put')
     page.turn(5)
     acted(tally, charge, page)
+    charge.seen.screen(1280, 1024, 4)
+    fits = charge.seen.script('''return [document.documentElement.scrollWidth <= innerWidth, ...[...document
+        .querySelectorAll('input:not([type=radio]), button, select')].filter((piece) => piece.checkVisibility()
+        && piece.getBoundingClientRect().right > innerWidth).map((piece) => piece.name || piece.value)]''')
+    tally.check('in charge at 400 percent', fits == [True], fits)
+    charge.seen.screen(1200, 800, 1)
     charge.act('late', 'late', '', 'No candidate was added: 7 is there already.', asks=False, identity='7', name='')
     told = charge.act('late', 'late', '', 'carl is on the list. The ticket: ', asks=False, identity='carl',
                       name='Łukasz')

@@ -72,6 +72,20 @@ for (const shape of document.querySelectorAll('.board svg text, .board svg rect,
 }
 return { chosen, drawn };
 """
+# The links of the line that stays, each brought into view and hit, and whether the words of what is lit are seen.
+WAYS = """
+const inside = (piece) => {
+    const box = piece.getBoundingClientRect();
+    return box.left >= 0 && document.elementFromPoint(box.left + 4, box.top + box.height / 2) === piece;
+};
+const lit = inside(document.getElementById('lit'));
+const ways = [...document.querySelectorAll('.where a')].filter((way) => {
+    way.scrollIntoView({ block: 'nearest', inline: 'nearest' });
+    return inside(way);
+});
+const scrolls = getComputedStyle(document.querySelector('.where')).overflowX;
+return { lit, scrolls, ways: ways.map((way) => way.textContent) };
+"""
 SEEN = """
 const main = document.querySelector('main'), page = document.documentElement;
 scrollTo(0, 0);
@@ -183,6 +197,26 @@ def near(tally: Tally, page: Page) -> None:
     tally.check('at 400 percent', found['wide'] and found['rows'] >= 4, found)
     page.turn(5)
     page.turn(5)
+    seen.open(f'{page.hall.address}?loop=1#g3')
+    until(lambda: seen.at(GAP(3)), True)
+    found = seen.script(WAYS)
+    tally.check('at 400 percent: what is lit is seen', found['lit'], found)
+    tally.check('at 400 percent: every way to other views', found['scrolls'] == 'auto' and found['ways'] == [
+        'Whole paper', 'Out to loop 0', 'Dependences'], found)
+    seen.screen(1280, 800, 1)
+
+
+def wide(tally: Tally, page: Page) -> None:
+    """At 400 percent a gap that is wider than the window is shown with its number."""
+    seen = page.browser
+    seen.screen(1280, 1024, 4)
+    for gap in (3, 9, 1):
+        seen.open('about:blank')
+        seen.open(f'{page.hall.address}#g{gap}')
+        until(lambda: seen.at(GAP(gap)), True)
+        left = seen.script('return document.querySelector(arguments[0]).getBoundingClientRect().left',
+                           f'[data-barrier="{gap}"] rect')
+        tally.check(f'at 400 percent: the number of gap {gap}', 0 <= left < 300, left)
     seen.screen(1280, 800, 1)
 
 
@@ -201,5 +235,7 @@ def readers(tally: Tally, seen: Browser, folder: pathlib.Path) -> None:
             chosen(tally, page)
             chosen_alone(tally, page)
             near(tally, page)
+        if name == 'deep':
+            wide(tally, page)
         media(seen)
         hall.end()
