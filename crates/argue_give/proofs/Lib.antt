@@ -1,0 +1,7 @@
+-- Laws of claims that are given one after the other: one claim more; the claims of a row; those of a loop; those of
+-- all loops.
+pub mod Giving
+pub mod Rowing
+pub mod Heads
+pub mod Points
+pub mod Looping

@@ -1,0 +1,3 @@
+-- The claims of loops, given one after the other.
+pub mod Given
+pub mod Whole
