@@ -1,26 +1,24 @@
 -- Claims given one after the other: one claim more, and lists of heads behind each other.
 -- Main statements: `gives-none`, `gives-then`, `gives-under`, `gives-as`, `gives-one`, `gives-many`.
 use mathlib.Core.Path.{_≡_, refl, sym, _∙_, ap}
-use mathlib.Core.Bool.{Bool, true, false}
 use mathlib.Core.List.{List, [], _∷_, _++_, append-nil, append-assoc}
-use Prim.Native.Nat.{ℕ, zero, suc, _+_, _-_, _*_, _%_, _≤_, _<_}
+use Prim.Native.Nat.{ℕ, zero, suc, _+_, _-_, _%_, _≤_, _<_}
 use native.Mathlib.Omega.{arith}
 use lib.ListN.{length, set, length-append}
 use lib.Seq.{getD-set-same, getD-set-other}
 use Rattle.laws.specs.Entries.{at}
 use Rattle.paper_nests.specs.Nests.{Dep}
-use Rattle.paper_nests.specs.Loops.{endOf}
 use Rattle.paper_nests.specs.declared.Nest as DN
 use Rattle.paper_nests.specs.Stored.{nestIn}
 use Rattle.plan_method.specs.Sweep.{Tables}
 use Rattle.argue_claims.specs.Arguments.{Claim, claim}
-use Rattle.argue_texts.specs.ArgumentTexts.{CLAIMS, CLAIM, stepsText, argumentText}
-use Rattle.argue_key.specs.Laps.{before, Head, head, fewFor, isFrom, findClaim, leadIn, stepsFor, laps, claimFor, made}
-use Rattle.argue_spell.specs.Added.{FAR, headText, Added}
+use Rattle.argue_texts.specs.ArgumentTexts.{CLAIMS, stepsText, argumentText}
+use Rattle.argue_key.specs.Laps.{before, Head, head, fewFor, findClaim, stepsFor, claimFor, made}
+use Rattle.argue_spell.specs.Added.{headText, Added}
 use Rattle.argue_spell.proofs.Adding.{added-then, added-as}
-use Rattle.argue_trace.specs.Traced.{claimsAt, HeadsRoom}
-use Rattle.argue_laps.specs.Lapped.{LAP, LapRoom, LapGround, LapsSay}
-use Rattle.argue_give.specs.Given.{BYTES, bareAll, Given, Gives, GiveRoom, GiveGround}
+use Rattle.argue_trace.specs.Traced.{claimsAt}
+use Rattle.argue_laps.specs.Lapped.{LapRoom, LapGround, LapsSay}
+use Rattle.argue_give.specs.Given.{bareAll, Gives, GiveRoom, GiveGround}
 
 pub before-is : (x : ℕ) → (x ≡ 0 → ⊥) → x - 1 ≡ before x
 before-is zero n = absurd (n refl)

@@ -1,20 +1,19 @@
 -- The claims of a loop: the low one, and those that say where it has no gap.
 -- Main statements: `room-again`, `low-ground`, `side-ground`, `sides-are`, `heads-are`, `heads-outermost`.
 use mathlib.Core.Path.{_≡_, refl, sym, _∙_, ap}
-use mathlib.Core.Bool.{Bool, true, false, _&&_}
+use mathlib.Core.Bool.{true}
 use mathlib.Core.List.{List, [], _∷_, _++_, append-nil}
-use Prim.Native.Nat.{ℕ, zero, suc, _+_, _≤_, _<_}
+use Prim.Native.Nat.{ℕ, zero, suc, _+_, _<_}
 use native.Mathlib.Omega.{arith}
-use lib.Dec.{eqb, ltb}
+use lib.Dec.{ltb}
 use lib.ListN.{length}
-use borrow.Author.Tests.{eq-eqb, ne-eqb, lt-ltb, le-ltb, ltb-true}
+use borrow.Author.Tests.{ne-eqb, lt-ltb, ltb-true}
 use Rattle.laws.specs.Choice.{pick}
-use Rattle.paper_nests.specs.Loops.{endOf}
 use Rattle.paper_nests.specs.declared.Nest as DN
 use Rattle.plan_method.specs.Sweep.{Tables}
 use Rattle.plan_sweeps.specs.Listed.{row}
-use Rattle.argue_key.specs.Laps.{before, Head, head, fewFor, lowHeads, sideHeads, rowHeads}
-use Rattle.argue_give.specs.Given.{GiveRoom, GiveGround, RowGround}
+use Rattle.argue_key.specs.Laps.{before, head, fewFor, lowHeads, sideHeads, rowHeads}
+use Rattle.argue_give.specs.Given.{GiveRoom, RowGround}
 
 -- room, as before
 pub room-again : {nest : DN.Nest} {ps own left : List ℕ} {kids : ℕ}

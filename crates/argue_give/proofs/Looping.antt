@@ -1,21 +1,20 @@
 -- The claims of all loops, from the last DO to the first.
 -- Main definition: `Looping`, what a turn keeps. Main statements: `loops-begin`, `loops-on`, `loops-done`.
 use mathlib.Core.Path.{_≡_, refl, sym, _∙_, ap}
-use mathlib.Core.List.{List, [], _∷_, _++_, append-nil, append-assoc}
+use mathlib.Core.List.{List, [], _++_, append-nil, append-assoc}
 use Prim.Native.Nat.{ℕ, zero, suc, _+_, _-_, _*_, _≤_, _<_}
 use native.Mathlib.Omega.{arith}
 use lib.ListN.{length}
 use Rattle.paper_nests.specs.declared.Nest as DN
 use Rattle.paper_nests.specs.Stored.{nestIn}
 use Rattle.plan_method.specs.Sweep.{Tables}
-use Rattle.argue_texts.specs.ArgumentTexts.{CLAIMS, argumentText}
-use Rattle.argue_key.specs.Laps.{Head, loopHeads, headsFrom, made}
-use Rattle.argue_spell.specs.Added.{Added}
+use Rattle.argue_texts.specs.ArgumentTexts.{argumentText}
+use Rattle.argue_key.specs.Laps.{Head, loopHeads, headsFrom}
 use Rattle.argue_spell.proofs.Adding.{added-none}
 use Rattle.argue_trace.specs.Traced.{claimsAt}
-use Rattle.argue_give.specs.Given.{bareAll, Given, Gives}
+use Rattle.argue_give.specs.Given.{bareAll, Gives}
 use Rattle.argue_give.specs.Whole.{TableGround, ListsRoom, GivenAll}
-use Rattle.argue_give.proofs.Giving.{gives-none, gives-then, gives-as}
+use Rattle.argue_give.proofs.Giving.{gives-none, gives-then}
 
 -- the last loop's heads come first
 heads-top : (ps : List ℕ) (T : Tables) (k d : ℕ) (hs : List Head) →

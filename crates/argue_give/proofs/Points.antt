@@ -1,21 +1,19 @@
 -- The claims of the loop at a point, from the tables of the nest.
 -- Main statements: `point-other`, `point-idle`, `point-heads`, `point-room`, `point-row`, `point-ground`.
-use mathlib.Core.Path.{_≡_, refl, sym, _∙_, ap}
-use mathlib.Core.Bool.{Bool, true, false, _&&_}
+use mathlib.Core.Path.{_≡_, _∙_, ap}
+use mathlib.Core.Bool.{true}
 use mathlib.Core.List.{List, [], _++_}
 use mathlib.Core.Logic.{⊎-elim}
 use Prim.Native.Nat.{ℕ, suc, _+_, _-_, _*_, _≤_, _<_}
 use native.Mathlib.Omega.{arith}
-use lib.Dec.{eqb, ltb}
+use lib.Dec.{ltb}
 use lib.ListN.{length, getD}
 use borrow.Author.Tests.{eq-eqb, ne-eqb, lt-ltb}
-use Rattle.laws.specs.Choice.{pick}
 use Rattle.laws.specs.Entries.{at}
 use Rattle.laws.proofs.Tests.{and-intro, le-or}
 use Rattle.laws.proofs.Connectives.{and-off}
 use Rattle.paper_nests.specs.Loops.{isDo, endOf}
 use Rattle.paper_nests.specs.declared.Nest as DN
-use Rattle.paper_nests.specs.Stored.{nestIn}
 use Rattle.paper_nests.proofs.Loops.{end-after, end-there}
 use Rattle.plan_method.specs.Sweep.{Tables}
 use Rattle.plan_method.specs.Home.{loopsIn}
@@ -25,9 +23,9 @@ use Rattle.plan_starts.specs.Grounds.{Kept}
 use Rattle.plan_rows.specs.Made.{Copied}
 use Rattle.plan_settle.specs.Settled.{HasHeight}
 use Rattle.plan_settle.proofs.Heights.{height-low, height-high, child-height}
-use Rattle.argue_key.specs.Laps.{Head, lowHeads, sideHeads, loopHeads}
+use Rattle.argue_key.specs.Laps.{lowHeads, sideHeads, loopHeads}
 use Rattle.argue_spell.specs.Added.{WORD}
-use Rattle.argue_give.specs.Given.{GiveRoom, GiveGround, RowRoom, RowGround}
+use Rattle.argue_give.specs.Given.{GiveRoom, RowRoom, RowGround}
 use Rattle.argue_give.specs.Whole.{GiveTables, TableGround, ListsRoom}
 
 -- a point that is no DO

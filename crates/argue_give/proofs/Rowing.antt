@@ -4,20 +4,18 @@
 use mathlib.Core.Path.{_≡_, refl, sym, _∙_, ap}
 use mathlib.Core.Bool.{Bool, true, false, _&&_, _||_, not}
 use mathlib.Core.List.{List, [], _∷_, _++_, append-nil, append-assoc}
-use Prim.Native.Nat.{ℕ, zero, suc, _+_, _-_, _*_, _≤_, _<_}
+use Prim.Native.Nat.{ℕ, zero, suc, _+_, _-_, _≤_, _<_}
 use native.Mathlib.Omega.{arith}
-use lib.Dec.{eqb, ltb}
+use lib.Dec.{eqb}
 use lib.ListN.{length}
 use borrow.Author.Tests.{eqb-false, eq-eqb, ne-eqb, lt-ltb, le-ltb}
 use Rattle.laws.specs.Choice.{pick}
-use Rattle.paper_nests.specs.Nests.{Dep}
 use Rattle.paper_nests.specs.declared.Nest as DN
 use Rattle.paper_nests.specs.Stored.{nestIn}
 use Rattle.plan_method.specs.Sweep.{Tables}
 use Rattle.plan_sweeps.specs.Listed.{row}
-use Rattle.argue_texts.specs.ArgumentTexts.{CLAIMS}
 use Rattle.argue_key.specs.Laps.{before, Head, head, fewFor, startsRun, rowHeads}
-use Rattle.argue_give.specs.Given.{BYTES, Gives, GiveRoom, GiveGround, RowGround, runAt}
+use Rattle.argue_give.specs.Given.{Gives, GiveRoom, GiveGround, RowGround, runAt}
 use Rattle.argue_give.proofs.Giving.{gives-none, gives-then, gives-as, gives-under}
 
 -- ---- the test

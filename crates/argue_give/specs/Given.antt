@@ -7,7 +7,6 @@ use mathlib.Core.List.{List, [], _∷_, _++_}
 use Prim.Native.Nat.{ℕ, suc, _+_, _*_, _≤_, _<_}
 use lib.Dec.{eqb}
 use lib.ListN.{length}
-use Rattle.laws.specs.Choice.{pick}
 use Rattle.laws.specs.Entries.{at}
 use Rattle.paper_nests.specs.Loops.{isDo, endOf, ownerOf}
 use Rattle.paper_nests.specs.Valid.{isShape}

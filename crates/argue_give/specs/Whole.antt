@@ -16,7 +16,7 @@ use Rattle.plan_tables.specs.Charts.{HeightsAre}
 use Rattle.plan_sweeps.specs.Listed.{row}
 use Rattle.plan_settle.specs.Settled.{HasHeight, Charts}
 use Rattle.argue_texts.specs.ArgumentTexts.{CLAIMS, argumentText}
-use Rattle.argue_key.specs.Laps.{Head, headsFrom, made}
+use Rattle.argue_key.specs.Laps.{headsFrom, made}
 use Rattle.argue_sets.specs.Numbered.{lineSet}
 use Rattle.argue_spell.specs.Added.{WORD, Added}
 
