@@ -348,6 +348,9 @@ for (const [d, item] of items) {
     item.addEventListener('click', () => goToDependence(d));
 }
 element('dependences').addEventListener('pointerleave', () => look(null));
+document.querySelector('.where').addEventListener('focusin', (event) => {
+    event.target.scrollIntoView({ block: 'nearest', inline: 'nearest' });
+});
 element('find').addEventListener('submit', (event) => {
     event.preventDefault();
     goTo(element('place').value);

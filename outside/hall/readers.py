@@ -2,7 +2,7 @@
 a strong zoom."""
 import pathlib
 
-from outside.hall.browser import DOWN, Browser, until
+from outside.hall.browser import DOWN, TAB, Browser, until
 from outside.hall.opened import Hall
 from outside.hall.pages import GAP, Page
 from outside.measure import papers
@@ -203,6 +203,14 @@ def near(tally: Tally, page: Page) -> None:
     tally.check('at 400 percent: what is lit is seen', found['lit'], found)
     tally.check('at 400 percent: every way to other views', found['scrolls'] == 'auto' and found['ways'] == [
         'Whole paper', 'Out to loop 0', 'Dependences'], found)
+    seen.open(f'{page.hall.address}?loop=0')
+    until(lambda: seen.script('return document.getElementById("state").textContent') != '', True)
+    seen.press(TAB, TAB, TAB)
+    for way in ('Whole paper', 'Unfold', 'Dependences'):
+        seen.press(TAB)
+        at = seen.script('''const box = document.activeElement.getBoundingClientRect();
+            return [document.activeElement.textContent, box.left >= 0 && box.right <= innerWidth];''')
+        tally.check(f'at 400 percent: Tab goes to {way}', at == [way, True], at)
     seen.screen(1280, 800, 1)
 
 
