@@ -17,7 +17,7 @@ from office import argued
 from office.claim_words import NONE_FOUND, claims_told
 from office.claims import Claim, Ground, argument_text, claims_in
 from office.laps import Laps
-from office.library import Desk
+from office.library import Desk, refusal_of
 from office.listing import spelled
 from office.paper import Paper, Placed, paper_on, placed
 from office.refusal import Refusal, Refused
@@ -28,6 +28,8 @@ from outside.trying import DESK, EXAMPLES, ROOT, Seen, Tally, run
 
 # A random paper has so many barred gaps; so many sets a barrier are enough, in the mean of all.
 BARRED, REASONS = 3, 1.15
+# The number of an argument that does not hold.
+UNHELD = 21
 
 
 # Q's argument as it is told.
@@ -92,7 +94,7 @@ class Found:
     """A paper with its key, the claims that are found and those that are left of them."""
 
     def __init__(self, text: bytes) -> None:
-        desk = Desk()
+        self.desk = desk = Desk()
         desk.load(text)
         desk.plan()
         self.text, self.key_text = text, desk.key()
@@ -112,8 +114,19 @@ class Found:
         except ValueError:
             return None
 
+    def agree(self, lines: bytes, gaps: list[int]) -> bool:
+        """Whether the desk says the same as the checker of an argument for some gaps, which are correct: that it holds,
+        the line that does not, or that it is not read."""
+        said, placement = self.said(lines, gaps), b''.join(b'21%02x\n' % gap for gap in gaps)
+        refusal = refusal_of(lambda text: self.desk.weigh_placement(placement, text), lines)
+        if refusal is None or refusal.number == UNHELD:
+            return said == (0, '') if refusal is None else said is not None and said[0] == refusal.line
+        return said is None
+
     def holds(self, tally: Tally, name: str) -> None:
-        """Both lists hold, the shorter is no longer, and each is its text."""
+        """Both lists hold, the shorter is no longer, and each is its text; the shorter is what the office tells."""
+        told = argued.argument_of(self.paper, self.key.counts, self.desk.weigh)
+        tally.check(f'{name} is told', told == argument_text(self.short), told)
         for claims in (self.plain, self.short):
             said = self.said(argument_text(claims))
             tally.check(f'{name}: {said}', said == (0, ''), argument_text(claims))
@@ -151,6 +164,8 @@ class Found:
             for lines in (b''.join(rows), damaged(rows, rng)):
                 said = self.said(lines, more)
                 tally.check(f'{name}, {more}: {lines!r}', said is None or said[1] != '', said)
+                tally.check(f'{name}, {more}: {lines!r} by the desk', self.agree(lines, more))
+                tally.check(f'{name}, the key: {lines!r} by the desk', self.agree(lines, self.key.gaps))
 
 
 def damaged(rows: list[bytes], rng: random.Random) -> bytes:
@@ -329,7 +344,7 @@ def not_found(tally: Tally) -> None:
         def weigh(self, text: bytes) -> None:
             self.calls -= 1
             if self.calls:
-                raise Refused(Refusal(21, 1))
+                raise Refused(Refusal(UNHELD, 1))
 
     desk = Deaf()
     desk.load(EXAMPLES['q'])
