@@ -1,0 +1,2 @@
+-- The argument of a paper, in a buffer.
+pub mod Spelled
