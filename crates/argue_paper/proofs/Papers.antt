@@ -1,7 +1,7 @@
 -- The argument of a paper is that of its nest, or of the nest of the gaps that are not barred.
 -- Main statements: `spelled-open`, `ring-open`, `spelled-ring`.
 use mathlib.Core.Path.{_≡_, refl, sym, _∙_, subst}
-use mathlib.Core.Bool.{true, false}
+use mathlib.Core.Bool.{false}
 use mathlib.Core.List.{List}
 use Prim.Native.Nat.{ℕ}
 use lib.ListN.{length}

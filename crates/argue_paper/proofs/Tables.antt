@@ -16,16 +16,14 @@ use Rattle.paper_nests.specs.declared.Nest as DN
 use Rattle.paper_nests.specs.Stored.{nestIn, IsCounted}
 use Rattle.plan_method.specs.Sweep.{Tables}
 use Rattle.plan_method.specs.Plan.{tableOf}
-use Rattle.plan_method.specs.Home.{loopsIn, linesIn, reachOf}
+use Rattle.plan_method.specs.Home.{loopsIn, linesIn}
 use Rattle.plan_method.proofs.Cuts.{in-outermost}
 use Rattle.plan_tables.specs.Charts.{TABLE, Rows}
 use Rattle.plan_tables.specs.Prepared.{Prepared}
 use Rattle.plan_tables.proofs.Preparing.{points-of, fits-of}
-use Rattle.plan_sweeps.specs.Listed.{row}
 use Rattle.plan_settle.specs.Settled.{HasHeight, Unset, SettleSays}
 use Rattle.plan_nest.proofs.Planning.{charts, lines}
 use Rattle.argue_claims.specs.Arguments.{Claim}
-use Rattle.argue_texts.specs.ArgumentTexts.{CLAIMS, argumentText}
 use Rattle.argue_key.specs.Laps.{Head, headsFrom, claimFor, made, plainArgument}
 use Rattle.argue_sets.specs.Numbered.{lineSet, Unnumbered}
 use Rattle.argue_spell.specs.Added.{WORD}
