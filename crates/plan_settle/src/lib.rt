@@ -1,7 +1,7 @@
 // Settling a loop: its row and the rows of all loops inside it, the inner ones first.
 ghost use mathlib.Core.Path.{_≡_};
 ghost use mathlib.Core.Bool.{true};
-ghost use Prim.Native.Nat.{_≤_, _<_};
+ghost use Prim.Native.Nat.{_≤_};
 ghost use lib.ListN.{length};
 ghost use Rattle.paper_nests.specs.Loops.{isDo, endOf};
 ghost use Rattle.plan_rows.specs.Made.{ListsRoom};
