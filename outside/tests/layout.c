@@ -175,6 +175,7 @@ typedef void *OnSheet(void *, size_t, size_t, const uint16_t *, size_t, const ui
 typedef void *OnTexts(void *, const uint8_t *, size_t, const uint8_t *, size_t, uint8_t *, size_t);
 typedef void *OnBoth(void *, Desk, const uint8_t *, size_t, uint8_t *, size_t);
 
+/* A DeskWeighed of 16 bytes is given in registers, and no memory is written: weighing() reads its fields. */
 static void sizes(Desk desk, DeskPlain plain) {
     GIVES(Fresh, desk_version, sizeof(DeskVersion), room);
     GIVES(Fresh, desk_new, sizeof(Desk), room);
@@ -198,8 +199,6 @@ static void sizes(Desk desk, DeskPlain plain) {
     GIVES(OnText, desk_count_calls, sizeof(DeskCalls), room, desk, P, 0);
     GIVES(OnTwo, desk_placement_calls, sizeof(DeskCalls), room, desk, P, 0, P, 0);
     GIVES(OnTwo, desk_compare, sizeof(DeskCompared), room, desk, P, 0, P, 0);
-    GIVES(OnText, desk_weigh, sizeof(DeskWeighed), room, desk, P, 0);
-    GIVES(OnTwo, desk_weigh_placement, sizeof(DeskWeighed), room, desk, P, 0, P, 0);
     GIVES(OnTurns, desk_improve, sizeof(DeskImproved), room, desk, P, 0, 10);
     GIVES(OnSheet, desk_sheet, sizeof(DeskRunEnds), room, 2, 2, WORK, 4, WAITS, 2);
     GIVES(OnTexts, desk_join, sizeof(DeskJoined), room, P, 0, P, 0, lent, sizeof lent);
