@@ -337,14 +337,19 @@ pub fn random_text(random: &mut Random, desk: &Desk, placement: &[usize]) -> Vec
     if random.one_in(6) { damage(random, &text, nest.points.len()) } else { text }
 }
 
-/// Small papers with arguments for their keys and for other placements, as drawn and altered.
+/// The arguments of P, Q and R, Q's with a step more, for which nothing is known to be empty any longer; small papers
+/// with arguments for their keys and for other placements, as drawn and altered.
 pub fn arguments() -> Vec<Vec<Call>> {
+    let more = format!("{FOR_Q} 330000");
+    let told = [(P, FOR_P), (Q, FOR_Q), (Q, &more), (R, FOR_R)];
+    let told = told.map(|(paper, argument)| vec![load(paper), Call::Plan, Call::Weigh(words(argument))]);
     let papers = (0..DRAWN).map(|case| {
         let random = &mut Random::new(33, case);
         let nest = if random.one_in(4) { small_barred(random) } else { small_nest(random) };
         (Random::new(34, case), nest)
     });
-    papers.filter(|(_, nest)| !nest.blocked()).map(|(mut random, nest)| asked_of(&mut random, &nest)).collect()
+    let drawn = papers.filter(|(_, nest)| !nest.blocked());
+    told.into_iter().chain(drawn.map(|(mut random, nest)| asked_of(&mut random, &nest))).collect()
 }
 
 fn asked_of(random: &mut Random, nest: &Nest) -> Vec<Call> {
@@ -406,6 +411,7 @@ pub fn check_arguing(checks: &mut Checks) {
         (P, &[5, 11], "31010000 330004", (UNHELD, 2, 2)), (P, &[5, 11], "31010000 320000 330000", (UNHELD, 2, 3)),
         (Q, &[2, 6], FOR_Q, (0, 0, 0)), (Q, &[4, 7], FOR_Q, (UNHELD, 2, 8)),
         (Q, &[2, 6], "31030000 330001 31000000 330002 330000", (UNHELD, 2, 4)),
+        (Q, &[2, 6], &format!("{FOR_Q} 330000"), (UNHELD, 2, 10)),
         (R, &[1, 4], FOR_R, (0, 0, 0)), (R, &[1, 4], "31000000 330001 330002", (UNHELD, 2, 1)),
         (R, &[1, 4, 7], FOR_R, (UNHELD, 2, 1)),
         (P, &[], "zz", (1, 2, 1)), (P, &[], "310100", (2, 2, 1)), (P, &[], "330000", (4, 2, 1)),
