@@ -38,8 +38,8 @@ class Register:
         self.under_way = self.kept = 0
 
     def connected(self) -> sqlite3.Connection:
-        """A connection to the file, if it is a register of a form that is known. Who reads may have to mend first what a
-        desk left that was killed, so the file is opened for writing where it may be."""
+        """A connection to the file, if it is a register of a form that is known. Who reads may have to mend first what
+        a desk left that was killed, so the file is opened for writing where it may be."""
         place = pathlib.Path(os.path.abspath(self.file)).as_uri()
         patience = QUIET if self.writing else PATIENCE
         made = sqlite3.connect(f'{place}?mode=rw', uri=True, isolation_level=None, timeout=patience)

@@ -40,8 +40,9 @@ def arguments(parser: argparse.ArgumentParser) -> None:
                         'not say otherwise; then what stands is collected')
     parser.add_argument('--until', metavar='HH:MM', help='the time of day at which what stands is collected, for all '
                         'for whom the list has no minutes')
-    parser.add_argument('--go-on', action='store_true', help="says that this machine's clock is right, where nothing was "
-                        'kept for more than 12 hours and somebody is under way')
+    parser.add_argument('--go-on', action='store_true',
+                        help="says that this machine's clock is right, where nothing was kept for more than 12 hours "
+                        'and somebody is under way')
     parser.add_argument('--practice', action='store_true',
                         help='tells also which dependences are cut; without it only how many are not')
     parser.add_argument('--bind', metavar='ADDRESS', default=HERE,

@@ -77,8 +77,8 @@ def parts(scripts: int = SCRIPTS, programs: int = PROGRAMS) -> dict[str, Part]:
 
 
 def counted(name: str, part: Part) -> tuple[int, int]:
-    """Runs a part and shows what it prints; how much passed and failed. A part that should count and has no closing line
-    has failed, whatever its status."""
+    """Runs a part and shows what it prints; how much passed and failed. A part that should count and has no closing
+    line has failed, whatever its status."""
     print(f'== {name}: {part.about}', flush=True)
     closing, begun = None, time.monotonic()
     with subprocess.Popen(part.command, cwd=ROOT, stdout=subprocess.PIPE, stderr=subprocess.STDOUT, text=True,

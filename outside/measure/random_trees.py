@@ -1,8 +1,8 @@
 """Plan on random trees of loops: random_trees.py PROGRAM prints, for 64, 128 and 256 points, the mean of 100 papers.
 
-Instructions as `instructions` beside this counts them: what the accepted text costs beyond one that is refused on a line after
-its last. Beside them the gaps of all loops, each gap once for every loop around it: what the planner's passes go over;
-and the most that the whole program takes on one of the papers.
+Instructions as `instructions` beside this counts them: what the accepted text costs beyond one that is refused on a line
+after its last. Beside them the gaps of all loops, each gap once for every loop around it: what the planner's passes go
+over; and the most that the whole program takes on one of the papers.
 """
 import re
 import subprocess

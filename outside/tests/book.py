@@ -256,8 +256,8 @@ def form_of(register: pathlib.Path) -> int:
 
 
 def forms(tally: Tally, folder: pathlib.Path) -> None:
-    """A register of the first form is read and added to as it is. The first names of statements bring it into the newest
-    form, and nothing else of it changes."""
+    """A register of the first form is read and added to as it is. The first names of statements bring it into the
+    newest form, and nothing else of it changes."""
     known = hashlib.sha256(SCHEMAS[1].encode()).hexdigest()
     tally.check('the first form is as it was', known == FIRST_FORM, known)
     register, paper, names = folder / 'first.db', folder / 'p.hex', folder / 'p.names'
@@ -320,7 +320,8 @@ CHANGES = [
         'paper p: its text has another hash', 'mark 1, anna on p: Best is kept, and Refused']),
     ('no answer', 'PRAGMA foreign_keys=OFF; DELETE FROM answer', False, ['what mark 1 names in answer is not there']),
     ('names of no point', "INSERT INTO names SELECT sha256, CAST('sha256 ' || sha256 || x'0a393920780a' AS BLOB) "
-     'FROM paper', False, ['paper p: its names are not as they were taken in: line 2: point 99 is no statement and no DO']),
+     'FROM paper', False, [
+         'paper p: its names are not as they were taken in: line 2: point 99 is no statement and no DO']),
     ('names of none', "INSERT INTO names SELECT sha256, CAST('2 update' AS BLOB) FROM paper", False, [
         'paper p: its names are not as they were taken in: line 1 is not sha256 and the hash of this paper']),
     ('no rule', 'DROP TRIGGER mark_in_turn', False, ['trigger mark_in_turn is not as a register has it']),

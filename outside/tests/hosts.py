@@ -61,7 +61,7 @@ def check_said(tally: Tally) -> None:
 
 
 def check_version(tally: Tally) -> None:
-    """One version: the file's is the header's, and the newest of the changes; layout.c holds the library's beside it."""
+    """One version: the file's is the header's and the newest of the changes; layout.c holds the library's beside it."""
     version = (ROOT / 'VERSION').read_text().strip()
     header = [re.search(rf'DESK_{part} = (\d+)', HEADER.read_text()).group(1) for part in ('MAJOR', 'MINOR', 'PATCH')]
     newest = re.search(r'^## (\S+)$', (ROOT / 'CHANGELOG.md').read_text(), re.M).group(1)
