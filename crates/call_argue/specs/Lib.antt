@@ -1,0 +1,2 @@
+-- The argument of the key, given: what the call promises.
+pub mod Says
