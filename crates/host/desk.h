@@ -365,6 +365,10 @@ DeskCompared desk_compare(Desk desk, const uint8_t *a, size_t first, const uint8
 DeskWeighed desk_weigh(Desk desk, const uint8_t *text, size_t length);
 DeskWeighed desk_weigh_placement(Desk desk, const uint8_t *placement, size_t gaps, const uint8_t *text, size_t length);
 
+/* Writes the argument of the key as text, as desk_write writes the key; desk_weigh weighs it. Numbers 10, 11; 5, where it
+   has more claims than a text may have; 9, and then the value is the length that is wanted. */
+DeskAnswer desk_argue(Desk desk, uint8_t *out, size_t length);
+
 /* A desk in use goes over from the kind before sittings: the nest is kept, the sitting is empty, and where there was a
    key it is worked out anew, unless Plan would refuse. `old` has a nest that desk_load accepted, or none (count, many,
    bars and flags 0) and then no key. */

@@ -20,7 +20,7 @@ use Rattle.desk.specs.declared.Desk as DD
 use Rattle.desk.specs.declared.Answer as DA
 use Rattle.desk.specs.Desks.{deskIn, stateFault}
 use Rattle.desk.specs.Says.{RefusedAs}
-use Rattle.call_argue.specs.Says.{textOf, roomFault, argueFault, ArguedAs, ArgueSays, CountedAs, AnswersShort}
+use Rattle.call_argue.specs.Says.{textOf, roomFault, argueFault, ArgueSays, CountedAs, AnswersShort}
 
 -- the state gives no 9
 state-number : (a b : Bool) → eqb (firstOf (when (not a) 10) (when (not b) 11)) 9 ≡ false

@@ -9,7 +9,6 @@ use lib.ListN.{length}
 use Rattle.laws.specs.Choice.{pick, when, firstOf}
 use Rattle.paper_nests.specs.Nests.{Nest}
 use Rattle.paper_lines.specs.Writing.{over}
-use Rattle.argue_claims.specs.Arguments.{Claim}
 use Rattle.argue_texts.specs.ArgumentTexts.{CLAIMS, argumentText}
 use Rattle.argue_key.specs.Laps.{argumentOf}
 use Rattle.argue_give.specs.declared.Sofar.{Sofar}

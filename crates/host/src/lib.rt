@@ -1,5 +1,6 @@
 // The desk for programs in other languages: each call under its C name, over structs laid out as C lays them out. Most
 // only forward. desk.h beside this folder declares them all.
+ghost use Rattle.call_argue.specs.Says.{ArgueSays};
 ghost use Rattle.call_argument.specs.Says.{WeighSays, WeighPlacementSays};
 ghost use Rattle.call_compare.specs.Says.{CompareSays};
 ghost use Rattle.call_runs.specs.Says.{CallsSays, PlacementSays};
@@ -261,6 +262,14 @@ pub extern "C" fn desk_weigh_placement(desk: Desk, placement: &[u8], text: &[u8]
     ensures { λ r. ⌜ WeighPlacementSays desk (now (placement .entry)) (now (text .entry)) r ⌝ }
 {
     call_argument::weigh_placement(desk, placement, text)
+}
+
+#[no_mangle]
+pub extern "C" fn desk_argue(desk: Desk, out: &mut [u8]) -> Answer
+    requires { ⌜ IsMade desk ⌝ }
+    ensures { λ r. ⌜ ArgueSays desk (now (out .entry)) (now (out .exit)) r ⌝ }
+{
+    call_argue::argue(desk, out)
 }
 
 #[no_mangle]
