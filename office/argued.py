@@ -8,7 +8,6 @@ from dataclasses import dataclass
 from office.claim_words import ABOUT, NONE_FOUND, NOTHING, Told, claims_told, closing, long
 from office.claims import Followed, Ground, Taken, argument_text, claims_in
 from office.frames import CUTS, FROM
-from office.laps import Laps
 from office.library import Desk, refusal_of
 from office.paper import Paper
 from office.shorter import shortened
@@ -40,12 +39,11 @@ class Argued:
         return {'text': self.text.decode(), 'sha256': self.sha256, 'claims': claims, 'words': words}
 
 
-def argument_of(paper: Paper, counts: dict[int, int], weigh: Callable[[bytes], object]) -> bytes | None:
-    """The text of an argument that a call finds to hold of a key, or of a placement with the key's counts: one that was
-    made shorter, or in its stead the one that was found; None if neither holds."""
-    found = Laps(paper, counts).claims
-    for claims in (shortened(Ground(paper, counts), found), found):
-        text = argument_text(claims)
+def argument_of(desk: Desk, paper: Paper, counts: dict[int, int], weigh: Callable[[bytes], object]) -> bytes | None:
+    """The text of an argument that a call finds to hold of a key, or of a placement with the key's counts: the one that
+    the desk gives made shorter, or in its stead that one itself; None if neither holds."""
+    plain = desk.argue()
+    for text in (argument_text(shortened(Ground(paper, counts), claims_in(plain))), plain):
         if refusal_of(weigh, text) is None:
             return text
     return None
@@ -53,7 +51,7 @@ def argument_of(paper: Paper, counts: dict[int, int], weigh: Callable[[bytes], o
 
 def argued(desk: Desk, paper: Paper, counts: dict[int, int]) -> Argued | None:
     """The argument of the key on a desk, whose counts are given; None if none is found."""
-    text = argument_of(paper, counts, desk.weigh)
+    text = argument_of(desk, paper, counts, desk.weigh)
     if text is None:
         return None
     known = Ground(paper, counts).follow(claims_in(text))

@@ -115,7 +115,7 @@ class Audit:
         """The argument for the key of a paper, weighed."""
         if desk is None:
             return []
-        text = argument_of(paper_on(desk), placed(desk, desk.key()).counts, desk.weigh)
+        text = argument_of(desk, paper_on(desk), placed(desk, desk.key()).counts, desk.weigh)
         if text is None:
             return ['no argument for its key was found that holds']
         self.arguments[sha256] = text

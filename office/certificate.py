@@ -82,7 +82,7 @@ def main(asked: argparse.Namespace) -> None:
         given = register.certificate(mark.certificate())
         if given is None:
             raise Fault(f'the certificate {mark.certificate()} is not in the register')
-        argument = argument_of(on.paper, placed(on.desk, answer).counts,
+        argument = argument_of(on.desk, on.paper, placed(on.desk, answer).counts,
                                lambda text: on.desk.weigh_placement(answer, text))
         page = certificate_page(office, stored.called(mark), on, mark, given[1], argument)
     if asked.html is None:

@@ -15,6 +15,8 @@ from office.places import SHARED
 from office.refusal import Refusal, Refused
 
 TEXT, SLIP = DECLARED.numbers['DESK_TEXT'], DECLARED.numbers['DESK_SLIP']
+# The number of a buffer that is too short.
+SHORT = 9
 UNCUT, DEARER, BEST = (DECLARED.numbers[f'DESK_{verdict}'] for verdict in ('UNCUT', 'DEARER', 'BEST'))
 
 
@@ -172,6 +174,14 @@ class Desk:
     def weigh_placement(self, placement: bytes, text: bytes) -> None:
         """An argument text beside a placement text: refused, unless it holds."""
         given(library().desk_weigh_placement(self.held, placement, len(placement), text, len(text)))
+
+    def argue(self) -> bytes:
+        """The argument of the key as a text. A buffer that is too short is told how long it should be."""
+        wanted = library().desk_argue(self.held, ctypes.create_string_buffer(1), 0)
+        if wanted.number == SHORT:
+            return self.written(library().desk_argue, wanted.value)
+        given(wanted)
+        return b''
 
     def candidate_slip(self, text: bytes) -> bytes:
         return self.written(library().desk_candidate_slip, SLIP, text, len(text))

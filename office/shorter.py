@@ -35,10 +35,11 @@ class Shorter:
         for number in reversed(range(len(self.claims))):
             if number in self.asked and not self.passed_on(number):
                 self.keep(number)
-        places = {number: place for place, number in enumerate(sorted(self.kept))}
+        order = sorted(self.kept, key=lambda number: (self.ground.paper.end[self.claims[number].loop], number))
+        places = {number: place for place, number in enumerate(order)}
         return [replace(claim, steps=tuple(step if step.led is None else replace(step, led=places[step.led])
                                            for group in groups for step in group))
-                for _, (claim, groups) in sorted(self.kept.items())]
+                for claim, groups in map(self.kept.__getitem__, order)]
 
     def keep(self, number: int) -> None:
         """Keeps a claim: what is asked of it, and as few groups of it as are found."""

@@ -54,7 +54,7 @@ def parts(scripts: int = SCRIPTS, programs: int = PROGRAMS) -> dict[str, Part]:
         'reading': Part("the judge's check of itself", [judge, '--self-check']),
         'scripts': Part('every call beside the judge', [judge, '--scripts', '1', str(scripts)]),
         'judge': Part('the program beside the judge', [judge, str(PROGRAM), '1', str(programs)]),
-        'arguing': module('the arguments that the office finds, beside the checker', 'tests.arguing'),
+        'arguing': module('the arguments that the desk gives, beside the checker', 'tests.arguing'),
         'threads': module('what cut means, on real threads', 'threads.meaning'),
         'program': module('./key under faults of input and output', 'tests.program'),
         'views': module('views of papers of all kinds, and how large their pages are', 'tests.views'),

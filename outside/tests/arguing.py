@@ -1,6 +1,7 @@
-"""The arguments that the office finds, held against outside/argument.py, which shares nothing with it: of all examples,
-of random papers and of full-size ones, and the same damaged; and what ./desk why tells of them. The last line is
-'N passed, M failed'.
+"""The arguments that the desk gives and those that the office makes of them, held against outside/argument.py, which
+shares nothing with them: of all examples, of random papers and of full-size ones, and the same damaged; and what
+./desk why tells of them. What the desk gives is that of arguer.py, byte by byte, where nothing is barred. The last line
+is 'N passed, M failed'.
 
 Needs the library's archive (rt staticlib host).
 """
@@ -16,7 +17,6 @@ import tempfile
 from office import argued
 from office.claim_words import NONE_FOUND, claims_told
 from office.claims import Claim, Ground, argument_text, claims_in
-from office.laps import Laps
 from office.library import Desk, refusal_of
 from office.listing import spelled
 from office.paper import Paper, Placed, paper_on, placed
@@ -24,6 +24,7 @@ from office.refusal import Refusal, Refused
 from office.shorter import shortened
 from outside import argument
 from outside.measure import papers
+from outside.tests.arguer import Arguer, lines
 from outside.trying import DESK, EXAMPLES, ROOT, Seen, Tally, run
 
 # A random paper has so many barred gaps; so many sets a barrier are enough, in the mean of all.
@@ -101,7 +102,7 @@ class Found:
         self.paper: Paper = paper_on(desk)
         self.key: Placed = placed(desk, self.key_text)
         self.ground = Ground(self.paper, self.key.counts)
-        self.plain: list[Claim] = Laps(self.paper, self.key.counts).claims
+        self.plain: list[Claim] = claims_in(desk.argue())
         self.short: list[Claim] = shortened(self.ground, self.plain)
         self.sets = sum(len(claim.steps) for claim in self.short)
 
@@ -125,7 +126,10 @@ class Found:
 
     def holds(self, tally: Tally, name: str) -> None:
         """Both lists hold, the shorter is no longer, and each is its text; the shorter is what the office tells."""
-        told = argued.argument_of(self.paper, self.key.counts, self.desk.weigh)
+        if not self.paper.barred:
+            given = lines(Arguer(self.text).claims)
+            tally.check(f'{name} is given', self.desk.argue() == given, given)
+        told = argued.argument_of(self.desk, self.paper, self.key.counts, self.desk.weigh)
         tally.check(f'{name} is told', told == argument_text(self.short), told)
         for claims in (self.plain, self.short):
             said = self.said(argument_text(claims))
@@ -350,11 +354,11 @@ def not_found(tally: Tally) -> None:
     desk.load(EXAMPLES['q'])
     desk.plan()
     paper, counts, found = paper_on(desk), placed(desk, desk.key()).counts, Found(EXAMPLES['q'])
-    tally.check('nothing holds', argued.argument_of(paper, counts, desk.weigh) is None)
+    tally.check('nothing holds', argued.argument_of(desk, paper, counts, desk.weigh) is None)
     tally.check('that is said', argued.argument_lines(None, True)[0].split() == NONE_FOUND.split())
     for calls, claims in ((1, found.short), (2, found.plain)):
         desk.calls = calls
-        tally.check(f'at call {calls}', argued.argument_of(paper, counts, desk.weigh) == argument_text(claims))
+        tally.check(f'at call {calls}', argued.argument_of(desk, paper, counts, desk.weigh) == argument_text(claims))
 
 
 def main() -> None:

@@ -1,8 +1,8 @@
-"""What an argument costs and how long it is, on full-size papers: python3 -m outside.measure.searching
+"""What an argument costs and how long it is, on full-size papers: python3 -m outside.measure.giving
 
-A row a paper: barriers of the key; claims and sets that the search finds, and those that are left when it was made
-shorter; lines in words; milliseconds of this process for the search, for making shorter, for the words and for weighing
-by the library; and for ./desk why with all, as it is typed.
+A row a paper: barriers of the key; claims and sets that the library gives, and those that are left when it was made
+shorter; lines in words; milliseconds of this process for what is given, for making shorter, for the words and for
+weighing by the library; and for ./desk why with all, as it is typed.
 """
 import subprocess
 import tempfile
@@ -12,8 +12,7 @@ from typing import TypeVar
 
 from office.argued import argued, argument_lines
 from office.claim_words import claims_told
-from office.claims import Claim, Ground, argument_text
-from office.laps import Laps
+from office.claims import Claim, Ground, argument_text, claims_in
 from office.library import Desk
 from office.paper import paper_on, placed
 from office.shorter import shortened
@@ -40,7 +39,8 @@ def row(kind: str) -> list[object]:
     desk.plan()
     paper, key = paper_on(desk), placed(desk, desk.key())
     ground = Ground(paper, key.counts)
-    plain, searched = timed(lambda: Laps(paper, key.counts).claims)
+    text_given, given = timed(desk.argue)
+    plain = claims_in(text_given)
     short, shorter = timed(lambda: shortened(ground, plain))
     _, worded = timed(lambda: claims_told(paper, key.counts, ground.follow(short)))
     _, weighed = timed(lambda: desk.weigh(argument_text(short)))
@@ -51,8 +51,8 @@ def row(kind: str) -> list[object]:
         begun = time.time()
         subprocess.run([DESK, 'why', file.name, '--argument'], stdout=subprocess.DEVNULL, check=True)
         whole = (time.time() - begun) * 1000
-    times = [f'{ms:.0f}' for ms in (searched, shorter, worded)]
-    return [kind, len(key.gaps), sized(plain), sized(short), lines, *times, f'{weighed:.2f}', f'{whole:.0f}']
+    times = [f'{given:.2f}', f'{shorter:.0f}', f'{worded:.0f}', f'{weighed:.2f}', f'{whole:.0f}']
+    return [kind, len(key.gaps), sized(plain), sized(short), lines, *times]
 
 
 def sized(claims: list[Claim]) -> str:
