@@ -1,5 +1,6 @@
 // The claims of loops with their steps, spelled into a buffer one after the other.
 use argue_spell::put_claim;
+use argue_texts::CLAIMS;
 use paper_nests::Nest;
 ghost use mathlib.Core.Path.{_≡_};
 ghost use mathlib.Core.Bool.{true};
@@ -15,9 +16,6 @@ ghost use Rattle.argue_give.specs.Whole.{GiveTables, ListsRoom, TableGro
 
 // The entries of a row, one for each point.
 const ROW: usize = 256;
-
-// Claims are numbered up to here.
-pub const CLAIMS: usize = 4096;
 
 // How many claims were given, and the place behind them.
 pub struct Sofar {

@@ -1,6 +1,6 @@
 // The argument of a paper's key, spelled into a buffer: the planner's tables, the costs of its loops, and their claims.
-use argue_give::CLAIMS;
 use argue_give::Sofar;
+use argue_texts::CLAIMS;
 use paper_nests::Nest;
 ghost use mathlib.Core.Path.{_≡_};
 ghost use mathlib.Core.Bool.{true, false};
