@@ -1,2 +1,3 @@
--- Why the argument that is given is the key's.
+-- Why the argument that is given is the key's, and holds.
 pub mod Replies
+pub mod Holds
