@@ -1,13 +1,14 @@
 //! Arguments (RULES, "Arguments"): a text of claims with their steps, weighed line by line against the key or against a
 //! placement text. Sets of gaps are sets here, and nothing is kept of a claim but what it excludes.
 
-use crate::asking::{guarded, lend, Call, Reply, GUARD};
-use crate::desk::Desk;
+use crate::asking::{self, guarded, lend, Call, Reply, GUARD};
+use crate::desk::{write_text, Desk, Key};
 use crate::desk_check::{check_altered, load, replies};
 use crate::host;
 use crate::nests::*;
 use crate::order::search;
 use crate::papers::*;
+use crate::scripts::Pair;
 use crate::self_check::Checks;
 use crate::texts::{barrier_lines, line, read_lines, read_nest, read_placement, shown, Refusal};
 use std::collections::{BTreeMap, BTreeSet};
@@ -20,6 +21,9 @@ const UPTO: u8 = 0x35;
 const CLAIMS: usize = 4096;
 const STEPS: usize = 1024;
 const UNHELD: u8 = 21;
+
+/// Room for the argument of any key.
+const PLENTY: usize = 1 << 16;
 
 /// How many papers are drawn for arguments.
 const DRAWN: usize = 4000;
@@ -215,6 +219,25 @@ pub fn answer_placement(desk: &Desk, placement: &[u8], text: &[u8]) -> Reply {
     replied(told, [guarded(placement), guarded(text)].concat())
 }
 
+/// What Argue answers with the argument that was heard: 10, 11, then 9 with the length that is wanted.
+pub fn answer_argue(desk: &Desk, out: &[u8]) -> Reply {
+    let text = desk.argument.as_deref().unwrap_or_default();
+    let (number, values, lent) = write_text(desk.fault(true), text, out);
+    Reply { number, line: 0, values: if number == 9 { vec![text.len()] } else { values }, lent }
+}
+
+/// The argument that the library gives of its desk's key, which must hold.
+pub fn heard(nest: &Nest, key: &[usize], mut desk: host::Desk) -> Result<Vec<u8>, String> {
+    let reply = asking::play(&mut desk, &Call::Argue(vec![7; PLENTY]));
+    let told = (reply.number, reply.line, reply.values[0]);
+    if told.0 != 0 || told.1 != 0 || told.2 > PLENTY { return Err(format!("asked for its argument, it replies {told:?}")) }
+    let text = reply.lent[GUARD.len()..][..told.2].to_vec();
+    match weighed(nest, key, &text) {
+        (0, _, _) => Ok(text),
+        (number, _, line) => Err(format!("its argument {} has {number} at line {line}", shown(&text))),
+    }
+}
+
 /// The library's own answers.
 pub fn play(desk: host::Desk, text: &[u8]) -> Reply {
     let (lent, length) = lend(text);
@@ -361,9 +384,11 @@ fn asked_of(random: &mut Random, nest: &Nest) -> Vec<Call> {
     let gaps: Vec<usize> = free.filter(|g| key.contains(g) != random.one_in(6)).collect();
     let own = random_argument(random, nest, &gaps);
     let (text, placement) = (argument_text(&argument), barrier_lines(&gaps));
+    let room = vec![7; random.below(120)];
     vec![
         Call::Load(nest.text()), Call::Plan, Call::Weigh(text.clone()), Call::Weigh(argument_text(&other)),
         Call::WeighPlacement(placement.clone(), text), Call::WeighPlacement(placement, argument_text(&own)),
+        Call::Argue(room),
     ]
 }
 
@@ -442,9 +467,37 @@ pub fn check_arguing(checks: &mut Checks) {
         Call::Weigh(words("31")), Call::Weigh(words(FOR_Q)), Call::WeighPlacement(words("21"), words(FOR_P)),
         Call::WeighPlacement(words("2103 2109 210d"), words(FOR_P)), Call::WeighPlacement(words("2105"), words(FOR_P)),
     ]);
+    check_argue(checks);
     let mut found = [0; 2];
     for case in 0..6000 { check_sound(checks, &mut Random::new(31, case), &mut found) }
     checks.that("arguments among them that hold of keys, and that do not", found[1] > 1000 && found[0] > 1000);
+}
+
+/// P's argument in buffers of all lengths; the library's own is none of another placement, nor of another paper.
+fn check_argue(checks: &mut Checks) {
+    let (p, q) = (read_nest(&words(P)).unwrap(), read_nest(&words(Q)).unwrap());
+    let (key, text) = (vec![5, 11], words(FOR_P));
+    let desk = Desk { nest: Some(p.clone()), key: Key::Known(key.clone()), argument: Some(text.clone()), ..Desk::new() };
+    for length in 0..text.len() + 2 {
+        let (reply, out) = (desk.clone().play(&Call::Argue(vec![7; length])), vec![7; length]);
+        let (number, lent) = if length < text.len() { (9, out) } else { (0, [&text, &out[text.len()..]].concat()) };
+        let wanted = Reply { number, line: 0, values: vec![text.len()], lent: guarded(&lent) };
+        checks.that(&format!("P's argument in {length} bytes"), reply == wanted);
+    }
+    let argue = |length: usize| Call::Argue(vec![7; length]);
+    checks.that("argue, no nest", replies(&[argue(40)], 1) == [(10, 0, vec![0])]);
+    checks.that("argue, no key", replies(&[load(P), argue(40)], 1) == [(11, 0, vec![0])]);
+    let mut pair = Pair::new();
+    [load(P), Call::Plan].iter().for_each(|call| drop(pair.make(call)));
+    checks.that("an argument heard", pair.ours.argument == heard(&p, &key, pair.theirs).ok());
+    checks.that("of another placement", heard(&p, &[3, 9, 13], pair.theirs).is_err());
+    checks.that("of another paper", heard(&q, &[2, 6], pair.theirs).is_err());
+    checks.that("before Plan", heard(&p, &key, host::Desk { planned: 0, ..pair.theirs }).is_err());
+    let length = pair.ours.argument.map_or(0, |text| text.len());
+    check_altered(checks, &[
+        load(P), argue(40), Call::Plan, argue(length + 8), argue(length), argue(length - 1), argue(0), Call::Put(5),
+        argue(length), Call::Over(true, None), argue(length),
+    ]);
 }
 
 /// An argument that holds is one for a key: of a small nest the keys are searched for.

@@ -43,6 +43,8 @@ pub enum Call {
     Weigh(Vec<u8>),
     /// Of an argument text, the second, against a placement text.
     WeighPlacement(Vec<u8>, Vec<u8>),
+    /// Into a buffer.
+    Argue(Vec<u8>),
     MissingRuns,
     /// Of a placement text, for the dependence of a number.
     ReliedOn(Vec<u8>, usize),
@@ -85,6 +87,7 @@ impl Call {
             Call::Compare(..) => "compare",
             Call::Weigh(_) => "weigh",
             Call::WeighPlacement(..) => "weigh placement",
+            Call::Argue(_) => "argue",
             Call::MissingRuns => "missing runs",
             Call::ReliedOn(..) => "relied on",
             Call::OneEnd(_) => "one end",
@@ -100,7 +103,7 @@ impl Call {
         let given = match self {
             Call::Load(text) | Call::Mark(text) | Call::Weigh(text) => shown(text),
             Call::List(list) | Call::CountCalls(list) => format!("{list:?}"),
-            Call::Write(out) | Call::Sitting(out) => format!("a buffer of {} bytes", out.len()),
+            Call::Write(out) | Call::Sitting(out) | Call::Argue(out) => format!("a buffer of {} bytes", out.len()),
             Call::Count(n) | Call::Put(n) | Call::Lift(n) | Call::Gaps(n) | Call::OneEnd(n) => n.to_string(),
             Call::Over(planned, key) => format!("with a key: {planned}, words {key:?}"),
             Call::Slip(_, text, out) => format!("{}, a buffer of {} bytes", shown(text), out.len()),
@@ -191,6 +194,10 @@ pub fn play(desk: &mut Desk, call: &Call) -> Reply {
             Call::Compare(a, b) => comparing::play(*desk, a, b),
             Call::Weigh(text) => arguing::play(*desk, text),
             Call::WeighPlacement(placement, text) => arguing::play_placement(*desk, placement, text),
+            Call::Argue(out) => {
+                let (mut lent, length) = lend(out);
+                answer(host::desk_argue(*desk, lent[GUARD.len()..].as_mut_ptr(), length), lent)
+            }
             Call::MissingRuns => skipping::play(*desk),
             Call::ReliedOn(text, dependence) => skipping::play_relied(*desk, text, *dependence),
             Call::OneEnd(dependence) => skipping::play_one_end(*desk, *dependence),

@@ -26,13 +26,17 @@ pub enum Key { None, Known(Vec<usize>), Unknown }
 pub struct Desk {
     pub nest: Option<Nest>,
     pub key: Key,
+    /// The argument of the key: none is made here, so it is the library's, where it holds.
+    pub argument: Option<Vec<u8>>,
     pub sitting: BTreeSet<usize>,
     /// The moves that can be taken back, the oldest first: gap, whether it was put, the placement before.
     pub moves: VecDeque<(usize, bool, BTreeSet<usize>)>,
 }
 
 impl Desk {
-    pub fn new() -> Desk { Desk { nest: None, key: Key::None, sitting: BTreeSet::new(), moves: VecDeque::new() } }
+    pub fn new() -> Desk {
+        Desk { nest: None, key: Key::None, argument: None, sitting: BTreeSet::new(), moves: VecDeque::new() }
+    }
 
     pub fn points(&self) -> usize { self.nest.as_ref().map_or(0, |nest| nest.points.len()) }
 
@@ -61,7 +65,7 @@ impl Desk {
         0
     }
 
-    /// Makes a call. The reply has no key's text while the key is unknown: `adopt` comes first.
+    /// Makes a call. The reply has no key's text while the key is unknown, nor an argument's: `adopt` comes first.
     pub fn play(&mut self, call: &Call) -> Reply {
         let (mut number, mut line, mut values) = (0, 0, Vec::new());
         let mut lent = Vec::new();
@@ -105,6 +109,7 @@ impl Desk {
             Call::Compare(a, b) => return comparing::answer(self, a, b),
             Call::Weigh(text) => return arguing::answer(self, text),
             Call::WeighPlacement(placement, text) => return arguing::answer_placement(self, placement, text),
+            Call::Argue(out) => return arguing::answer_argue(self, out),
             Call::MissingRuns => (number, values) = skipping::answer(self),
             Call::ReliedOn(text, dependence) => return skipping::answer_relied(self, text, *dependence),
             Call::OneEnd(dependence) => (number, values) = skipping::answer_one_end(self, *dependence),

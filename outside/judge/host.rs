@@ -138,6 +138,7 @@ extern "C" {
     pub fn desk_weigh_placement(
         desk: Desk, placement: *const u8, gaps: usize, text: *const u8, length: usize,
     ) -> Weighed;
+    pub fn desk_argue(desk: Desk, out: *mut u8, length: usize) -> Answer;
     pub fn desk_missing_runs(desk: Desk) -> Chosen;
     pub fn desk_relied_on(desk: Desk, text: *const u8, length: usize, dependence: usize) -> Chosen;
     pub fn desk_one_end(desk: Desk, dependence: usize) -> Chosen;

@@ -36,6 +36,7 @@ impl Pair {
         let seen = play(&mut self.theirs, call);
         let wanted = self.ours.play(call);
         self.adopt()?;
+        self.hear()?;
         judge(call, &self.ours, &before, &wanted, &seen, &self.theirs).map(|()| seen)
     }
 
@@ -45,6 +46,14 @@ impl Pair {
         let key = gaps_of(&self.theirs.key);
         key_fault(self.ours.nest.as_ref().unwrap(), &key)?;
         self.ours.key = Key::Known(key);
+        Ok(())
+    }
+
+    /// The argument of a new key is taken from the library, where it holds.
+    fn hear(&mut self) -> Result<(), String> {
+        let Key::Known(key) = &self.ours.key else { return Ok(()) };
+        if self.ours.argument.is_some() { return Ok(()) }
+        self.ours.argument = Some(arguing::heard(self.ours.nest.as_ref().unwrap(), key, self.theirs)?);
         Ok(())
     }
 }
@@ -112,7 +121,7 @@ fn random_call(random: &mut Random, desk: &Desk, mix: Mix, edges: &[Vec<u8>]) ->
 }
 
 fn random_ask(random: &mut Random, desk: &Desk, edges: &[Vec<u8>]) -> Call {
-    match random.below(42) {
+    match random.below(45) {
         0 => Call::Count(random_point(random, desk)),
         1 | 2 => Call::Write(buffer(random, 5 * desk.key().len())),
         3 => Call::Sitting(buffer(random, 5 * desk.sitting.len())),
@@ -140,6 +149,7 @@ fn random_ask(random: &mut Random, desk: &Desk, edges: &[Vec<u8>]) -> Call {
         32 | 33 => Call::OneEnd(shapes::random_dependence(random, desk)),
         34..=36 => Call::Weigh(arguing::random_text(random, desk, desk.key())),
         37 | 38 => weigh(random, desk),
+        39..=41 => Call::Argue(buffer(random, desk.argument.as_ref().map_or(40, Vec::len))),
         _ => Call::Mark(placement_text(random, desk)),
     }
 }
