@@ -9,8 +9,8 @@ CRATES = ROOT / 'crates'
 
 # The crates whose public functions are calls, and the statement that joins them.
 CALLS = ['desk', 'call_moves', 'call_list', 'call_textbook', 'call_shape', 'call_gaps', 'call_standing', 'call_slips',
-         'call_compare', 'call_argument', 'call_missing', 'call_skipped', 'call_runs', 'call_improve', 'call_join',
-         'call_sheet', 'host', 'key_answer']
+         'call_compare', 'call_argument', 'call_argue', 'call_missing', 'call_skipped', 'call_runs', 'call_improve',
+         'call_join', 'call_sheet', 'host', 'key_answer']
 STATEMENTS = ['desk/specs/Since']
 # Specs that no reader needs: `key-first` and `first-only` say which placement the key is, whatever the planner does.
 UNREAD = 'plan_method/specs/'
