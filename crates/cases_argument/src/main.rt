@@ -1,10 +1,12 @@
-// Cases of arguments, weighed over the calls and compared; a line for each.
+// Cases of arguments, weighed and given over the calls and compared; a line for each.
 ghost use Rattle.desk.specs.Desks.{IsMade};
+use call_argue::argue;
 use call_argument::weigh;
 use call_argument::weigh_placement;
 use cases_replies::after_load;
 use cases_replies::empty_desk;
 use cases_replies::paper_p;
+use cases_replies::paper_r;
 use cases_replies::planned;
 use cases_replies::report;
 use desk::Desk;
@@ -16,6 +18,9 @@ fn main() {
     report(4, case_4());
     report(5, case_5());
     report(6, case_6());
+    report(7, case_7());
+    report(8, case_8());
+    report(9, case_9());
 }
 
 // P: dependence 0 wants a barrier of loop 1, dependence 2 one of loop 7. The same argument shows less than a dearer
@@ -95,6 +100,61 @@ fn case_6() -> bool {
         && fails_of(unplanned, b"", argument, 21, 1, 0)
 }
 
+// The arguments that are given of P, Q, R and a paper with a barred gap. In Q's, steps of loop 2 are led by the claim
+// on loop 3 that has both of its gaps.
+fn case_7() -> bool {
+    let p = paper_p();
+    let q = planned(b"01\n03\n01\n01\n03\n03\n02\n03\n02\n02\n110105\n12030504\n110407\n");
+    let barred = planned(b"01\n03\n03\n02\n110102\n1301\n");
+    gives(
+        p,
+        b"31070000\n330002\n31070008\n330002\n35\n31070c00\n34\n330002\n31070a0a\n34\n330003\n35\n\
+        31070808\n330002\n35\n31010000\n330000\n31010002\n330000\n35\n31010600\n34\n330000\n\
+        31010404\n34\n330001\n35\n31010202\n330000\n35\n",
+    )
+        && gives(
+            q,
+            b"31030000\n330001\n31030505\n34\n330001\n35\n31020005\n320001\n330002\n35\n31020700\n34\n\
+            31020305\n320001\n330002\n35\n31000000\n330000\n",
+        )
+        && gives(paper_r(), b"31000000\n330001\n330002\n330000\n")
+        && gives(barred, b"31000000\n330000\n")
+}
+
+// A buffer of the length of R's argument, one longer, one shorter, one of no length: later bytes stay; refused all do,
+// and the value is the length that is wanted.
+fn case_8() -> bool {
+    let r = paper_r();
+    let text = b"31000000\n330001\n330002\n330000\n";
+    let mut exact = [7; 30];
+    let mut longer = [7; 31];
+    let mut shorter = [7; 29];
+    let mut none = [7; 0];
+    let whole = argue(r, &mut exact);
+    let more = argue(r, &mut longer);
+    let less = argue(r, &mut shorter);
+    let no = argue(r, &mut none);
+    whole.number == 0
+        && check::same(&exact, text)
+        && more.value == 30
+        && check::same(&longer[..30], text)
+        && longer[30] == 7
+        && less.number == 9
+        && less.line == 0
+        && less.value == 30
+        && check::same(&shorter, &[7; 29])
+        && no.number == 9
+        && no.value == 30
+}
+
+// 10, 11, whatever the buffer; a paper that needs no barrier has an argument of no claim.
+fn case_9() -> bool {
+    let unplanned = after_load(paper_p(), b"01\n03\n03\n02\n110102\n1301\n");
+    gives_none(empty_desk(), 10)
+        && gives_none(unplanned, 11)
+        && gives(planned(b"01\n03\n02\n"), b"")
+}
+
 // The argument holds of the key.
 fn holds(desk: Desk, text: &[u8]) -> bool
     requires { ⌜ IsMade desk ⌝ }
@@ -117,6 +177,31 @@ fn refuses(desk: Desk, text: &[u8], number: u8) -> bool
 {
     let w = weigh(desk, text);
     w.number == number && w.text == 0 && w.line == 0
+}
+
+// This is the argument that is given, and it holds.
+fn gives(desk: Desk, text: &[u8]) -> bool
+    requires { ⌜ IsMade desk ⌝ }
+{
+    let mut out = [0; 256];
+    let answer = argue(desk, &mut out);
+    let length = answer.value;
+    if length <= out.len() {
+        return answer.number == 0
+            && answer.line == 0
+            && check::same(&out[..length], text)
+            && holds(desk, text);
+    }
+    false
+}
+
+// There is no nest, or no key, and the buffer stays.
+fn gives_none(desk: Desk, number: u8) -> bool
+    requires { ⌜ IsMade desk ⌝ }
+{
+    let mut out = [7; 40];
+    let answer = argue(desk, &mut out);
+    answer.number == number && answer.line == 0 && answer.value == 0 && check::same(&out, &[7; 40])
 }
 
 // The argument holds of the placement.
