@@ -167,6 +167,7 @@ static const uint8_t SKIPPING[] = "01\n03\n04\n03\n02\n03\n02\n12020303\n110105\
 typedef void *Fresh(void *);
 typedef void *OnDesk(void *, Desk);
 typedef void *OnText(void *, Desk, const uint8_t *, size_t);
+typedef void *OnRoom(void *, Desk, uint8_t *, size_t);
 typedef void *OnNumber(void *, Desk, size_t);
 typedef void *OnPlain(void *, DeskPlain);
 typedef void *OnTurns(void *, Desk, const uint8_t *, size_t, size_t);
@@ -199,6 +200,7 @@ static void sizes(Desk desk, DeskPlain plain) {
     GIVES(OnText, desk_count_calls, sizeof(DeskCalls), room, desk, P, 0);
     GIVES(OnTwo, desk_placement_calls, sizeof(DeskCalls), room, desk, P, 0, P, 0);
     GIVES(OnTwo, desk_compare, sizeof(DeskCompared), room, desk, P, 0, P, 0);
+    GIVES(OnRoom, desk_argue, sizeof(DeskAnswer), room, desk, lent, sizeof lent);
     GIVES(OnTurns, desk_improve, sizeof(DeskImproved), room, desk, P, 0, 10);
     GIVES(OnSheet, desk_sheet, sizeof(DeskRunEnds), room, 2, 2, WORK, 4, WAITS, 2);
     GIVES(OnTexts, desk_join, sizeof(DeskJoined), room, P, 0, P, 0, lent, sizeof lent);
@@ -354,6 +356,20 @@ static void weighing(Desk desk) {
     that("a step before any claim", held.number == 4 && held.text == 2 && held.line == 1);
 }
 
+/* The argument that the library gives is one that it weighs; the bytes behind it stay. */
+static void arguing(Desk desk) {
+    Desk planned = desk_plan(desk).desk;
+    memset(lent, 7, sizeof lent);
+    that("no key, no argument", desk_argue(desk, lent, sizeof lent).number == 11 && lent[0] == 7);
+    DeskAnswer wanted = desk_argue(planned, lent, 0);
+    that("the length wanted", wanted.number == 9 && wanted.line == 0 && wanted.value > 0);
+    DeskAnswer short_of_one = desk_argue(planned, lent, wanted.value - 1);
+    that("a byte too short", short_of_one.number == 9 && short_of_one.value == wanted.value && lent[0] == 7);
+    DeskAnswer argued = desk_argue(planned, lent, wanted.value);
+    that("argued", argued.number == 0 && argued.line == 0 && argued.value == wanted.value && lent[argued.value] == 7);
+    that("its own argument holds", desk_weigh(planned, lent, argued.value).number == 0);
+}
+
 /* Where a length is 0 the pointer is not read: NULL in every place of every call, a desk with a key and one without. */
 static void empty(Desk desk) {
     Desk planned = desk_plan(desk).desk;
@@ -369,6 +385,7 @@ static void empty(Desk desk) {
     that("compare", desk_compare(desk, NULL, 0, NULL, 0).number == 0 && desk_compare(desk, NULL, 0, NULL, 0).first);
     that("weigh", desk_weigh(desk, NULL, 0).number == 11 && desk_weigh(planned, NULL, 0).line == 1);
     that("weigh a placement", desk_weigh_placement(desk, NULL, 0, NULL, 0).number == 21);
+    that("argue", desk_argue(desk, NULL, 0).number == 11 && desk_argue(planned, NULL, 0).number == 9);
     that("count calls", desk_count_calls(planned, NULL, 0).number == 17);
     that("placement calls", desk_placement_calls(desk, NULL, 0, NULL, 0).number == 17);
     that("improve", desk_improve(planned, NULL, 0, 10).number == 17);
@@ -395,6 +412,7 @@ int main(void) {
     fields(desk);
     told(desk);
     weighing(desk);
+    arguing(desk);
     empty(desk);
     overlapping(desk);
     barred(desk_load(desk, FOUNDATION, sizeof FOUNDATION - 1).desk);
