@@ -20,6 +20,7 @@ static size_t length, loops, gap, written;
 /* Two claims of the outermost loop, each with a step. */
 static const uint8_t argument[] = "3100ff00\n34\n31000000\n330000\n";
 static uint8_t *bottom;
+static uint8_t argued[65536];
 
 static Desk desk;
 static DeskPlain plain;
@@ -71,6 +72,7 @@ CALL(desk_sheet_, ends = desk_sheet(DESK_PROCESSORS, DESK_PHASES, durations, DES
 CALL(desk_compare_, compared = desk_compare(desk, key, written, key, written))
 CALL(desk_weigh_, weighed = desk_weigh(desk, argument, sizeof argument - 1))
 CALL(desk_weigh_placement_, weighed = desk_weigh_placement(desk, key, written, argument, sizeof argument - 1))
+CALL(desk_argue_, answer = desk_argue(desk, argued, sizeof argued))
 
 static __attribute__((noinline)) void tell(const char *name, void (*call)(void)) {
     volatile uint8_t *top = (volatile uint8_t *)__builtin_frame_address(0) - MARGIN;
@@ -140,6 +142,7 @@ static void *day(void *number) {
     TELL(desk_compare);
     TELL(desk_weigh);
     TELL(desk_weigh_placement);
+    if (STACK >= ARGUE) TELL(desk_argue);
     TELL(desk_reset);
     *(int *)number |= own[OWN - 1];
     return NULL;

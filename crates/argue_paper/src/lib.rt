@@ -25,7 +25,8 @@ pub fn give_argument(nest: Nest, out: &mut [u8]) -> Sofar
     ensures { λ r. ⌜ Spelled (argumentOf (nestIn nest)) (now (out .entry)) (now (out .exit)) (r .many) (r .at) ⌝ }
 {
     if nest.bars == 0 {
-        return give_plain(nest, out);
+        let costs = costs_of(nest);
+        return give_tables(nest, &costs, out);
     }
     let ranks = plan_paper::ranks_of(nest);
     let reduced = plan_paper::reduce(nest, &ranks);
