@@ -230,7 +230,7 @@ pub fn answer_argue(desk: &Desk, out: &[u8]) -> Reply {
 pub fn heard(nest: &Nest, key: &[usize], mut desk: host::Desk) -> Result<Vec<u8>, String> {
     let reply = asking::play(&mut desk, &Call::Argue(vec![7; PLENTY]));
     let told = (reply.number, reply.line, reply.values[0]);
-    if told.0 != 0 || told.1 != 0 || told.2 > PLENTY { return Err(format!("asked for its argument, it replies {told:?}")) }
+    if (told.0, told.1) != (0, 0) || told.2 > PLENTY { return Err(format!("its argument: it replies {told:?}")) }
     let text = reply.lent[GUARD.len()..][..told.2].to_vec();
     match weighed(nest, key, &text) {
         (0, _, _) => Ok(text),
@@ -477,7 +477,8 @@ pub fn check_arguing(checks: &mut Checks) {
 fn check_argue(checks: &mut Checks) {
     let (p, q) = (read_nest(&words(P)).unwrap(), read_nest(&words(Q)).unwrap());
     let (key, text) = (vec![5, 11], words(FOR_P));
-    let desk = Desk { nest: Some(p.clone()), key: Key::Known(key.clone()), argument: Some(text.clone()), ..Desk::new() };
+    let (nest, argument) = (Some(p.clone()), Some(text.clone()));
+    let desk = Desk { nest, key: Key::Known(key.clone()), argument, ..Desk::new() };
     for length in 0..text.len() + 2 {
         let (reply, out) = (desk.clone().play(&Call::Argue(vec![7; length])), vec![7; length]);
         let (number, lent) = if length < text.len() { (9, out) } else { (0, [&text, &out[text.len()..]].concat()) };
