@@ -37,8 +37,8 @@
    Where the length is 0 the pointer is not read, and may be NULL. A buffer does not overlap a text that it is written
    from; two texts may overlap.
 
-   A thread with a stack of 96 KiB has room for every call but desk_argue, and one of 100 KiB for that too, and for 12 KiB
-   of frames of its own. The library is for x86-64, and links against memcpy and memset alone:
+   A thread with a stack of 96 KiB has room for every call and for 12 KiB of frames of its own. The library is for
+   x86-64, and links against memcpy and memset alone:
 
      gcc -I crates/host host.c target/staticlib/libhost.a  */
 #ifndef DESK_H

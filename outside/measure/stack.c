@@ -142,7 +142,7 @@ static void *day(void *number) {
     TELL(desk_compare);
     TELL(desk_weigh);
     TELL(desk_weigh_placement);
-    if (STACK >= ARGUE) TELL(desk_argue);
+    TELL(desk_argue);
     TELL(desk_reset);
     *(int *)number |= own[OWN - 1];
     return NULL;

@@ -1,8 +1,8 @@
 """The stack that each call of the library takes: python3 -m outside.measure.stack prints, for each call of desk.h, the
 most bytes that it took on the full-size papers.
 
-stack.c beside this makes the calls on a thread of STACK KiB, or of ARGUE with Argue among them, whose own frames take
-OWN, and paints the rest of the stack before each. It needs target/staticlib/libhost.a and gcc.
+stack.c beside this makes the calls on a thread of STACK KiB whose own frames take OWN, and paints the rest of the
+stack before each. It needs target/staticlib/libhost.a and gcc.
 """
 import pathlib
 import subprocess
@@ -13,18 +13,17 @@ from outside.measure import papers
 from outside.trying import ROOT
 
 ARCHIVE = ROOT / 'target/staticlib/libhost.a'
-# KiB: what desk.h asks of a thread, and of one that calls desk_argue; what it leaves to the thread's own frames
-STACK, ARGUE, OWN = 96, 100, 12
+STACK, OWN = 96, 12  # KiB: what desk.h asks of a thread, and what it leaves to the thread's own frames
 PAPERS = {kind: papers.text(kind) for kind in (*papers.KINDS, *papers.FOUND, 'barred')} | {
     'half of one': papers.text('one', 126)}  # two of these can be joined
 
 
-def built(work: pathlib.Path, room: int) -> tuple[pathlib.Path, str]:
-    """stack.c as a program in a folder, for a thread of so many KiB, and what the compiler said if there is none."""
+def built(work: pathlib.Path) -> tuple[pathlib.Path, str]:
+    """stack.c as a program in a folder, and what the compiler said if there is none."""
     program = work / 'stack'
     source = ROOT / 'outside/measure/stack.c'
-    flags = ['-std=c11', '-O2', '-Wall', '-Wextra', '-Werror', '-pthread', f'-DSTACK={room * 1024}',
-             f'-DARGUE={ARGUE * 1024}', f'-DOWN={OWN * 1024}', f'-I{ROOT / "crates/host"}']
+    flags = ['-std=c11', '-O2', '-Wall', '-Wextra', '-Werror', '-pthread', f'-DSTACK={STACK * 1024}',
+             f'-DOWN={OWN * 1024}', f'-I{ROOT / "crates/host"}']
     done = subprocess.run(['gcc', *flags, source, ARCHIVE, '-o', program], capture_output=True, text=True, check=False)
     return program, done.stderr if done.returncode else ''
 
@@ -39,7 +38,7 @@ def depths(program: pathlib.Path, text: bytes) -> dict[str, int]:
 
 def main() -> None:
     with tempfile.TemporaryDirectory() as name:
-        program, fault = built(pathlib.Path(name), ARGUE)
+        program, fault = built(pathlib.Path(name))
         if fault:
             sys.exit(f'stack: {fault}')
         most: dict[str, int] = {}

@@ -16,8 +16,7 @@ from outside.trying import ROOT, Tally
 ARCHIVE = ROOT / 'target/staticlib/libhost.a'
 HEADER = ROOT / 'crates/host/desk.h'
 C = ['gcc', '-std=c11', '-Wall', '-Wextra', '-Werror', '-Wno-cast-function-type', '-I', HEADER.parent]
-ROOM = (f'a stack of {stack.STACK} KiB has room for every call but desk_argue, and one of {stack.ARGUE} KiB for that '
-        f'too, and for {stack.OWN} KiB of frames of its own')
+ROOM = f'a stack of {stack.STACK} KiB has room for every call and for {stack.OWN} KiB of frames of its own'
 PAPERS = {
     'p.hex': (0, '2105\n210b\nUncut 4 0 0\ngap 5 put: 3 uncut\n'),
     'q.hex': (0, '2102\n2106\nUncut 1 0 0\ngap 5 put: 1 uncut\n'),
@@ -107,12 +106,11 @@ def check_examples(tally: Tally, work: pathlib.Path) -> None:
 def check_stack(tally: Tally, work: pathlib.Path) -> None:
     """Every call on full-size papers, on a thread with no more stack than the header asks for."""
     declared = set(re.findall(r'^\w+ (\w+)\([^;]*\);$', HEADER.read_text(), re.M))
-    for room, wanted in ((stack.STACK, declared - {'desk_argue'}), (stack.ARGUE, declared)):
-        program, fault = stack.built(work, room)
-        tally.check('stack.c compiles', not fault, fault)
-        for kind, text in stack.PAPERS.items() if not fault else []:
-            taken = set(stack.depths(program, text))
-            tally.check(f'{room} KiB, {kind}: every call, and no other', taken == wanted, sorted(wanted ^ taken))
+    program, fault = stack.built(work)
+    tally.check('stack.c compiles', not fault, fault)
+    for kind, text in stack.PAPERS.items() if not fault else []:
+        taken = stack.depths(program, text)
+        tally.check(f'{kind}: every call, and no other', set(taken) == declared, sorted(declared ^ set(taken)))
 
 
 def main() -> None:

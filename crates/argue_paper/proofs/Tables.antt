@@ -1,5 +1,5 @@
 -- The planner's tables are what the claims are given from, and what is given is the argument.
--- Main statements: `unnumbered`, `unset-filled`, `small-filled`, `fine`, `ground`, `spelled`.
+-- Main statements: `unset-filled`, `small-filled`, `fine`, `ground`, `spelled`.
 use mathlib.Core.Path.{_≡_, refl, sym, _∙_, ap}
 use mathlib.Core.Bool.{true}
 use mathlib.Core.List.{List, [], _∷_, _++_}
@@ -7,7 +7,7 @@ use Prim.Native.Nat.{ℕ, suc, _+_, _*_, _≤_, _<_}
 use native.Mathlib.Omega.{arith}
 use lib.ListN.{length}
 use Rattle.laws.specs.Entries.{at}
-use Rattle.laws.proofs.Copies.{copies, copies-at, copies-there}
+use Rattle.laws.proofs.Copies.{copies, copies-at}
 use Rattle.paper_nests.specs.Nests.{Dep}
 use Rattle.paper_nests.specs.Kinds.{POINTS}
 use Rattle.paper_nests.specs.Loops.{isDo, endOf}
@@ -25,16 +25,13 @@ use Rattle.plan_settle.specs.Settled.{HasHeight, Unset, SettleSays}
 use Rattle.plan_nest.proofs.Planning.{charts, lines}
 use Rattle.argue_claims.specs.Arguments.{Claim}
 use Rattle.argue_key.specs.Laps.{Head, headsFrom, claimFor, made, plainArgument}
-use Rattle.argue_sets.specs.Numbered.{lineSet, Unnumbered}
+use Rattle.argue_sets.specs.Numbered.{lineSet}
 use Rattle.argue_spell.specs.Added.{WORD}
 use Rattle.argue_give.specs.Whole.{GiveTables, TableGround, GivenAll}
 use Rattle.argue_paper.specs.Spelled.{Spelled, CostsAre}
 use Rattle.argue_paper.proofs.Costs.{table}
 
 -- new lists, filled with one number
-pub unnumbered : (m : ℕ) → Unnumbered m (copies TABLE (m + 2))
-unnumbered m i l = copies-there TABLE (m + 2) i 0 l
-
 pub unset-filled : {d e : ℕ} → Unset (copies TABLE 0) d e
 unset-filled h q a b c e = copies-at TABLE 0 (h * 256 + q)
 

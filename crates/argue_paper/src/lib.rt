@@ -4,11 +4,13 @@ use argue_texts::CLAIMS;
 use paper_nests::Nest;
 ghost use mathlib.Core.Path.{_≡_};
 ghost use mathlib.Core.Bool.{true, false};
-ghost use Prim.Native.Nat.{_≤_};
+ghost use Prim.Native.Nat.{ℕ, _≤_, _<_};
 ghost use lib.ListN.{length};
+ghost use Rattle.laws.specs.Entries.{at};
 ghost use Rattle.paper_nests.specs.Valid.{isValid};
 ghost use Rattle.paper_nests.specs.Stored.{nestIn, IsCounted};
 ghost use Rattle.paper_barred.specs.Reduced.{isBlocked};
+ghost use Rattle.plan_tables.specs.Charts.{TABLE};
 ghost use Rattle.argue_key.specs.Laps.{plainArgument, argumentOf};
 ghost use Rattle.argue_paper.specs.Spelled.{CostsAre, Spelled};
 
@@ -106,7 +108,8 @@ fn give_tables(nest: Nest, costs: &[usize], out: &mut [u8]) -> Sofar
         0,
         Nest::DEPTH,
     );
-    let mut numbers = [beyond; TABLE];
+    // The choice has served: the numbers of the lines take its place.
+    fill(&mut choice, beyond);
     argue_sets::number_lines(
         nest,
         &points[..n],
@@ -114,7 +117,7 @@ fn give_tables(nest: Nest, costs: &[usize], out: &mut [u8]) -> Sofar
         &ends,
         &heights,
         &reach,
-        &mut numbers,
+        &mut choice,
     );
     let mut sets = [0; ROW];
     let mut loops = [0; CLAIMS];
@@ -128,7 +131,7 @@ fn give_tables(nest: Nest, costs: &[usize], out: &mut [u8]) -> Sofar
         &heights,
         &left,
         &reach,
-        &numbers,
+        &choice,
         costs,
         &mut need,
         &mut sets,
@@ -137,4 +140,16 @@ fn give_tables(nest: Nest, costs: &[usize], out: &mut [u8]) -> Sofar
         &mut uptos,
         out,
     )
+}
+
+// Every entry of a table set to one number.
+fn fill(table: &mut [u16], number: u16)
+    requires { ⌜ length (now table) ≡ TABLE ⌝ }
+    ensures { λ _. ⌜ ((i : ℕ) → i < TABLE → at (now (table .exit)) i ≡ number) ⌝ }
+{
+    let mut i = 0;
+    while i < TABLE {
+        table[i] = number;
+        i += 1;
+    }
 }

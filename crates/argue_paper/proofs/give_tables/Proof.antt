@@ -7,7 +7,7 @@ use Rattle.paper_nests.specs.Stored.{nestIn}
 use Rattle.paper_nests.proofs.Levels.{starts-with-do}
 use Rattle.plan_tables.proofs.Preparing.{count-there, unowned-filled, blank-filled, points-of, fits-of}
 use Rattle.plan_nest.proofs.Planning.{charts, top-height}
-use Rattle.argue_paper.proofs.Tables.{unnumbered, unset-filled, small-filled, fine, spelled}
+use Rattle.argue_paper.proofs.Tables.{unset-filled, small-filled, fine, spelled}
 use borrow.Author.Needs.{needs}
 use Rattle.argue_paper.proofs.give_tables.Statement.{statement}
 use Rattle.argue_paper.proofs.give_tables.Tie as tie
@@ -128,13 +128,19 @@ settle-requires c κs =
       ),
     )
 
+slice-aggregate-fill : tie.Need-slice-aggregate-fill
+slice-aggregate-fill c = search needs
+
+fill-requires : tie.Need-fill-requires
+fill-requires c κs = search needs
+
 array-share-prefix-points-2 : tie.Need-array-share-prefix-points-2
 array-share-prefix-points-2 c =
-    let s = c .before .before .before .before .before .before .before .before .before .before .before .before .before .before .before .before .before .before .before .before .before .before .before .before .before .before .before .before .before .before .before .before .before .before .before .before in
+    let s = c .before .before .before .before .before .before .before .before .before .before .before .before .before .before .before .before .before .before .before .before .before .before .before .before .before .before .before .before .before .before .before .before .before .before .before .before .before .before .before in
     count-there (s .args .nest .count) (s .args .nest .points) (s .pre .0 .count-is)
 
 slice-aggregate-number-lines : tie.Need-slice-aggregate-number-lines
-slice-aggregate-number-lines c = c .before .before .before .before .before .before .before .before .before .before .before .before .before .before .before .before .before .before .before .before .before .before .before .before .before .before .before .before .before .before .before .before .before .before .before .before .before .pre .0 .count-is
+slice-aggregate-number-lines c = c .before .before .before .before .before .before .before .before .before .before .before .before .before .before .before .before .before .before .before .before .before .before .before .before .before .before .before .before .before .before .before .before .before .before .before .before .before .before .before .before .pre .0 .count-is
 
 slice-aggregate-number-lines-2 : tie.Need-slice-aggregate-number-lines-2
 slice-aggregate-number-lines-2 c = search needs
@@ -154,9 +160,9 @@ slice-aggregate-number-lines-6 c = search needs
 number-lines-requires : tie.Need-number-lines-requires
 unfolding copies
 number-lines-requires c κs =
-    let s = c .before .before .before .before .before .before .before .before .before .before .before .before .before .before .before .before .before .before .before .before .before .before .before .before .before .before .before .before .before .before .before .before .before .before .before .before .before .before .before .before .before .before in
+    let s = c .before .before .before .before .before .before .before .before .before .before .before .before .before .before .before .before .before .before .before .before .before .before .before .before .before .before .before .before .before .before .before .before .before .before .before .before .before .before .before .before .before .before .before .before .before in
     let n = s .args .nest in
-    let r = c .before .before .before .before .before .before .before .before .before .before .before .before .before .before .before .before .before .before .before .before .before .before .before .before .before .before .before .before .before .before .before .before .prepare in (
+    let r = c .before .before .before .before .before .before .before .before .before .before .before .before .before .before .before .before .before .before .before .before .before .before .before .before .before .before .before .before .before .before .before .before .before .before .before .prepare in (
       s .pre .0,
       (
         points-of (nestIn n) (s .pre .1 .0),
@@ -170,7 +176,7 @@ number-lines-requires c κs =
                 ends-room = omega (arith, r .kept .1 .1 .0);
                 heights-room = omega (arith, r .kept .1 .1 .1 .0);
               },
-              ((omega (arith, r .kept .1 .1 .1 .1 .0), omega arith), (r .ensures .reach-is, unnumbered (n .many))),
+              ((omega (arith, r .kept .1 .1 .1 .1 .0), omega arith), (r .ensures .reach-is, c .before .before .before .before .before .before .before .fill .ensures)),
             ),
           ),
         ),
@@ -179,26 +185,26 @@ number-lines-requires c κs =
 
 array-share-prefix-points-3 : tie.Need-array-share-prefix-points-3
 array-share-prefix-points-3 c =
-    let s = c .before .before .before .before .before .before .before .before .before .before .before .before .before .before .before .before .before .before .before .before .before .before .before .before .before .before .before .before .before .before .before .before .before .before .before .before .before .before .before .before .before .before .before .before in
+    let s = c .before .before .before .before .before .before .before .before .before .before .before .before .before .before .before .before .before .before .before .before .before .before .before .before .before .before .before .before .before .before .before .before .before .before .before .before .before .before .before .before .before .before .before .before .before .before .before in
     count-there (s .args .nest .count) (s .args .nest .points) (s .pre .0 .count-is)
 
 slice-aggregate-give-loops : tie.Need-slice-aggregate-give-loops
-slice-aggregate-give-loops c = c .before .before .before .before .before .before .before .before .before .before .before .before .before .before .before .before .before .before .before .before .before .before .before .before .before .before .before .before .before .before .before .before .before .before .before .before .before .before .before .before .before .before .before .before .before .pre .0 .count-is
+slice-aggregate-give-loops c = c .before .before .before .before .before .before .before .before .before .before .before .before .before .before .before .before .before .before .before .before .before .before .before .before .before .before .before .before .before .before .before .before .before .before .before .before .before .before .before .before .before .before .before .before .before .before .before .before .pre .0 .count-is
 
 slice-aggregate-give-loops-2 : tie.Need-slice-aggregate-give-loops-2
-slice-aggregate-give-loops-2 c = sym (c .before .before .before .before .before .before .before .before .before .before .before .before .before .before .before .before .before .before .before .before .before .before .before .before .before .before .before .before .before .before .before .before .before .before .before .before .prepare .kept .1 .0)
+slice-aggregate-give-loops-2 c = sym (c .before .before .before .before .before .before .before .before .before .before .before .before .before .before .before .before .before .before .before .before .before .before .before .before .before .before .before .before .before .before .before .before .before .before .before .before .before .before .before .prepare .kept .1 .0)
 
 slice-aggregate-give-loops-3 : tie.Need-slice-aggregate-give-loops-3
-slice-aggregate-give-loops-3 c = sym (c .before .before .before .before .before .before .before .before .before .before .before .before .before .before .before .before .before .before .before .before .before .before .before .before .before .before .before .before .before .before .before .before .before .before .before .before .before .prepare .kept .1 .1 .0)
+slice-aggregate-give-loops-3 c = sym (c .before .before .before .before .before .before .before .before .before .before .before .before .before .before .before .before .before .before .before .before .before .before .before .before .before .before .before .before .before .before .before .before .before .before .before .before .before .before .before .before .prepare .kept .1 .1 .0)
 
 slice-aggregate-give-loops-4 : tie.Need-slice-aggregate-give-loops-4
-slice-aggregate-give-loops-4 c = sym (c .before .before .before .before .before .before .before .before .before .before .before .before .before .before .before .before .before .before .before .before .before .before .before .before .before .before .before .before .before .before .before .before .before .before .before .before .before .before .prepare .kept .1 .1 .1 .0)
+slice-aggregate-give-loops-4 c = sym (c .before .before .before .before .before .before .before .before .before .before .before .before .before .before .before .before .before .before .before .before .before .before .before .before .before .before .before .before .before .before .before .before .before .before .before .before .before .before .before .before .before .prepare .kept .1 .1 .1 .0)
 
 slice-aggregate-give-loops-5 : tie.Need-slice-aggregate-give-loops-5
 slice-aggregate-give-loops-5 c = search needs
 
 slice-aggregate-give-loops-6 : tie.Need-slice-aggregate-give-loops-6
-slice-aggregate-give-loops-6 c = sym (c .before .before .before .before .before .before .before .before .before .before .before .before .before .before .before .before .before .before .before .before .before .before .before .before .before .before .before .before .before .before .before .before .before .before .before .before .before .before .before .before .prepare .kept .1 .1 .1 .1 .0)
+slice-aggregate-give-loops-6 c = sym (c .before .before .before .before .before .before .before .before .before .before .before .before .before .before .before .before .before .before .before .before .before .before .before .before .before .before .before .before .before .before .before .before .before .before .before .before .before .before .before .before .before .before .before .prepare .kept .1 .1 .1 .1 .0)
 
 slice-aggregate-give-loops-7 : tie.Need-slice-aggregate-give-loops-7
 slice-aggregate-give-loops-7 c = search needs
@@ -221,13 +227,13 @@ slice-aggregate-give-loops-12 c = search needs
 give-loops-requires : tie.Need-give-loops-requires
 unfolding copies
 give-loops-requires c κs =
-    let s = c .before .before .before .before .before .before .before .before .before .before .before .before .before .before .before .before .before .before .before .before .before .before .before .before .before .before .before .before .before .before .before .before .before .before .before .before .before .before .before .before .before .before .before .before .before .before .before .before .before .before .before .before .before .before .before .before .before in
-    let r = c .before .before .before .before .before .before .before .before .before .before .before .before .before .before .before .before .before .before .before .before .before .before .before .before .before .before .before .before .before .before .before .before .before .before .before .before .before .before .before .before .before .before .before .before .before .before .before .prepare in
-    let t = c .before .before .before .before .before .before .before .before .before .before .before .before .before .before .before .before .before .before .before .before .before .before .before .before .before .before .before .settle in
+    let s = c .before .before .before .before .before .before .before .before .before .before .before .before .before .before .before .before .before .before .before .before .before .before .before .before .before .before .before .before .before .before .before .before .before .before .before .before .before .before .before .before .before .before .before .before .before .before .before .before .before .before .before .before .before .before .before .before .before .before .before .before in
+    let r = c .before .before .before .before .before .before .before .before .before .before .before .before .before .before .before .before .before .before .before .before .before .before .before .before .before .before .before .before .before .before .before .before .before .before .before .before .before .before .before .before .before .before .before .before .before .before .before .before .before .before .prepare in
+    let t = c .before .before .before .before .before .before .before .before .before .before .before .before .before .before .before .before .before .before .before .before .before .before .before .before .before .before .before .before .before .before .settle in
     let l = c .before .before .before .before .before .before .before .before .before .before .before .before .before .before .number-lines in (
       fine (s .pre .0) (s .pre .1 .0) (r .ensures) (t .ensures) (omega (arith, r .kept .1 .0)) (omega (arith, r .kept .1 .1 .0))
           (omega (arith, r .kept .1 .1 .1 .0)) (omega (arith, t .kept .1 .1 .1 .1 .1 .1 .0)) (omega (arith, r .kept .1 .1 .1 .1 .0))
-          (omega (arith, l .kept .1 .1 .1 .1 .1 .1 .0)) (s .pre .1 .1 .0),
+          (omega (arith, l .kept .1 .1 .1 .1 .1 .1 .0, c .before .before .before .before .before .before .before .before .before .before .before .before .before .before .before .before .before .before .before .before .before .before .fill .kept .0, t .kept .1 .1 .1 .1 .1 .1 .1 .0)) (s .pre .1 .1 .0),
       record {
         need-room = omega (arith, t .kept .1 .1 .1 .1 .1 .1 .1 .1 .0);
         sets-room = omega arith;
@@ -243,8 +249,8 @@ same-length c = search needs
 
 returns : tie.Need-returns
 returns c =
-    let s = c .before .before .before .before .before .before .before .before .before .before .before .before .before .before .before .before .before .before .before .before .before .before .before .before .before .before .before .before .before .before .before .before .before .before .before .before .before .before .before .before .before .before .before .before .before .before .before .before .before .before .before .before .before .before .before .before .before .before .before .before .before .before .before .before .before in
-    spelled (s .pre .0) (s .pre .1 .0) (c .before .before .before .before .before .before .before .before .before .before .before .before .before .before .before .before .before .before .before .before .before .before .before .before .before .before .before .before .before .before .before .before .before .before .before .before .before .before .before .before .before .before .before .before .before .before .before .before .before .before .before .before .before .before .before .prepare .ensures) (c .before .before .before .before .before .before .before .before .before .before .before .before .before .before .before .before .before .before .before .before .before .before .before .before .before .before .before .before .before .before .before .before .before .before .before .settle .ensures) (c .before .before .before .before .before .before .before .before .before .before .before .before .before .before .before .before .before .before .before .before .before .before .number-lines .ensures)
+    let s = c .before .before .before .before .before .before .before .before .before .before .before .before .before .before .before .before .before .before .before .before .before .before .before .before .before .before .before .before .before .before .before .before .before .before .before .before .before .before .before .before .before .before .before .before .before .before .before .before .before .before .before .before .before .before .before .before .before .before .before .before .before .before .before .before .before .before .before .before in
+    spelled (s .pre .0) (s .pre .1 .0) (c .before .before .before .before .before .before .before .before .before .before .before .before .before .before .before .before .before .before .before .before .before .before .before .before .before .before .before .before .before .before .before .before .before .before .before .before .before .before .before .before .before .before .before .before .before .before .before .before .before .before .before .before .before .before .before .before .before .before .prepare .ensures) (c .before .before .before .before .before .before .before .before .before .before .before .before .before .before .before .before .before .before .before .before .before .before .before .before .before .before .before .before .before .before .before .before .before .before .before .before .before .before .settle .ensures) (c .before .before .before .before .before .before .before .before .before .before .before .before .before .before .before .before .before .before .before .before .before .before .number-lines .ensures)
     (s .pre .1 .1 .1) (c .before .before .before .before .before .before .before .give-loops .ensures)
 
 pub give-tables-spec : {M : Type 1} → statement M
@@ -275,6 +281,8 @@ give-tables-spec =
     slice-aggregate-settle-11
     slice-aggregate-settle-12
     settle-requires
+    slice-aggregate-fill
+    fill-requires
     array-share-prefix-points-2
     slice-aggregate-number-lines
     slice-aggregate-number-lines-2
