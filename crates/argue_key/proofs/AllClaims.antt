@@ -1,6 +1,6 @@
 -- Claim after claim, the loops from the last DO to the first, so that what a claim asks of the loops inside is known.
--- Main statement: `all-claims`.
-use mathlib.Core.Path.{_≡_, refl, _∙_}
+-- Main statements: `made-length`, `all-claims`.
+use mathlib.Core.Path.{_≡_, refl, ap, _∙_}
 use mathlib.Core.Bool.{true, _||_}
 use mathlib.Core.List.{List, [], _∷_, _++_}
 use mathlib.Core.Logic.{inl, inr, ⊎-elim}
@@ -31,6 +31,13 @@ use Rattle.argue_key.proofs.Known.{Match, match-more, Kn, kn-more, has-
 use Rattle.argue_key.proofs.HeadLists.{LoopKnown, low-in, HeadOf, head-of}
 use Rattle.argue_key.proofs.Children.{Inner, kid-says}
 
+-- a claim for each head
+pub made-length : (ps : List ℕ) (ds : List Dep) (T : Tables) (cs : List Claim) (hs : List Head) →
+    length (made ps ds T cs hs) ≡ length hs
+unfolding made
+made-length ps ds T cs [] = refl
+made-length ps ds T cs (h ∷ hs) = ap suc (made-length ps ds T (cs ++ (claimFor ps ds T cs h ∷ [])) hs)
+
 module _
     (n : Nest) (key : List ℕ) (laws : Lawful (worldOf (n .points) (n .deps)) (linesIn (n .points) (n .deps)))
     (fit : AllFit (n .points) (n .deps)) (T : Tables)
@@ -55,7 +62,7 @@ module _
 
       one-holds : ended n key new (run n key new ks (new .steps) begun) ≡ true
       one-holds =
-          head-holds n key laws fit T table costs h (of .is-do) (of .busy) (of .kind) ks (leadIn T cs)
+          head-holds n key laws fit T table costs h (of .is-do) (of .busy) (of .kind) (leadIn T cs) ks
           (λ p l at. kid-says n key laws fit T table costs (h .loop) (of .is-do) cs ks match
           (λ m u. inner m (omega (arith, u, of .loop-is))) p l at)
 

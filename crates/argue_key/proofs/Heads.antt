@@ -91,8 +91,7 @@ module _
     pub proper : T .left (h .loop) at ≡ suc (h .loop) → ⊥
 
   module _ (h : Head) (is-do : isDo ps (h .loop) ≡ true) (busy : 0 < T .left (h .loop) (suc (h .loop)))
-      (kind : Low h ⊎ Side h) (ks : List Known) (lead : ℕ → ℕ → ℕ)
-      (kids : (p l : ℕ) → AtChild (loopsIn ps) (h .loop) p l → KidSays n key (h .loop) ks T lead l) where
+      (kind : Low h ⊎ Side h) (lead : ℕ → ℕ → ℕ) where
     abbrev d : ℕ
     d = h .loop
 
@@ -249,16 +248,6 @@ module _
           (λ (u : s .f ≤ h .upto). kept-side z (inr far-on) (inr (omega (arith, u, y .0)))) o)))
           (side-cases z)) kind
 
-    worse : ((0 < h .upto) → d < h .upto) → (f : ℕ) → d < f → f ≤ suc e →
-        Worse n key k ks (laws .of-loops) T is-do lead few kids f
-    unfolding lapEnd lapSwept lapNeed
-    worse proper f u w =
-        let b : Bad f u w
-        (closeUp d (h .upto) (sweep (loopsIn ps) T (needOf (reachOf ps ds d) (suffixOf ps ds d (h .from) f .at) e)
-        d)) =
-        bad f u w proper in
-        record { at-least = b .at-least; further = b .further }
-
     proper : (0 < h .upto) → d < h .upto
     proper p = ⊎-elim (λ (z : Low h). absurd (omega (arith, z .upto-is, p)))
         (λ (z : Side h). ⊎-elim (λ (y : (T .left d (z .at) ≡ 0) × (h .upto ≡ 0)). absurd (omega (arith, y .1, p)))
@@ -266,53 +255,71 @@ module _
         omega (arith, y .0, z .proper, left-low d (z .at) is-do (z .low) (z .high) (omega (arith, y .0))))
         (side-cases z)) kind
 
-    -- laps from a front right after the DO
-    by-laps : ((0 < h .upto) → d < h .upto) → Enough n key k ks (laws .of-loops) T is-do lead few kids
-        (run n key k ks (laps ps ds T lead d (h .from) (h .upto) few (suc (suc e)) (suc d)) begun)
-    by-laps proper =
-        laps-enough n key k ks (laws .of-loops) T is-do lead few kids
-        (λ f u w. lap-sets n key k laws fit is-do from-low from-high f) upto-in (worse proper)
-        (suc (suc e)) 0 (suc d) begun (omega arith) (omega arith) (omega (arith, long)) (sym (lots-zero few))
-        (record {
-          fine = refl;
-          outs = λ g a b c o. absurd (omega (arith, a, b));
-          most = λ g. omega arith;
-          fewer = λ g a b. absurd (omega (arith, a, b));
-        })
+    abbrev endAt : ℕ → State
+    endAt = lapEnd ps ds T lead d (h .from) (h .upto) few
 
-    all-steps : Enough n key k ks (laws .of-loops) T is-do lead few kids
-        (run n key k ks (stepsFor ps ds T lead h) begun)
-    unfolding stepsFor
-    all-steps = by-laps proper
+    -- a lap counts enough, or its front lies further on
+    pub lap-worse : (f : ℕ) → d < f → f ≤ suc e → (few ≤ endAt f .c) × (endAt f .c ≤ few → f < endAt f .f)
+    unfolding lapEnd lapSwept lapNeed
+    lap-worse f u w =
+        let b : Bad f u w
+        (closeUp d (h .upto) (sweep (loopsIn ps) T (needOf (reachOf ps ds d) (suffixOf ps ds d (h .from) f .at) e)
+        d)) =
+        bad f u w proper in
+        (b .at-least, b .further)
 
-    pub head-holds : ended n key k (run n key k ks (k .steps) begun) ≡ true
-    head-holds =
-        let x : Count = run n key k ks (stepsFor ps ds T lead h) begun in
-        and-intro (all-steps .fine)
-        (and-intro is-do (lt-ltb _ _ (enough (run n key k ks (stepsFor ps ds T lead h) begun) all-steps)))
-      where
-        enough : (x : Count) → Enough n key k ks (laws .of-loops) T is-do lead few kids x →
-            lots (greatest (x .times) (length ps)) (loopCount n key d) < x .c + when (isLow k)
-            (greatest (x .times) (length ps))
-        enough x r =
-            let m : greatest (x .times) (length ps) ≤ r .laps = greatest-in (x .times) (r .laps) (length ps) (r .pos)
-            (λ g p q. r .most g) in
-            let u : lots (greatest (x .times) (length ps)) few ≤ lots (r .laps) few =
-            lots-le (greatest (x .times) (length ps)) (r .laps) few m in
-            let v : lots (r .laps) few ≡ lots few (r .laps) = lots-swap (r .laps) few in
-            ⊎-elim
-            (λ (z : Low h). (
-            let c : loopCount n key d ≡ suc few = costs d is-do ∙ sym (few-low z) in
-            let o : lots (greatest (x .times) (length ps)) (loopCount n key d) ≡ lots
-            (greatest (x .times) (length ps)) (suc few) =
-            ap (lots (greatest (x .times) (length ps))) c in
-            let w : when (isLow k) (greatest (x .times) (length ps)) ≡ greatest (x .times) (length ps) = rw
-            (low-test z) in
-            omega (arith, u, v, r .enough, o, w, lots-suc (greatest (x .times) (length ps)) few)))
-            (λ (z : Side h). (
-            let c : loopCount n key d ≡ few = costs d is-do ∙ sym (few-side z) in
-            let o : lots (greatest (x .times) (length ps)) (loopCount n key d) ≡ lots
-            (greatest (x .times) (length ps)) few =
-            ap (lots (greatest (x .times) (length ps))) c in
-            omega (arith, u, v, r .enough, o)))
-            kind
+    module _ (ks : List Known)
+        (kids : (p l : ℕ) → AtChild (loopsIn ps) (h .loop) p l → KidSays n key (h .loop) ks T lead l) where
+      worse : (f : ℕ) → d < f → f ≤ suc e → Worse n key k ks (laws .of-loops) T is-do lead few kids f
+      worse f u w = let r = lap-worse f u w in record { at-least = r .0; further = r .1 }
+
+      -- laps from a front right after the DO
+      by-laps : Enough n key k ks (laws .of-loops) T is-do lead few kids
+          (run n key k ks (laps ps ds T lead d (h .from) (h .upto) few (suc (suc e)) (suc d)) begun)
+      by-laps =
+          laps-enough n key k ks (laws .of-loops) T is-do lead few kids
+          (λ f u w. lap-sets n key k laws fit is-do from-low from-high f) upto-in worse
+          (suc (suc e)) 0 (suc d) begun (omega arith) (omega arith) (omega (arith, long)) (sym (lots-zero few))
+          (record {
+            fine = refl;
+            outs = λ g a b c o. absurd (omega (arith, a, b));
+            most = λ g. omega arith;
+            fewer = λ g a b. absurd (omega (arith, a, b));
+          })
+
+      all-steps : Enough n key k ks (laws .of-loops) T is-do lead few kids
+          (run n key k ks (stepsFor ps ds T lead h) begun)
+      unfolding stepsFor
+      all-steps = by-laps
+
+      pub head-holds : ended n key k (run n key k ks (k .steps) begun) ≡ true
+      head-holds =
+          let x : Count = run n key k ks (stepsFor ps ds T lead h) begun in
+          and-intro (all-steps .fine)
+          (and-intro is-do (lt-ltb _ _ (enough (run n key k ks (stepsFor ps ds T lead h) begun) all-steps)))
+        where
+          enough : (x : Count) → Enough n key k ks (laws .of-loops) T is-do lead few kids x →
+              lots (greatest (x .times) (length ps)) (loopCount n key d) < x .c + when (isLow k)
+              (greatest (x .times) (length ps))
+          enough x r =
+              let m : greatest (x .times) (length ps) ≤ r .laps = greatest-in (x .times) (r .laps) (length ps) (r .pos)
+              (λ g p q. r .most g) in
+              let u : lots (greatest (x .times) (length ps)) few ≤ lots (r .laps) few =
+              lots-le (greatest (x .times) (length ps)) (r .laps) few m in
+              let v : lots (r .laps) few ≡ lots few (r .laps) = lots-swap (r .laps) few in
+              ⊎-elim
+              (λ (z : Low h). (
+              let c : loopCount n key d ≡ suc few = costs d is-do ∙ sym (few-low z) in
+              let o : lots (greatest (x .times) (length ps)) (loopCount n key d) ≡ lots
+              (greatest (x .times) (length ps)) (suc few) =
+              ap (lots (greatest (x .times) (length ps))) c in
+              let w : when (isLow k) (greatest (x .times) (length ps)) ≡ greatest (x .times) (length ps) = rw
+              (low-test z) in
+              omega (arith, u, v, r .enough, o, w, lots-suc (greatest (x .times) (length ps)) few)))
+              (λ (z : Side h). (
+              let c : loopCount n key d ≡ few = costs d is-do ∙ sym (few-side z) in
+              let o : lots (greatest (x .times) (length ps)) (loopCount n key d) ≡ lots
+              (greatest (x .times) (length ps)) few =
+              ap (lots (greatest (x .times) (length ps))) c in
+              omega (arith, u, v, r .enough, o)))
+              kind

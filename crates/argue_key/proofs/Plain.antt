@@ -1,5 +1,5 @@
 -- The key of a nest without barred gaps has its argument.
--- Main statement: `plain-argued`.
+-- Main statements: `costs`, `plain-argued`.
 use mathlib.Core.Path.{_≡_, _∙_}
 use mathlib.Core.Bool.{true}
 use mathlib.Core.List.{[]}
@@ -30,13 +30,13 @@ use Rattle.argue_key.specs.Laps.{plainArgument}
 use Rattle.argue_key.proofs.AllClaims.{all-claims}
 
 module _ (n : Nest) (shape : isShape (n .points) ≡ true) (fit : AllFit (n .points) (n .deps)) where
-  abbrev T : Tables
+  abbrev pub T : Tables
   T = tableOf (loopsIn (n .points)) (linesIn (n .points) (n .deps)) (length (n .points))
 
-  laws : Lawful (worldOf (n .points) (n .deps)) (linesIn (n .points) (n .deps))
+  pub laws : Lawful (worldOf (n .points) (n .deps)) (linesIn (n .points) (n .deps))
   laws = lawful (n .points) (n .deps) shape fit
 
-  table : IsTable (loopsIn (n .points)) (linesIn (n .points) (n .deps)) T
+  pub table : IsTable (loopsIn (n .points)) (linesIn (n .points) (n .deps)) T
   table = table-is (loopsIn (n .points)) (laws .of-loops) (linesIn (n .points) (n .deps)) (length (n .points))
       (λ d h. point-in (n .points) d 0 h)
 
@@ -48,7 +48,7 @@ module _ (n : Nest) (shape : isShape (n .points) ≡ true) (fit : AllFit (n .poi
       (starts-with-do (n .points) shape)
       .done m (in-outermost (n .points) shape m h) .exact
 
-  costs : (m : ℕ) → isDo (n .points) m ≡ true → loopCount n (plainKey n) m ≡ T .cost m
+  pub costs : (m : ℕ) → isDo (n .points) m ≡ true → loopCount n (plainKey n) m ≡ T .cost m
   costs m h =
       list-count n (plainKey n) m shape (plain-gaps n shape fit) h ∙
       (same-count (n .points) (memberOf (plainKey n)) (keyIn (n .points) (n .deps)) m (in-plain n shape fit) ∙ laid m h)

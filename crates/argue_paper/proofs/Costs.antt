@@ -7,25 +7,15 @@ use Prim.Native.Nat.{ℕ}
 use native.Mathlib.Omega.{arith}
 use lib.ListN.{length}
 use Rattle.paper_nests.specs.Nests.{Nest}
-use Rattle.paper_nests.specs.Loops.{isDo}
 use Rattle.paper_nests.specs.Valid.{isShape, isValid}
-use Rattle.paper_nests.proofs.Levels.{point-in, starts-with-do}
+use Rattle.paper_nests.proofs.Levels.{point-in}
 use Rattle.paper_nests.proofs.Deps.{valid-is, deps-fit}
 use Rattle.paper_placements.specs.Placements.{areGapsFrom, loopCount}
 use Rattle.paper_placements.specs.Words.{gapsIn}
 use Rattle.paper_counts.specs.Tables.{CountsAre}
-use Rattle.plan_method.specs.Sweep.{Tables, IsTable}
-use Rattle.plan_method.specs.Plan.{tableOf, keyOf}
-use Rattle.plan_method.specs.Home.{loopsIn, linesIn, keyIn}
-use Rattle.plan_method.proofs.World.{Lawful}
-use Rattle.plan_method.proofs.Claim.{count}
-use Rattle.plan_method.proofs.Cuts.{in-outermost}
-use Rattle.plan_method.proofs.Tables.{table-is}
-use Rattle.plan_method.proofs.Theorem as PT
-use Rattle.plan_method.proofs.Instance.{worldOf, AllFit, lawful}
-use Rattle.plan_theorem.specs.KeyOf.{plainKey}
-use Rattle.plan_theorem.proofs.KeyGaps.{plain-gaps, in-plain, planned-words}
-use Rattle.plan_theorem.proofs.Predicates.{memberOf, same-count, list-count}
+use Rattle.plan_method.proofs.Instance.{AllFit}
+use Rattle.plan_theorem.proofs.KeyGaps.{plain-gaps, planned-words}
+use Rattle.argue_key.proofs.Plain as AK
 use Rattle.plan_nest.specs.Planned.{PlanSays}
 use Rattle.argue_paper.specs.Spelled.{CostsAre}
 
@@ -35,29 +25,6 @@ module _ (n : Nest) (valid : isValid n ≡ true) where
 
   fit : AllFit (n .points) (n .deps)
   fit = deps-fit (n .points) (n .deps) (valid-is n valid .all-deps)
-
-  abbrev T : Tables
-  T = tableOf (loopsIn (n .points)) (linesIn (n .points) (n .deps)) (length (n .points))
-
-  laws : Lawful (worldOf (n .points) (n .deps)) (linesIn (n .points) (n .deps))
-  laws = lawful (n .points) (n .deps) shape fit
-
-  pub table : IsTable (loopsIn (n .points)) (linesIn (n .points) (n .deps)) T
-  table = table-is (loopsIn (n .points)) (laws .of-loops) (linesIn (n .points) (n .deps)) (length (n .points))
-      (λ d h. point-in (n .points) d 0 h)
-
-  -- the key has the table's cost at every loop
-  laid : (m : ℕ) → isDo (n .points) m ≡ true → count (loopsIn (n .points)) (keyIn (n .points) (n .deps)) m ≡ T .cost m
-  unfolding keyIn keyOf
-  laid m h =
-      PT.laid (worldOf (n .points) (n .deps)) (linesIn (n .points) (n .deps)) laws T table 0
-      (starts-with-do (n .points) shape)
-      .done m (in-outermost (n .points) shape m h) .exact
-
-  counted : (m : ℕ) → isDo (n .points) m ≡ true → loopCount n (plainKey n) m ≡ T .cost m
-  counted m h =
-      list-count n (plainKey n) m shape (plain-gaps n shape fit) h ∙
-      (same-count (n .points) (memberOf (plainKey n)) (keyIn (n .points) (n .deps)) m (in-plain n shape fit) ∙ laid m h)
 
   -- the planner's words hold gaps of the nest
   pub plan-gaps : (words : List ℕ) → PlanSays n words →
@@ -69,4 +36,4 @@ module _ (n : Nest) (valid : isValid n ≡ true) where
   costs words counts p c d h =
       let z = planned-words n words valid p in
       c n refl d (omega (arith, point-in (n .points) d 0 h, valid-is n valid .few-points)) ∙
-      ap (λ (gs : List ℕ). loopCount n gs d) z ∙ counted d h
+      ap (λ (gs : List ℕ). loopCount n gs d) z ∙ AK.costs n shape fit d h

@@ -1,9 +1,9 @@
 -- The planner's tables are what the claims are given from, and what is given is the argument.
 -- Main statements: `unset-filled`, `small-filled`, `fine`, `ground`, `spelled`.
-use mathlib.Core.Path.{_≡_, refl, sym, _∙_, ap}
+use mathlib.Core.Path.{_≡_, refl, sym, _∙_}
 use mathlib.Core.Bool.{true}
-use mathlib.Core.List.{List, [], _∷_, _++_}
-use Prim.Native.Nat.{ℕ, suc, _+_, _*_, _≤_, _<_}
+use mathlib.Core.List.{List, []}
+use Prim.Native.Nat.{ℕ, _+_, _*_, _≤_, _<_}
 use native.Mathlib.Omega.{arith}
 use lib.ListN.{length}
 use Rattle.laws.specs.Entries.{at}
@@ -23,13 +23,13 @@ use Rattle.plan_tables.specs.Prepared.{Prepared}
 use Rattle.plan_tables.proofs.Preparing.{points-of, fits-of}
 use Rattle.plan_settle.specs.Settled.{HasHeight, Unset, SettleSays}
 use Rattle.plan_nest.proofs.Planning.{charts, lines}
-use Rattle.argue_claims.specs.Arguments.{Claim}
-use Rattle.argue_key.specs.Laps.{Head, headsFrom, claimFor, made, plainArgument}
+use Rattle.argue_key.specs.Laps.{headsFrom, plainArgument}
+use Rattle.argue_key.proofs.AllClaims.{made-length}
+use Rattle.argue_key.proofs.Plain.{table}
 use Rattle.argue_sets.specs.Numbered.{lineSet}
 use Rattle.argue_spell.specs.Added.{WORD}
 use Rattle.argue_give.specs.Whole.{GiveTables, TableGround, GivenAll}
 use Rattle.argue_paper.specs.Spelled.{Spelled, CostsAre}
-use Rattle.argue_paper.proofs.Costs.{table}
 
 -- new lists, filled with one number
 pub unset-filled : {d e : ℕ} → Unset (copies TABLE 0) d e
@@ -37,12 +37,6 @@ unset-filled h q a b c e = copies-at TABLE 0 (h * 256 + q)
 
 pub small-filled : (a : ℕ) → at (copies 256 0) a ≤ WORD
 small-filled a = let z : at (copies 256 0) a ≡ 0 = copies-at 256 0 a in omega arith
-
-made-length : (ps : List ℕ) (ds : List Dep) (T : Tables) (cs : List Claim) (hs : List Head) →
-    length (made ps ds T cs hs) ≡ length hs
-unfolding made
-made-length ps ds T cs [] = refl
-made-length ps ds T cs (h ∷ hs) = ap suc (made-length ps ds T (cs ++ (claimFor ps ds T cs h ∷ [])) hs)
 
 module _
     {nest : DN.Nest} (counted : IsCounted nest) (valid : isValid (nestIn nest) ≡ true)
@@ -89,7 +83,8 @@ module _
     ground n c =
         record {
           left-is = λ l h q i x y z.
-              s .rows (linesIn ps ds) T (table (nestIn nest) valid)
+              s .rows (linesIn ps ds) T
+              (table (nestIn nest) (points-of (nestIn nest) valid .shape) (fits-of (nestIn nest) valid))
               (lines ps ds own ends heights reach limit has (points-of (nestIn nest) valid) p) .left-is l h q i
               (omega arith) (outermost l i) x y z;
           reach-is = λ d h a i x y z. rw (same d h i x) (p .reach-is d a i y z);
