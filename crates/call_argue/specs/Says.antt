@@ -3,15 +3,14 @@
 use mathlib.Core.Path.{_≡_}
 use mathlib.Core.Bool.{true, _||_}
 use mathlib.Core.List.{List}
-use Prim.Native.Nat.{ℕ, _≤_}
+use Prim.Native.Nat.{ℕ}
 use lib.Dec.{eqb, ltb}
 use lib.ListN.{length}
 use Rattle.laws.specs.Choice.{pick, when, firstOf}
 use Rattle.paper_nests.specs.Nests.{Nest}
 use Rattle.paper_lines.specs.Writing.{over}
-use Rattle.argue_texts.specs.ArgumentTexts.{CLAIMS, argumentText}
+use Rattle.argue_texts.specs.ArgumentTexts.{argumentText}
 use Rattle.argue_key.specs.Laps.{argumentOf}
-use Rattle.argue_give.specs.declared.Sofar.{Sofar}
 use Rattle.desk.specs.declared.Desk as DD
 use Rattle.desk.specs.declared.Answer as DA
 use Rattle.desk.specs.Desks.{Desk, deskIn, stateFault}
@@ -20,12 +19,11 @@ use Rattle.desk.specs.Desks.{Desk, deskIn, stateFault}
 abbrev pub textOf : Nest → List ℕ
 textOf n = argumentText (argumentOf n)
 
--- 5, too many claims for a text; then 9, for a buffer that is too short
+-- 9, for a buffer that is too short
 abbrev pub roomFault : Nest → List ℕ → ℕ
-roomFault n out =
-    firstOf (when (ltb CLAIMS (length (argumentOf n))) 5) (when (ltb (length out) (length (textOf n))) 9)
+roomFault n out = when (ltb (length out) (length (textOf n))) 9
 
--- 10, 11; then these
+-- 10, 11; then this
 abbrev pub argueFault : Desk → List ℕ → ℕ
 argueFault x out = firstOf (stateFault true x) (roomFault (x .nest-is) out)
 
@@ -38,11 +36,6 @@ pub record ArguedAs (number : ℕ) (n : Nest) (out out′ : List ℕ) (r : DA.An
 
 abbrev pub ArgueSays : DD.Desk → List ℕ → List ℕ → DA.Answer → Type 0
 ArgueSays d out out′ r = ArguedAs (argueFault (deskIn d) out) (deskIn d .nest-is) out out′ r
-
--- the number of claims, and the length of their text where a text may have so many
-pub record CountedAs (n : Nest) (r : Sofar) : Type 0 where
-  pub many-is : r .many ≡ length (argumentOf n)
-  pub length-is : r .many ≤ CLAIMS → r .at ≡ length (textOf n)
 
 -- the reply where the buffer is too short
 pub record AnswersShort (wanted : ℕ) (r : DA.Answer) : Type 0 where

@@ -1,22 +1,21 @@
 // The argument of the key, written into a lent buffer.
 ghost use mathlib.Core.Path.{_≡_};
 ghost use mathlib.Core.Bool.{true, false};
+ghost use lib.ListN.{length};
 ghost use Rattle.paper_nests.specs.Valid.{isValid};
 ghost use Rattle.paper_nests.specs.Stored.{nestIn, IsCounted};
 ghost use Rattle.paper_barred.specs.Reduced.{isBlocked};
 ghost use Rattle.desk.specs.Desks.{IsMade};
-ghost use Rattle.call_argue.specs.Says.{CountedAs, AnswersShort, ArgueSays};
-use argue_give::Sofar;
+ghost use Rattle.call_argue.specs.Says.{textOf, AnswersShort, ArgueSays};
 use argue_paper::give_argument;
-use argue_texts::CLAIMS;
 use desk::Answer;
 use desk::Desk;
 use desk::key_fault;
 use desk::refused;
 use paper_nests::Nest;
 
-// Writes the argument of the key as text into a lent buffer; the value is its length. Numbers 10, 11, then 5 where a
-// text may not have so many claims, then 9 where the buffer is short, with the length that is wanted.
+// Writes the argument of the key as text into a lent buffer; the value is its length. Numbers 10, 11, then 9 where the
+// buffer is short, with the length that is wanted.
 pub fn argue(desk: Desk, out: &mut [u8]) -> Answer
     requires { ⌜ IsMade desk ⌝ }
     ensures { λ r. ⌜ ArgueSays desk (now (out .entry)) (now (out .exit)) r ⌝ }
@@ -27,11 +26,8 @@ pub fn argue(desk: Desk, out: &mut [u8]) -> Answer
     }
     let nest = desk.nest;
     let wanted = count_argument(nest);
-    if CLAIMS < wanted.many {
-        return refused(5);
-    }
-    if out.len() < wanted.at {
-        return too_short(wanted.at);
+    if out.len() < wanted {
+        return too_short(wanted);
     }
     let given = give_argument(nest, out);
     Answer {
@@ -41,15 +37,16 @@ pub fn argue(desk: Desk, out: &mut [u8]) -> Answer
     }
 }
 
-// How many claims the argument has, and how long its text is.
-fn count_argument(nest: Nest) -> Sofar
+// How long the text of the argument is.
+fn count_argument(nest: Nest) -> usize
     requires { ⌜ IsCounted nest ⌝ }
     requires { ⌜ isValid (nestIn nest) ≡ true ⌝ }
     requires { ⌜ isBlocked (nestIn nest) ≡ false ⌝ }
-    ensures { λ r. ⌜ CountedAs (nestIn nest) r ⌝ }
+    ensures { λ r. ⌜ r ≡ length (textOf (nestIn nest)) ⌝ }
 {
     let mut spare = [0; 1];
-    give_argument(nest, &mut spare)
+    let counted = give_argument(nest, &mut spare);
+    counted.at
 }
 
 // The reply where the buffer is too short.

@@ -1,14 +1,14 @@
--- `argue` meets its contract: one law for each way through it (proofs/Replies). A desk with a key is ready (`ready`), and
--- its paper is not blocked.
+-- `argue` meets its contract: one law for each way through it (proofs/Replies). A desk with a key is ready (`ready`),
+-- and its paper is not blocked.
 use mathlib.Core.Path.{refl, sym, _∙_}
 use Prim.Native.Nat.{_≤_}
 use native.Mathlib.Omega.{arith}
 use lib.ListN.{length}
 use borrow.Author.Needs.{needs}
-use Rattle.argue_texts.specs.ArgumentTexts.{CLAIMS}
 use Rattle.argue_spell.proofs.Adding.{added-all}
+use Rattle.desk.specs.Desks.{deskIn}
 use Rattle.desk.proofs.Ready.{ready, ready-has}
-use Rattle.call_argue.proofs.Replies.{argue-refused, argue-many, argue-short, argue-given}
+use Rattle.call_argue.proofs.Replies.{all-spelled, argue-refused, argue-short, argue-given}
 use Rattle.call_argue.proofs.argue.Statement.{statement}
 use Rattle.call_argue.proofs.argue.Tie as tie
 
@@ -33,32 +33,21 @@ count-argument-requires c κs =
     let r = ready (s .args .desk) (s .pre) h in
     (r .counted, (r .valid, s .pre .paper .opens (ready-has (s .args .desk) h .1)))
 
-refused-requires-2 : tie.Need-refused-requires-2
-refused-requires-2 c κs = search needs
-
-returns-2 : tie.Need-returns-2
-returns-2 c =
-    let a = c .before .before .before .before .before .before .before .before .args in
-    let e = c .before .before .before .before .before in
-    let w = c .before .before .before .count-argument in
-    argue-many (a .desk) (a .out .now) (c .refused2 .result) (sym (e .before .key-fault .ensures) ∙ e .if1 .left)
-    (w .result) (w .ensures) (omega (arith, c .before .if2 .taken)) (c .refused2 .ensures)
-
 too-short-requires : tie.Need-too-short-requires
 too-short-requires c κs = search needs
 
-returns-3 : tie.Need-returns-3
-returns-3 c =
-    let a = c .before .before .before .before .before .before .before .before .before .before .args in
-    let e = c .before .before .before .before .before .before .before in
-    let w = c .before .before .before .before .before .count-argument in
-    argue-short (a .desk) (a .out .now) (c .too-short .result) (sym (e .before .key-fault .ensures) ∙ e .if1 .left)
-    (w .result) (w .ensures) (omega (arith, c .before .before .before .if2 .left)) (omega (arith, c .before .if3 .taken))
+returns-2 : tie.Need-returns-2
+returns-2 c =
+    let a = c .before .before .before .before .before .before .before .args in
+    let e = c .before .before .before .before in
+    let w = c .before .before .count-argument in
+    argue-short (a .desk) (a .out .now) (c .too-short .result) (w .result)
+    (sym (e .before .key-fault .ensures) ∙ e .if1 .left) (w .ensures) (omega (arith, c .before .if2 .taken))
     (c .too-short .ensures)
 
 give-argument-requires : tie.Need-give-argument-requires
 give-argument-requires c κs =
-    let e = c .before .before .before .before .before .before .before in
+    let e = c .before .before .before .before in
     let s = e .before .before .before in
     let h = sym (e .before .key-fault .ensures) ∙ e .if1 .left in
     let r = ready (s .args .desk) (s .pre) h in
@@ -67,18 +56,17 @@ give-argument-requires c κs =
 same-length : tie.Need-same-length
 same-length c = search needs
 
-returns-4 : tie.Need-returns-4
-returns-4 c =
-    let a = c .before .before .before .before .before .before .before .before .before .before .before .before .before .args in
-    let e = c .before .before .before .before .before .before .before .before .before .before in
-    let w = c .before .before .before .before .before .before .before .before .count-argument in
-    let g = c .before .before .give-argument .ensures in
-    let few : w .result .many ≤ CLAIMS = omega (arith, c .before .before .before .before .before .before .if2 .left) in
-    let room : w .result .at ≤ length (a .out .now) = omega (arith, c .before .before .before .before .if3 .left) in
-    let l = g .text-is (omega (arith, few, w .ensures .many-is, g .many-is)) in
-    argue-given (a .desk) (a .out .now) _ _ (sym (e .before .key-fault .ensures) ∙ e .if1 .left) (w .result) (w .ensures)
-    few room refl refl (omega (arith, l .next-is))
-    (added-all l (omega (arith, room, l .next-is, w .ensures .length-is few)))
+returns-3 : tie.Need-returns-3
+returns-3 c =
+    let s = c .before .before .before .before .before .before .before .before .before .before in
+    let e = c .before .before .before .before .before .before .before in
+    let h = sym (e .before .key-fault .ensures) ∙ e .if1 .left in
+    let w = c .before .before .before .before .before .count-argument in
+    let room : w .result ≤ length (s .args .out .now) = omega (arith, c .before .before .before .before .if2 .left) in
+    let l = all-spelled (deskIn (s .args .desk) .nest-is) (ready (s .args .desk) (s .pre) h .valid)
+    (s .pre .paper .opens (ready-has (s .args .desk) h .1)) (c .before .before .give-argument .ensures) in
+    argue-given (s .args .desk) (s .args .out .now) _ _ h (omega (arith, room, w .ensures)) refl refl
+    (omega (arith, l .next-is)) (added-all l (omega (arith, room, l .next-is, w .ensures)))
 
 pub argue-spec : {M : Type 1} → statement M
 argue-spec =
@@ -88,10 +76,8 @@ argue-spec =
     refused-requires
     returns
     count-argument-requires
-    refused-requires-2
-    returns-2
     too-short-requires
-    returns-3
+    returns-2
     give-argument-requires
     same-length
-    returns-4)
+    returns-3)
