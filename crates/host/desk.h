@@ -77,6 +77,9 @@ enum { DESK_TEXT = 1275 };
 /* No slip is longer. */
 enum { DESK_SLIP = 3474 };
 
+/* No argument that desk_argue writes is longer. Those of real papers have some thousand bytes; it tells the length. */
+enum { DESK_ARGUMENT = 18337280 };
+
 /* No joint text is longer: 256 points and 512 carried dependences. */
 enum { DESK_JOINT = 5376 };
 
@@ -365,8 +368,8 @@ DeskCompared desk_compare(Desk desk, const uint8_t *a, size_t first, const uint8
 DeskWeighed desk_weigh(Desk desk, const uint8_t *text, size_t length);
 DeskWeighed desk_weigh_placement(Desk desk, const uint8_t *placement, size_t gaps, const uint8_t *text, size_t length);
 
-/* Writes the argument of the key as text, as desk_write writes the key; desk_weigh weighs it. Numbers 10, 11; 5, where it
-   has more claims than a text may have; 9, and then the value is the length that is wanted. */
+/* Writes the argument of the key as text, as desk_write writes the key; desk_weigh has no number for it. Numbers 10,
+   11, 9; with 9 the value is the length that is wanted. */
 DeskAnswer desk_argue(Desk desk, uint8_t *out, size_t length);
 
 /* A desk in use goes over from the kind before sittings: the nest is kept, the sitting is empty, and where there was a

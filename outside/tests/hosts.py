@@ -60,6 +60,14 @@ def check_said(tally: Tally) -> None:
         tally.check(f'the header says: {rule}', rule in said)
 
 
+def check_longest(tally: Tally) -> None:
+    """The length of an argument's text that is proved, on the page too."""
+    longest = re.search(r'DESK_ARGUMENT = (\d+)', HEADER.read_text()).group(1)
+    for name, form in {'argue_lengths/specs/Lengths.antt': f'LONGEST = {longest}\n',
+                       'pages_arguments/specs/Giving.antt': f' long ≤ {longest}\n'}.items():
+        tally.check(f'{name}: {form}', form in (ROOT / 'crates' / name).read_text())
+
+
 def check_version(tally: Tally) -> None:
     """One version: the file's is the header's and the newest of the changes; layout.c holds the library's beside it."""
     version = (ROOT / 'VERSION').read_text().strip()
@@ -120,6 +128,7 @@ def main() -> None:
             check_names(tally)
             check_words(tally)
             check_said(tally)
+            check_longest(tally)
             check_version(tally)
             check_layout(tally, pathlib.Path(name))
             check_examples(tally, pathlib.Path(name))
