@@ -6,100 +6,92 @@ Prints 'holds' (status 0), or the first line of the argument that does not hold,
 read (2). docs/RULES.md, "Arguments", has the rules. Nothing of this repository is used, so none of it need be believed.
 That the paper and the placement are written as RULES says is taken for granted: the desk tells whether they are.
 """
+import pathlib
+import re
 import sys
 from collections import Counter
+from itertools import accumulate
 
-CLAIM, BY, DEPENDENCE, FROM, UPTO = 0x31, 0x32, 0x33, 0x34, 0x35
-LENGTHS = {CLAIM: 4, BY: 3, DEPENDENCE: 3, FROM: 1, UPTO: 1}
 CLAIMS, STEPS = 4096, 1024
+# A claim: d, a and b, and the lines of its steps. A step: the claim that leads it, where one does, and its set.
+CLAIM, STEP = r'31(......)\n((?:3[2-5].*\n)*)', r'(?:32(....)\n)?(33....|34|35)\n'
+FORMS = {'paper': r'((..)+\n)*', 'placement': r'(21..\n)*',
+         'argument': r'(31......\n((32....\n)?(33....|34|35)\n){0,%d}){0,%d}' % (STEPS, CLAIMS)}
 
 
-def frames(text: bytes) -> list[list[int]]:
-    """The lines of a text, each as its bytes."""
-    lines = text.decode('ascii').split('\n')
-    if lines.pop() or any(not line or line.strip('0123456789abcdef') for line in lines):
-        raise ValueError('a line is not digits and 0a')
-    return [[*bytes.fromhex(line)] for line in lines]
+def lines_of(text: bytes, what: str) -> str:
+    """The lines of a text. All of it must have its form."""
+    lines = text.decode('latin-1')
+    formed = re.match(FORMS[what].replace('.', '[0-9a-f]'), lines)[0]
+    if formed != lines:
+        raise ValueError(f'the {what}: line {len(formed.split()) + 1} has no place')
+    return lines
 
 
-def claims_of(text: bytes) -> list[tuple[int, int, int, int, list[tuple[int, int, int, int]]]]:
-    """The claims of an argument: line, loop, from, up to and steps, of these each with its line, kind, number and the
-    claim that leads it, -1 for none."""
-    claims, by = [], -1
-    for line, (kind, *rest) in enumerate(frames(text), 1):
-        number = rest[0] * 256 + rest[1] if kind in (BY, DEPENDENCE) and len(rest) == 2 else 0
-        if len(rest) + 1 != LENGTHS.get(kind) or (by >= 0 and kind in (CLAIM, BY)) or not (claims or kind == CLAIM):
-            raise ValueError(f'line {line} has no place')
-        if kind == CLAIM:
-            claims.append((line, rest[0], rest[1], rest[2], []))
-        elif kind != BY:
-            claims[-1][4].append((line, kind, number, by))
-        by = number if kind == BY else -1
-    if by >= 0 or len(claims) > CLAIMS or any(len(steps) > STEPS for *_, steps in claims):
-        raise ValueError('a claim leads nothing, or there is too much')
-    return claims
+def between(first: int, last: int) -> set[int]:
+    """The gaps behind one point and up to another. Gap g lies just before point g."""
+    return {*range(first + 1, last + 1)}
 
 
 def weighed(paper: bytes, placement: bytes, argument: bytes) -> tuple[int, str]:
     """0 and nothing if the argument holds; else the first line that does not, 0 for the placement's, and why."""
-    frames_, gaps, around, end, own = frames(paper), {f[1] for f in frames(placement)}, [], {}, []
-    for i, kind in enumerate([f[0] for f in frames_ if f[0] < 0x11] or [1, 2]):
-        own.append(around[-1] if around else -1)  # gap i lies before point i, in the innermost loop that is open there
-        if kind in (1, 4):
-            around.append(i)
-        elif kind == 2:
-            end[around.pop()] = i
-    sets = [{*range(f[1] + 1, f[2] + 1)} if f[0] == 0x11 else
-            {*range(f[1] + 1, f[3] + 1), *range(f[2] + 1, end[f[1]] + 1)} for f in frames_ if f[0] in (0x11, 0x12)]
-    barred, known = {f[1] for f in frames_ if f[0] == 0x13}, []
-    count = Counter(own[gap] for gap in gaps)
-    if gaps & barred or not all(gaps & one for one in sets):
+    # Of the paper: the ENDDO of each DO, the loop of each gap, the gaps that cut each dependence, and the barred ones.
+    frames = [bytes.fromhex(line) for line in lines_of(paper, 'paper').split() or ['01', '02']]
+    points = [frame[0] for frame in frames if len(frame) == 1]
+    deep = [*accumulate({1: 1, 2: -1, 3: 0, 4: 1}[kind] for kind in points)]
+    end = {d: deep.index(deep[d] - 1, d) for d, kind in enumerate(points) if kind in (1, 4)}
+    own = [max((d for d in end if d < gap <= end[d]), default=None) for gap in range(len(points))]
+    cuts = [between(*rest) if kind == 0x11 else between(rest[0], rest[2]) | between(rest[1], end[rest[0]])
+            for kind, *rest in frames if kind in (0x11, 0x12)]
+    barred = {gap for kind, *rest in frames if kind == 0x13 for gap in rest}
+    gaps = {int(line[2:], 16) for line in lines_of(placement, 'placement').split()}
+    if gaps & barred or not all(gaps & cut for cut in cuts):
         return 0, 'the placement is not correct'
-    for line, d, a, b, steps in claims_of(argument):
+    count, known, line = Counter(own[gap] for gap in gaps), [], 0
+    for claim, steps in re.findall(CLAIM, lines_of(argument, 'argument')):
+        begin = line = line + 1
+        d, a, b = bytes.fromhex(claim)
         if d not in end:
             return line, f'{d} is no loop'
-        out = {g for g in range(d + 1, end[d] + 1) if g in barred or own[g] != d and count[own[g]] == 0}
-        out = out.union(*(gone for loop, _, _, gone in known if d < loop < end[d]))
-        c, times, facts = 0, Counter(), set()
-        for at, kind, number, by in steps:
-            if kind == DEPENDENCE and number >= len(sets) or kind == FROM and a == 0 or kind == UPTO and b == 0:
-                return at, 'there is no such set'
-            supposed = range(a, end[d] + 1) if kind == FROM else range(d + 1, b + 1)
-            named = sets[number] if kind == DEPENDENCE else {*supposed}
-            left = named - out - facts
-            if by >= 0:
-                loop, low, high, _ = known[by] if by < len(known) else (d, 0, 0, set())
-                if not (d < loop < end[d] and low and high):
-                    return at, f'claim {by} does not lead here'
-                left -= {*range(max(low, loop + 1), end[loop] + 1)}
-            if not all(d < g <= end[d] for g in named) or not all(own[g] == d for g in left):
-                return at, f'what is left is not of loop {d}: {sorted(left)}'
+        inside, from_a, up_to_b = between(d, end[d]), between(a - 1, end[d]), between(d, b)
+        mine = {gap for gap in inside if own[gap] == d}
+        sets = {f'33{number:04x}': cut for number, cut in enumerate(cuts)}
+        sets |= ({'34': from_a} if a else {}) | ({'35': up_to_b} if b else {})
+        # What is struck from every set; by the number of a claim that leads, what it strikes, and what is empty then.
+        out = barred.union({gap for gap in inside - mine if count[own[gap]] == 0}, *(
+            gone for loop, gone, _ in known if loop in inside))
+        leads = {f'{number:04x}': ends for number, (loop, _, ends) in enumerate(known) if loop in inside and ends}
+        leads[''] = set(), set()
+        many, times, empty = 0, Counter(), set()
+        for by, step in re.findall(STEP, steps):
+            line += 2 if by else 1
+            if step not in sets:
+                return line, 'there is no such set'
+            if by not in leads:
+                return line, f'claim {int(by, 16)} does not lead here'
+            left = sets[step] - out - empty - leads[by][0]
+            if not (sets[step] <= inside and left <= mine):
+                return line, f'what is left is not of loop {d}: {sorted(left)}'
             times.update(left)
-            c, facts = (c + 1, set()) if by < 0 else (c, facts | {*range(loop + 1, min(high, end[loop]) + 1)})
+            many, empty = (many, empty | leads[by][1]) if by else (many + 1, set())
         most, low = max([1, *times.values()]), a == b == 0
-        if c <= (count[d] - low) * most:
-            return line, f'{c} sets, no gap in more than {most}, are not enough'
-        known.append((d, a, b, {g for g in range(d + 1, end[d] + 1) if a == 0 and g <= b or b == 0 and 0 < a <= g or
-                                low and c == count[d] * most and own[g] == d and times[g] != most}))
-    lacking = [d for d in end if count[d] and not any((d, 0, 0) == claim[:3] for claim in known)]
-    return (len(frames(argument)) + 1, f'loop {lacking[0]} has no claim') if lacking else (0, '')
-
-
-def main() -> None:
-    try:
-        if len(sys.argv) != 4:
-            raise ValueError('usage: argument.py PAPER PLACEMENT ARGUMENT')
-        texts = []
-        for name in sys.argv[1:]:
-            with open(name, 'rb') as file:
-                texts.append(file.read())
-        line, why = weighed(*texts)
-    except (OSError, ValueError) as fault:
-        print(fault, file=sys.stderr)
-        sys.exit(2)
-    print(f'line {line} does not hold: {why}' if why else 'holds')
-    sys.exit(bool(why))
+        if many <= (count[d] - low) * most:
+            return begin, f'{many} sets, no gap in more than {most}, are not enough'
+        exact = low and many == count[d] * most
+        gone = {gap for gap in inside if (a == 0 and gap <= b) or (b == 0 and 0 < a <= gap) or (
+            exact and gap in mine and times[gap] < most)}
+        known.append((d, gone, (inside & from_a, inside & up_to_b) if a and b else None))
+    lacking = [d for d in sorted(end, key=end.get) if count[d] and f'31{d:02x}0000' not in argument.decode().split()]
+    return (line + 1, f'loop {lacking[0]} has no claim') if lacking else (0, '')
 
 
 if __name__ == '__main__':
-    main()
+    try:
+        if len(sys.argv) != 4:
+            raise ValueError('usage: argument.py PAPER PLACEMENT ARGUMENT')
+        at, fault = weighed(*(pathlib.Path(name).read_bytes() for name in sys.argv[1:]))
+    except (OSError, ValueError) as unread:
+        print(unread, file=sys.stderr)
+        sys.exit(2)
+    print(f'line {at} does not hold: {fault}' if fault else 'holds')
+    sys.exit(bool(fault))
