@@ -1,15 +1,14 @@
 """The argument of a paper's key as commands tell it: whole in words if it is not long, or if that is asked for; for
 programs; by its hash."""
-import hashlib
 import textwrap
 from collections.abc import Callable
-from dataclasses import dataclass
 
 from office.claim_words import ABOUT, NONE_FOUND, NOTHING, Told, claims_told, closing, long
 from office.claims import Followed, Ground, Taken, argument_text, claims_in
 from office.frames import CUTS, FROM
 from office.library import Desk, refusal_of
 from office.paper import Paper
+from office.records import dataclass
 from office.shorter import shortened
 
 # So many sets are printed unasked, in lines so wide.
@@ -29,6 +28,7 @@ class Argued:
 
     @property
     def sha256(self) -> str:
+        import hashlib  # which takes long to load
         return hashlib.sha256(self.text).hexdigest()
 
     def fields(self) -> dict[str, object]:

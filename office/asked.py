@@ -2,7 +2,6 @@
 import os
 import re
 from collections.abc import Callable
-from typing import TypeVar
 
 from office.causes import Ask, gaps_told, no_gap, paper_cause, placement_cause
 from office.command import REFUSED, Fault, printable, read_in, tell
@@ -12,7 +11,11 @@ from office.refusal import Refusal, Refused
 from office.taken import decimal_in, is_listing
 from office.words import RULES, counted, gaps_named, joined
 
-Given = TypeVar('Given')
+TYPE_CHECKING = False
+if TYPE_CHECKING:
+    from typing import TypeVar
+    Given = TypeVar('Given')
+
 LONG = 9
 TURNS, TURNS_HELP = 16, 'the turns of the loops in the order of their DOs, with commas between, or one number for all'
 GAPS_HELP = "gaps in decimal with commas between, '' for none, or a file with these or with a placement text"
@@ -161,8 +164,8 @@ def turns_asked(argument: str, loops: int) -> bytes:
     return bytes(map(int, words * loops if len(words) == 1 else words))
 
 
-def turned(desk: Desk, argument: str, call: Callable[[Desk, bytes], Given],
-           tried: Callable[[Desk, bytes], object] | None = None) -> Given:
+def turned(desk: Desk, argument: str, call: 'Callable[[Desk, bytes], Given]',
+           tried: Callable[[Desk, bytes], object] | None = None) -> 'Given':
     """What a call gives under the turns that an argument names. By another call, which costs less, it may be tried
     which turns would do."""
     turns = turns_asked(argument, desk.nest.points.count(DO))

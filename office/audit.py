@@ -8,7 +8,6 @@ import re
 import sqlite3
 from collections import Counter
 from collections.abc import Callable, Iterable
-from dataclasses import dataclass, field
 
 from office.argued import argument_of
 from office.claims import claims_in
@@ -20,6 +19,7 @@ from office.names import names_bound
 from office.paper import paper_on, placed
 from office.played import Played
 from office.progress import Progress
+from office.records import dataclass, field
 from office.refusal import Refused
 from office.register import Register, opened
 from office.schema import SCHEMAS

@@ -1,10 +1,9 @@
 """./desk program: a paper as a program in C, with threads and the barriers of its key or with those named."""
 import argparse
 import contextlib
-import pathlib
 
 from office.asked import GAPS_HELP, PAPER_HELP, loaded, placement_asked, planned
-from office.command import printable, write_out, write_over
+from office.command import title_of, write_out, write_over
 from office.library import Desk
 from office.paper import paper_on, placed
 from office.refusal import Refused
@@ -48,7 +47,7 @@ def main(asked: argparse.Namespace) -> None:
         with contextlib.suppress(Refused):  # a paper that has no key
             desk.plan()
             missing = desk.missing_runs() if text == desk.key() else []
-    title = printable(pathlib.Path(asked.paper).stem)
+    title = title_of(asked.paper)
     written = program(title, paper_on(desk), placed(desk, text).gaps, missing, calls_counted(desk, text)).encode()
     if asked.output is None:
         write_out(written)

@@ -9,12 +9,11 @@ import hashlib
 import io
 import os
 import re
-import secrets
 import unicodedata
 from collections.abc import Collection, Iterator
-from dataclasses import dataclass
 
 from office.command import Fault, printable, read_in, write_over
+from office.records import dataclass
 
 IDENTITY = re.compile('[A-Za-z0-9][A-Za-z0-9._-]{0,63}')
 IDENTITY_FORM = 'an id has at most 64 letters a-z, digits and . - _, and begins with a letter or a digit'
@@ -147,6 +146,7 @@ BETWEEN = re.compile(r'[\s‐‑‒–—−-]+')
 
 
 def new_ticket() -> str:
+    import secrets  # which takes long to load
     return spelled(''.join(secrets.choice(LETTERS) for _ in range(GROUPS * GROUP)))
 
 

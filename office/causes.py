@@ -4,10 +4,10 @@ from the line as it was typed and from what the desk says of parts of the text, 
 No rule is read here a second time: whether a text is accepted, and by which number it is refused, is asked.
 """
 from collections.abc import Callable
-from dataclasses import dataclass
 
 from office.frames import (BARRED, BARRIER, BARS, CARRIED, COUNT, DEEP, DEPENDENCES, DO, ENDDO, FLAGGED, INDEPENDENT,
                            POINTS, STATEMENT, frames_of, text_of)
+from office.records import dataclass
 from office.refusal import Refusal
 from office.taken import decimal_in, instead_of_paper, instead_of_placement
 from office.words import counted, joined

@@ -1,10 +1,10 @@
 """The page of a certificate: whose it is, what it says, what that claims, and how it is checked."""
 import html
-from dataclasses import dataclass
 
 from office.command import as_called
 from office.marks import Mark, sha256_of
 from office.printed import begins, document, facts, paragraphs
+from office.records import dataclass
 from office.slip_pages import when
 from office.stored import OnDesk
 from office.words import BEST

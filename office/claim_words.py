@@ -1,9 +1,9 @@
 """An argument in words, claim by claim, for who checks it with a pencil. Claims go by their numbers, from 1."""
-from dataclasses import dataclass
 
 from office.claims import Followed, Struck, Taken, Why
 from office.frames import CUTS, FROM
 from office.paper import Paper
+from office.records import dataclass
 from office.words import counted, in_turn
 
 NUMBERS = ('no', 'one', 'two', 'three', 'four', 'five', 'six', 'seven', 'eight', 'nine', 'ten', 'eleven', 'twelve')

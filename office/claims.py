@@ -4,11 +4,11 @@ Whether an argument holds the desk says (Desk.weigh). Here one is taken apart, f
 """
 from collections import Counter
 from collections.abc import Iterable, Sequence
-from dataclasses import dataclass
 from enum import Enum
 
 from office.frames import CLAIM, CUTS, FROM, LED, frames_of, text_of
 from office.paper import Paper
+from office.records import dataclass
 
 
 @dataclass(frozen=True)

@@ -6,7 +6,6 @@ import os
 import pathlib
 from collections import Counter
 from collections.abc import Iterator
-from dataclasses import dataclass
 
 from office import oldlog
 from office.audit import planned
@@ -18,6 +17,7 @@ from office.mark import paper_name, summary
 from office.marks import Finding
 from office.names import SUFFIX, bound_to, names_in
 from office.played import Played
+from office.records import dataclass
 from office.register import Register, to_write
 from office.sittings import Sittings
 from office.words import ABSENT, counted

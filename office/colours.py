@@ -1,9 +1,10 @@
 """The colours of pages and pictures, as office/served/colours.css has them, and styles in which they are put."""
+import pathlib
 import re
 
 from office.command import ROOT
 
-SERVED = ROOT / 'office' / 'served'
+SERVED = pathlib.Path(ROOT, 'office', 'served')
 COLOURS = (SERVED / 'colours.css').read_text()
 
 

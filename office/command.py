@@ -2,22 +2,26 @@
 import argparse
 import contextlib
 import os
-import pathlib
 import re
 import select
 import signal
 import stat
 import sys
 from collections.abc import Callable, Iterable
-from typing import NoReturn
 
-ROOT = pathlib.Path(__file__).resolve().parent.parent
+TYPE_CHECKING = False
+if TYPE_CHECKING:
+    from typing import NoReturn
+
+ROOT = os.path.dirname(os.path.dirname(os.path.realpath(__file__)))
 # A clone has its sources, and builds. What a release installs has none, and nothing is written beside it.
-CLONE = (ROOT / 'crates.txt').exists()
+CLONE = os.path.exists(f'{ROOT}/crates.txt')
 REFUSED, FAILED, INTERRUPTED = 1, 2, 130
 # More bytes than any text, listing or sheet has.
 ENOUGH = 1 << 20
 NUMBER = re.compile(r'-[0-9]+(?:\.[0-9]*)?')
+# Where nothing tells how wide a terminal is.
+WIDE = 80
 # Standard input, once it was read; what was done so far, the latest last.
 READ: list[str] = []
 DONE = ['nothing was written']
@@ -29,6 +33,14 @@ class Fault(Exception):
     def __init__(self, message: str, status: int = FAILED, number: int | None = None, line: int | None = None):
         super().__init__(message)
         self.status, self.number, self.line = status, number, line
+
+
+class Layout(argparse.RawDescriptionHelpFormatter):
+    """Lays a help out. One is made for each argument that is added, and would ask shutil how wide it is to be, which
+    takes long to load."""
+
+    def __init__(self, prog: str):
+        super().__init__(prog, width=columns() - 2)
 
 
 class Parser(argparse.ArgumentParser):
@@ -45,16 +57,26 @@ class Parser(argparse.ArgumentParser):
             if option.startswith('--') or option[:2] not in known:
                 meant = nearest(option, known)
                 self.error(f'no option {printable(option)}{f": did you mean {meant}?" if meant else ""}')
+        if not any(word.startswith(('-h', '--help')) for word in arguments):
+            self.usage = ''  # which only a help shows, and takes long to make
         asked, more = self.parse_known_intermixed_args(arguments)
         if more:
             self.error(f'one argument too many: {printable(more[0])}')
         return asked
 
-    def error(self, message: str) -> NoReturn:
+    def error(self, message: str) -> 'NoReturn':
         raise Fault(f'{message}; {self.prog} --help says how to ask')
 
     def _print_message(self, message: str, file: object = None) -> None:
         write_out(as_called(message).encode())
+
+
+def columns() -> int:
+    """How wide the terminal is, or is said to be."""
+    told = os.environ.get('COLUMNS', '')
+    with contextlib.suppress(OSError):
+        return (int(told) if told.isdecimal() else 0) or os.get_terminal_size(1).columns or WIDE
+    return WIDE
 
 
 def as_installed(words: str) -> str:
@@ -78,6 +100,11 @@ def nearest(word: str, names: Iterable[str]) -> str:
 def printable(name: str) -> str:
     """A file's name for a message or a title."""
     return ''.join(c if c.isprintable() else '?' for c in name)
+
+
+def title_of(file: str) -> str:
+    """A file's name for a title, without its folder and its ending."""
+    return printable(os.path.splitext(os.path.basename(file))[0])
 
 
 def tell(name: str, message: str) -> None:

@@ -1,9 +1,12 @@
 """./desk: the commands of an office's day, each in a module of its own. Only the one that is asked for is imported."""
 import argparse
 import importlib
-from typing import Any
 
-from office.command import REFUSED, Fault, Parser, nearest, printable, write_json, write_out
+from office.command import REFUSED, Fault, Layout, Parser, nearest, printable, write_json, write_out
+
+TYPE_CHECKING = False
+if TYPE_CHECKING:
+    from typing import Any
 
 ABOUT = """The office's day, over the proved library: the setter checks a text, the desk works out the key, answers are
 marked as they come in, and the day ends in the register. Gaps, loops and points are decimal in words and arguments,
@@ -19,7 +22,7 @@ COMMANDS = {'check': 'check', 'show': 'show', 'spell': 'spell', 'key': 'key', 'm
 ASKS_HELP = ('help', '--help', '-h')
 
 
-def module_of(name: str) -> Any:
+def module_of(name: str) -> 'Any':
     """The module of a command: HELP, MORE, arguments and main."""
     return importlib.import_module(f'office.{COMMANDS[name]}')
 
@@ -28,7 +31,7 @@ def command_parser(name: str) -> Parser:
     """What a command takes."""
     module = module_of(name)
     parser = Parser(prog=f'./desk {name}', description=f'It {module.HELP}.\n\n{module.MORE}', epilog=STATUS,
-                    formatter_class=argparse.RawDescriptionHelpFormatter)
+                    formatter_class=Layout)
     module.arguments(parser)
     return parser
 

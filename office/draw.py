@@ -1,10 +1,9 @@
 """./desk draw, and ./draw for short: a paper as a picture, with the barriers of its key or with those named."""
 import argparse
-import pathlib
 import re
 
 from office.asked import GAPS_HELP, PAPER_HELP, loaded, placement_asked, planned
-from office.command import Fault, Parser, printable, write_out, write_over
+from office.command import Fault, Parser, printable, title_of, write_out, write_over
 from office.names import named_paper
 from office.paper import Paper, placed
 from office.picture import Picture
@@ -71,7 +70,7 @@ def main(asked: argparse.Namespace) -> None:
         text, missing = placement_asked(asked.gaps, desk), []
     paper = named_paper(desk, asked.paper, read)
     view = view_asked(paper, asked)
-    drawing = Picture(paper, placed(desk, text), printable(pathlib.Path(asked.paper).stem), tuple(missing), view,
+    drawing = Picture(paper, placed(desk, text), title_of(asked.paper), tuple(missing), view,
                       only=only_asked(paper, view, asked.only))
     drawn = drawing.svg().encode()
     if asked.output in (None, '-'):

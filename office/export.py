@@ -1,10 +1,10 @@
 """./desk export: what the register has for people. For each answer the law's slips, and a page in words beside each."""
 import argparse
-from dataclasses import dataclass, field
 
 from office.command import FAILED, Fault, done, printable, tell, write_json, write_out
 from office.marks import Mark
 from office.progress import Progress
+from office.records import dataclass, field
 from office.register import Register, opened, readable
 from office.slip_files import PAGE, READERS, SLIP, Made, Slips, slips_of
 from office.slip_pages import note_page, slip_page

@@ -1,12 +1,15 @@
 """desk.h read for ctypes: its numbers, its structs and its functions. The form of the calls stands once, in C."""
 import ctypes
 import re
-from typing import TypeAlias
 
 from office.places import HEADER
 
+TYPE_CHECKING = False
+if TYPE_CHECKING:
+    from typing import TypeAlias
+
 # Any type of C. The name that ctypes has for it is there for hints alone.
-Type: TypeAlias = 'type[ctypes._CData]'
+Type: 'TypeAlias' = 'type[ctypes._CData]'
 PLAIN: dict[str, Type] = {
     'bool': ctypes.c_bool, 'size_t': ctypes.c_size_t, 'uint8_t': ctypes.c_uint8, 'uint16_t': ctypes.c_uint16,
     'uint32_t': ctypes.c_uint32, 'uint64_t': ctypes.c_uint64}
@@ -52,4 +55,5 @@ class Header:
         return ctypes.POINTER(self.types[kind])
 
 
-DECLARED = Header(HEADER.read_text())
+with open(HEADER) as opened:
+    DECLARED = Header(opened.read())

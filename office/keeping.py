@@ -3,12 +3,12 @@ import contextlib
 import os
 import pwd
 from collections.abc import Iterator
-from dataclasses import dataclass
 
 from office.chain import now
 from office.command import INTERRUPTED, Fault
 from office.library import Desk
 from office.marks import NO_MARK, Finding, Mark, sha256_of
+from office.records import dataclass
 from office.refusal import Refused
 from office.register import Register
 from office.version import desk_version, library_sha256

@@ -6,12 +6,12 @@ import ctypes
 import functools
 import sys
 from collections.abc import Callable
-from dataclasses import dataclass
 
 from office.command import CLONE, Fault
 from office.frames import DO
 from office.header import DECLARED
 from office.places import SHARED
+from office.records import dataclass
 from office.refusal import Refusal, Refused
 
 TEXT, SLIP = DECLARED.numbers['DESK_TEXT'], DECLARED.numbers['DESK_SLIP']
@@ -251,7 +251,7 @@ def library() -> ctypes.CDLL:
         from office.built import build_library
         build_library()
     try:
-        found = ctypes.CDLL(str(SHARED))
+        found = ctypes.CDLL(SHARED)
     except OSError as fault:
         raise Fault(f'the library cannot be loaded: {fault}; it is for Linux on x86-64') from fault
     for name, (gives, takes) in DECLARED.functions.items():

@@ -4,12 +4,12 @@ Names are turned into points here and nothing else is looked at: whether the pap
 it refuses is told at its line and column of the listing.
 """
 import unicodedata
-from dataclasses import dataclass, field
 
 from office.causes import CAUSES, OPEN, NAMES, Faulty, Naming
 from office.command import REFUSED, Fault, nearest, printable
 from office.frames import BARRED, CARRIED, DO, ENDDO, FLAGGED, INDEPENDENT, STATEMENT, text_of
 from office.library import Desk, refusal_of
+from office.records import dataclass, field
 from office.refusal import Refusal
 from office.taken import PAPER, SAVED, in_one_form, is_utf16
 

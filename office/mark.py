@@ -2,9 +2,7 @@
 import argparse
 import contextlib
 import os
-import pathlib
 from collections import Counter
-from dataclasses import dataclass, field, replace
 
 from office.asked import BLANK_HELP, PAPER_HELP, answer_cause, planned
 from office.candidates import IDENTITY, IDENTITY_FORM, Candidate, candidates_in, folded
@@ -15,6 +13,7 @@ from office.library import Desk
 from office.marks import Finding, sha256_of
 from office.names import names_to_keep
 from office.progress import Progress
+from office.records import dataclass, field, replace
 from office.refusal import Refusal
 from office.register import Register, to_write
 from office.rows import FIRST, as_csv, first_cells
@@ -99,7 +98,7 @@ class Marking:
 
 def name_of(file: str) -> str:
     """What a file is called, without its ending."""
-    return pathlib.PurePath(file).name.removesuffix('.hex')
+    return os.path.basename(file).removesuffix('.hex')
 
 
 def candidate_of(file: str) -> str | None:

@@ -1,10 +1,9 @@
 """A mark as the register keeps it: its fields, and the chain in which each mark holds the hash of the one before."""
-import dataclasses
 import hashlib
 import json
-from dataclasses import dataclass
 
 from office.candidates import BETWEEN, LETTERS, spelled
+from office.records import dataclass, replace
 from office.words import BEST
 
 # What stands before the first mark; how many digits of the last hash are told as the head of a register.
@@ -51,7 +50,7 @@ class Mark:
 
     @property
     def finding(self) -> Finding:
-        return Finding(**{field.name: getattr(self, field.name) for field in dataclasses.fields(Finding)})
+        return Finding(**{name: getattr(self, name) for name in Finding.__annotations__})
 
     @property
     def certified(self) -> bool:
@@ -66,8 +65,8 @@ class Mark:
 
     def chained(self, before: str) -> 'Mark':
         """The same mark behind another."""
-        behind = dataclasses.replace(self, before=before)
-        return dataclasses.replace(behind, own=behind.hashed())
+        behind = replace(self, before=before)
+        return replace(behind, own=behind.hashed())
 
     def certificate(self) -> str:
         """The number of its certificate: the first bits of its hash, spelled as tickets are."""
@@ -85,7 +84,7 @@ def certificate_in(typed: str) -> str | None:
     return spelled(letters)
 
 
-COLUMNS = [field.name for field in dataclasses.fields(Mark)]
+COLUMNS = [*Mark.__annotations__]
 
 
 def sha256_of(data: bytes) -> str:

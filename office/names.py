@@ -7,7 +7,6 @@ paper by its hash: beside another text it is told of and not used.
   2 rent
   3 bread
 """
-import hashlib
 import os
 import re
 
@@ -21,10 +20,15 @@ TOP, ROW = re.compile('sha256 ([0-9a-f]{64})'), re.compile('(0|[1-9][0-9]{0,2}) 
 SUFFIX, BEGINS = '.names', b'sha256 '
 
 
+def sha256_of(text: bytes) -> str:
+    import hashlib  # which takes long to load, and few papers have names
+    return hashlib.sha256(text).hexdigest()
+
+
 def names_text(text: bytes, names: dict[int, str]) -> bytes:
     """The file of the names for the points of a paper with this text."""
     rows = [f'{point} {name}' for point, name in sorted(names.items())]
-    return '\n'.join([f'sha256 {hashlib.sha256(text).hexdigest()}', *rows, '']).encode()
+    return '\n'.join([f'sha256 {sha256_of(text)}', *rows, '']).encode()
 
 
 def bound_to(data: bytes) -> str:
@@ -71,7 +75,7 @@ def names_beside(desk: Desk, file: str, text: bytes) -> dict[int, str]:
     data = read_plain(beside)
     if not bound_to(data):
         raise Fault(f'{printable(beside)} is no file of names: line 1 is not sha256 and a hash; move it away', REFUSED)
-    if bound_to(data) != hashlib.sha256(text).hexdigest():
+    if bound_to(data) != sha256_of(text):
         tell('desk', f'{printable(beside)} is of another paper, so its names are not used')
         return {}
     try:

@@ -1,12 +1,12 @@
 """A page to print: placements on a paper, their pictures, their cost trees and the reasons. It needs no network."""
 import base64
 import html
-from dataclasses import dataclass
 
 from office.atlas import atlas, is_whole, signs_of
 from office.paper import Paper, Placed
 from office.picture import Picture
 from office.printed import STYLE, TOP, facts
+from office.records import dataclass
 
 # By this a page is known as one; it names no kind, as those of before do not.
 BEGINS = f'{TOP}<title>'.encode()

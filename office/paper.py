@@ -1,9 +1,9 @@
 """A paper as the calls tell of it: its loops, the loop of each gap, the gaps of each dependence; placements on it."""
-from dataclasses import dataclass, field
 from functools import cached_property
 
 from office.frames import INDEPENDENT, NONE, frames_of
 from office.library import Desk
+from office.records import dataclass, field
 from office.words import ranges, stretches
 
 

@@ -1,7 +1,7 @@
 """Where the desk's own files lie: in a clone, or as a release has them installed."""
 from office.command import CLONE, ROOT
 
-TARGET, LIB = ROOT / 'target', ROOT.parent
-ARCHIVE, PROGRAM = TARGET / 'staticlib' / 'libhost.a', TARGET / 'bin' / 'key'
-SHARED = TARGET / 'libdesk.so' if CLONE else LIB / 'libdesk.so'
-HEADER = ROOT / 'crates' / 'host' / 'desk.h' if CLONE else LIB.parent / 'include' / 'desk.h'
+TARGET, TOP = f'{ROOT}/target', ROOT.rsplit('/', 2)[0]
+ARCHIVE, PROGRAM = f'{TARGET}/staticlib/libhost.a', f'{TARGET}/bin/key'
+SHARED = f'{TARGET}/libdesk.so' if CLONE else f'{TOP}/lib/libdesk.so'
+HEADER = f'{ROOT}/crates/host/desk.h' if CLONE else f'{TOP}/include/desk.h'

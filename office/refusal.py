@@ -3,9 +3,9 @@
   python3 -m office.refusal NAME ANSWER PROGRAM < TEXT    NAME: who says it; ANSWER: the program's line 2f for the text
 """
 import sys
-from dataclasses import dataclass
 
 from office.frames import REFUSAL
+from office.records import dataclass
 from office.typed import line_at
 from office.words import RULES
 

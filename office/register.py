@@ -5,7 +5,6 @@ file before anything is written; a new one is made beside and linked to its name
 """
 import contextlib
 import os
-import pathlib
 import secrets
 import signal
 import sqlite3
@@ -40,7 +39,8 @@ class Register:
     def connected(self) -> sqlite3.Connection:
         """A connection to the file, if it is a register of a form that is known. Who reads may have to mend first what
         a desk left that was killed, so the file is opened for writing where it may be."""
-        place = pathlib.Path(os.path.abspath(self.file)).as_uri()
+        from urllib.parse import quote_from_bytes  # which takes long to load, and not every mark is kept
+        place = f'file://{quote_from_bytes(os.fsencode(os.path.abspath(self.file)))}'
         patience = QUIET if self.writing else PATIENCE
         made = sqlite3.connect(f'{place}?mode=rw', uri=True, isolation_level=None, timeout=patience)
         made.text_factory = lambda text: text.decode('utf-8', 'replace')

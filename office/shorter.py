@@ -1,10 +1,10 @@
 """An argument made shorter: claims that nothing uses are left out, and steps that are not needed. What comes out is
 weighed as if it came from anywhere."""
 from collections import Counter
-from dataclasses import dataclass, field, replace
 
 from office.claims import Claim, Ground, Step, argument_text
 from office.frames import CUTS
+from office.records import dataclass, field, replace
 
 # Steps of which the last counts and the others lead to it.
 Group = list[Step]

@@ -6,12 +6,12 @@ of those of all loops inside it, and loops side by side share columns. How a dep
 that there is: with arrows, as a bar with its number, as a bar alone; where even that is too much, a loop has a strip.
 """
 from collections.abc import Callable, Collection
-from dataclasses import dataclass
 from enum import Enum
 
 from office.frames import DO
 from office.lanes import block
 from office.paper import Paper
+from office.records import dataclass
 
 # Pixels for the lanes on a page of usual width, of a picture, and beside a list in print.
 ROOM, WIDE_ROOM, PRINT_ROOM = 640, 1100, 500

@@ -1,14 +1,13 @@
 """./desk sit: a sitting at the screen, on a page that candidates open in a browser."""
 import argparse
 import os
-import pathlib
 import signal
 
 from office.asked import BLANK_HELP, PAPER_HELP, loaded
 from office.called import Called, called_by, is_everywhere, is_here, name_of
 from office.candidates import candidates_in
 from office.clock import wanted
-from office.command import Fault, printable, write_out
+from office.command import Fault, printable, title_of, write_out
 from office.hall import TICKETS, TO_PRINT, Hall
 from office.library import Desk
 from office.names import named_paper, names_text
@@ -89,7 +88,7 @@ def look_at(asked: argparse.Namespace) -> None:
 
 def papers_asked(asked: argparse.Namespace) -> list[tuple[str, bytes]]:
     """The papers that are asked for, by name. No two are the same, and no two are called the same."""
-    papers = [(printable(pathlib.Path(file).stem), loaded(file, asked.blank)[1]) for file in asked.papers]
+    papers = [(title_of(file), loaded(file, asked.blank)[1]) for file in asked.papers]
     for number, (name, text) in enumerate(papers):
         for other, same in papers[:number]:
             if name == other or text == same:
@@ -127,7 +126,7 @@ def main(asked: argparse.Namespace) -> None:
     time = wanted(asked.minutes, asked.until, asked.go_on)
     os.umask(0o077)  # what is kept is nobody else's to read
     (name, text), *others = papers_asked(asked)
-    files = {printable(pathlib.Path(file).stem): file for file in asked.papers}
+    files = {title_of(file): file for file in asked.papers}
     candidates = candidates_in(asked.candidates, [name, *dict(others)])
     tls = tls_with(asked.certificate, asked.key) if asked.certificate else None
     with listening_at(asked.bind, asked.port) as listening, \

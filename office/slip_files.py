@@ -3,12 +3,12 @@ import itertools
 import os
 import re
 from collections.abc import Callable
-from dataclasses import dataclass
 
 from office.command import Fault, begins_with, printable, take_away, write_over
 from office.keeping import PaperText
 from office.library import Desk
 from office.printed import begins
+from office.records import dataclass
 from office.slip_words import CANDIDATE, EXAMINER
 
 

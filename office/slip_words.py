@@ -1,10 +1,10 @@
 """A slip read and told in words. The numbers are the slip's; where a paper is there, its words stand beside them."""
 import re
-from dataclasses import dataclass
 
 from office.frames import COUNT, CUT, FIRST_UNCUT, NONE, VERDICT
 from office.marks import Finding
 from office.paper import Paper
+from office.records import dataclass
 from office.trees import drawn
 from office.words import DEARER, UNCUT, VERDICTS
 

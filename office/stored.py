@@ -1,6 +1,5 @@
 """Marks of a register with the bytes that they are of. Each is made again by the calls before anything is handed out
 about it, and what does not come out as it is kept is not."""
-from dataclasses import dataclass
 
 from office.audit import planned
 from office.command import Fault
@@ -9,6 +8,7 @@ from office.library import Desk
 from office.marks import Mark, sha256_of
 from office.names import names_bound
 from office.paper import Paper, paper_on
+from office.records import dataclass
 from office.register import Register
 
 

@@ -6,7 +6,6 @@ import pathlib
 import re
 from collections import defaultdict
 from collections.abc import Iterator
-from dataclasses import dataclass
 
 from office.audit import planned
 from office.candidates import IDENTITY, IDENTITY_FORM, candidates_in, folded
@@ -15,6 +14,7 @@ from office.keeping import EVERY, Answer, Marker, PaperText, finding_of, keep, m
 from office.library import Desk
 from office.mark import paper_name
 from office.marks import Finding, sha256_of
+from office.records import dataclass
 from office.register import Register, to_write
 from office.rows import FIRST, first_cells
 from office.words import UNREAD, counted

@@ -9,10 +9,10 @@ the loop that carries the dependence. A DO is a source on entering its loop, an 
 import json
 import textwrap
 from collections.abc import Iterable, Iterator
-from dataclasses import dataclass
 
 from office.frames import DO, ENDDO
 from office.paper import Paper
+from office.records import dataclass
 from office.words import gaps_named
 
 TURNS, INDENT, WIDE = 2, '    ', 116

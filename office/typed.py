@@ -1,6 +1,6 @@
 """A text as somebody typed it: one of its lines quoted, and slips of the keyboard named."""
-from dataclasses import dataclass
 
+from office.records import dataclass
 from office.words import counted
 
 QUOTED = 48

@@ -5,18 +5,19 @@
 import argparse
 import functools
 import hashlib
-import pathlib
-import shutil
-import subprocess
+import os
 import sys
 from collections.abc import Sequence
-from typing import Any
 
 from office.built import LIBRARY, wanting
 from office.command import CLONE, ROOT, Fault, run, write_out
 from office.places import SHARED
 
-VERSION, COMMIT = ROOT / 'VERSION', ROOT / 'COMMIT'
+TYPE_CHECKING = False
+if TYPE_CHECKING:
+    from typing import Any
+
+VERSION, COMMIT = f'{ROOT}/VERSION', f'{ROOT}/COMMIT'
 UNKNOWN, SHORT = 'unknown', 12
 
 
@@ -27,16 +28,19 @@ def version() -> str:
 @functools.cache
 def commit() -> str:
     """The commit that the desk's files are from: as git tells it, or as the release has written it down."""
-    if (ROOT / '.git').exists() and shutil.which('git'):
+    import shutil  # which a release does not need
+    import subprocess
+    if os.path.exists(f'{ROOT}/.git') and shutil.which('git'):
         asked = subprocess.run(['git', 'rev-parse', 'HEAD'], cwd=ROOT, capture_output=True, text=True, check=False)
         return asked.stdout.strip()[:SHORT] or UNKNOWN
     return written_in(COMMIT)[:SHORT]
 
 
-def written_in(file: pathlib.Path) -> str:
+def written_in(file: str) -> str:
     """The one line of a file of the release."""
     try:
-        return file.read_text().strip() or UNKNOWN
+        with open(file) as opened:
+            return opened.read().strip() or UNKNOWN
     except OSError:
         return UNKNOWN
 
@@ -45,9 +49,10 @@ def written_in(file: pathlib.Path) -> str:
 def library_sha256() -> str:
     """The hash of the library that calls go to."""
     try:
-        return hashlib.sha256(SHARED.read_bytes()).hexdigest()
+        with open(SHARED, 'rb') as opened:
+            return hashlib.sha256(opened.read()).hexdigest()
     except OSError as fault:
-        raise Fault(f'cannot read {SHARED.name}: {fault.strerror}') from fault
+        raise Fault(f'cannot read {os.path.basename(SHARED)}: {fault.strerror}') from fault
 
 
 def desk_version() -> str:
@@ -69,7 +74,7 @@ class Told(argparse.Action):
         self.name = name
 
     def __call__(self, parser: argparse.ArgumentParser, namespace: argparse.Namespace,
-                 values: str | Sequence[Any] | None, option_string: str | None = None) -> None:
+                 values: 'str | Sequence[Any] | None', option_string: str | None = None) -> None:
         say_as([self.name])
         sys.exit(0)
 

@@ -2,22 +2,18 @@
 decides, calls, and the key's argument, in words."""
 import argparse
 import contextlib
-import hashlib
-import pathlib
 import textwrap
 import time
-from dataclasses import dataclass
 
 from office.argued import Argued, argued, argument_lines, before
-from office.claim_figures import argument_markup
 from office.asked import (GAPS_HELP, PAPER_HELP, TURNS, TURNS_HELP, is_file, loaded, placement_asked, planned,
                           turns_asked)
-from office.command import REFUSED, Fault, printable, write_json, write_out, write_over
+from office.command import REFUSED, Fault, title_of, write_json, write_out, write_over
 from office.frames import DO
 from office.library import DEARER, UNCUT, Compared, Desk, Mark, refusal_of
 from office.names import named_paper
-from office.page import BEGINS, Shown, page
 from office.paper import Paper, Placed, loops_told, placed
+from office.records import dataclass
 from office.refusal import Refused
 from office.result import hand_over, result_arguments
 from office.skipped import relied_on, skipped_told
@@ -184,7 +180,8 @@ def side_told(side: Side) -> dict[str, object]:
 
 def head_of(asked: argparse.Namespace, name: str, text: bytes) -> dict[str, str]:
     """What a page to print says of itself: the paper, the files of placements, the day."""
-    files = [printable(pathlib.Path(given).stem) for given in (asked.gaps, asked.other) if given and is_file(given)]
+    import hashlib  # which takes long to load, as do those of a page
+    files = [title_of(given) for given in (asked.gaps, asked.other) if given and is_file(given)]
     return {'Paper': name, 'SHA-256 of the paper': hashlib.sha256(text).hexdigest(),
             **({'Placement of' if len(files) == 1 else 'Placements of': ', '.join(files)} if files else {}),
             'Made on': time.strftime('%Y-%m-%d', time.gmtime())}
@@ -227,7 +224,9 @@ def of_key(asked: argparse.Namespace) -> None:
     elif asked.json:
         write_json({'gaps': key.gaps, 'counts': loops_told(key.counts), 'argument': found.fields()})
     elif asked.html is not None:
-        name = printable(pathlib.Path(asked.paper).stem)
+        from office.claim_figures import argument_markup
+        from office.page import BEGINS, Shown, page
+        name = title_of(asked.paper)
         markup = argument_markup(found, asked.argument, paper, key, name)
         head = head_of(asked, name, text) | {'SHA-256 of the argument': found.sha256}
         made_page = page(name, head, paper, [Shown(title, key, tree)], [], [], markup)
@@ -280,8 +279,10 @@ def compared(asked: argparse.Namespace) -> None:
                     'calls': made or None, 'words': told, 'argument': found and found.fields()})
         return
     if asked.html is not None:
+        from office.claim_figures import argument_markup
+        from office.page import BEGINS, Shown, page
         shown = [Shown(side.title, side.placed, tree) for side, tree in zip((first, second), trees)]
-        name = printable(pathlib.Path(asked.paper).stem)
+        name = title_of(asked.paper)
         uncut = [side.placed.uncut for side in (first, second) if side.placed.uncut is not None]
         loops = held.deciding if correct else sorted({paper.home[number] for number in uncut})
         markup = argument_markup(found, asked.argument, paper, second.placed, name) if asked.other is None else ''

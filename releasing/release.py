@@ -41,14 +41,14 @@ def git(*words: str) -> str:
 
 def release_here() -> Release:
     """The release of the commit that is checked out, built if need be."""
-    if not shutil.which('git') or not (ROOT / '.git').exists():
+    if not shutil.which('git') or not os.path.exists(f'{ROOT}/.git'):
         raise Fault('a release is of a commit, and here is no clone, or no git')
     other = git('status', '--porcelain').splitlines()
     if other:
         raise Fault(f'a release is of a commit, and {len(other)} files differ from it: {other[0].split()[-1]} first')
     for made in (KEY, *LIBRARY):
-        if made.stamp.exists() and built_by(made) != tool_here(made):
-            made.stamp.unlink()
+        if os.path.exists(made.stamp) and built_by(made) != tool_here(made):
+            os.unlink(made.stamp)
         build(made, 'release')
     when = int(git('log', '-1', '--format=%ct'))
     date = time.strftime('%Y-%m-%d', time.gmtime(when))
@@ -64,10 +64,10 @@ def main(arguments: list[str]) -> None:
     control = CONTROL.format(version=release.version, commit=release.commit, kit=release.kit)
     named = f'marking-desk-{release.version}'
     try:
-        os.makedirs(ROOT / 'dist', exist_ok=True)
+        os.makedirs(f'{ROOT}/dist', exist_ok=True)
     except OSError as fault:
         raise Fault(f'cannot write in dist: {fault.strerror}') from fault
     for name, data in {f'{named}-x86_64.tar.gz': tarball(tree, named, release.time),
                        f'marking-desk_{release.version}_amd64.deb': debian(tree, control, release.time)}.items():
-        write_over(str(ROOT / 'dist' / name), data, lasting=True)
+        write_over(f'{ROOT}/dist/{name}', data, lasting=True)
         write_out(f'{hashlib.sha256(data).hexdigest()}  dist/{name}\n'.encode())

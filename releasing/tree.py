@@ -17,7 +17,8 @@ from releasing import manuals
 from releasing.archives import PROGRAM as RUNS
 from releasing.archives import File, Tree
 
-FILES = ROOT / 'releasing' / 'files'
+CLONE = pathlib.Path(ROOT)
+FILES = CLONE / 'releasing' / 'files'
 HOME, DOC = 'lib/marking-desk', 'share/doc/marking-desk'
 
 
@@ -41,22 +42,22 @@ def tree_of(release: Release) -> Tree:
     """All files of a release."""
     tree = {
         'bin/desk': File((FILES / 'desk').read_bytes(), RUNS),
-        'bin/key': File((ROOT / 'key').read_bytes(), RUNS),
-        'include/desk.h': File(HEADER.read_bytes()),
-        'lib/libdesk.so': File(SHARED.read_bytes()),
-        'lib/libdesk.a': File(ARCHIVE.read_bytes()),
+        'bin/key': File((CLONE / 'key').read_bytes(), RUNS),
+        'include/desk.h': File(pathlib.Path(HEADER).read_bytes()),
+        'lib/libdesk.so': File(pathlib.Path(SHARED).read_bytes()),
+        'lib/libdesk.a': File(pathlib.Path(ARCHIVE).read_bytes()),
         'lib/pkgconfig/marking-desk.pc': filled('marking-desk.pc', release),
         'lib/systemd/system/marking-desk@.service': filled('marking-desk@.service', release),
-        f'{HOME}/key': File(PROGRAM.read_bytes(), RUNS),
+        f'{HOME}/key': File(pathlib.Path(PROGRAM).read_bytes(), RUNS),
         f'{HOME}/VERSION': File(f'{release.version}\n'.encode()),
         f'{HOME}/COMMIT': File(f'{release.commit}\n'.encode()),
         f'{DOC}/RELEASE': File(release.told().encode()),
     }
     for path in tracked('office'):
-        tree[f'{HOME}/{path}'] = File((ROOT / path).read_bytes())
+        tree[f'{HOME}/{path}'] = File((CLONE / path).read_bytes())
     for path in tracked('README.md', 'CHANGELOG.md', 'docs', 'examples', 'outside/argument.py'):
-        tree[f'{DOC}/{path}'] = File((ROOT / path).read_bytes())
-    asked = subprocess.run([str(ROOT / 'key'), '--help'], capture_output=True, text=True, check=True)
+        tree[f'{DOC}/{path}'] = File((CLONE / path).read_bytes())
+    asked = subprocess.run([str(CLONE / 'key'), '--help'], capture_output=True, text=True, check=True)
     return tree | manuals.manuals(asked.stdout) | manuals.completion()
 
 
@@ -70,4 +71,4 @@ def tracked(*places: str) -> list[str]:
     """The files of the commit at some places."""
     listed = subprocess.run(['git', 'ls-files', '-z', '--', *places], cwd=ROOT, capture_output=True, text=True,
                             check=True)
-    return [path for path in listed.stdout.split('\0') if path and pathlib.Path(ROOT, path).is_file()]
+    return [path for path in listed.stdout.split('\0') if path and (CLONE / path).is_file()]

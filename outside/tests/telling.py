@@ -167,10 +167,10 @@ def form(tally: Tally, folder: pathlib.Path) -> None:
                 lines.append(f'printf("{name}.{field} %zu %zu\\n", {place});')
     source, program = folder / 'form.c', folder / 'form'
     source.write_text('\n'.join([*lines, 'return 0; }']))
-    subprocess.run(['gcc', '-I', HEADER.parent, source, '-o', program], check=True)
+    subprocess.run(['gcc', '-I', pathlib.Path(HEADER).parent, source, '-o', program], check=True)
     seen = subprocess.run([program], capture_output=True, text=True, check=True).stdout.splitlines()
     tally.check('the structs are those of C', seen == wanted and len(wanted) > 50, set(seen) ^ set(wanted))
-    declared = HEADER.read_text()
+    declared = pathlib.Path(HEADER).read_text()
     structs = re.findall(r'^typedef struct (\w+)', declared, re.M)
     functions = set(re.findall(r'\b(desk_\w+)\(', declared))
     tally.check('all structs', all(name in DECLARED.types for name in structs), structs)

@@ -9,9 +9,19 @@ import shutil
 import subprocess
 import sys
 import tempfile
+from collections.abc import Callable
 
 from outside.tests.workday import rows_of, text_of
 from outside.trying import DESK, EXAMPLES, ROOT, VERSION, Seen, Tally, run
+
+# Tells why the library would be built, if it would, and how many folders are listed to find out.
+LISTED = """
+import sys
+from office.built import LIBRARY, wanting
+listed = []
+sys.addaudithook(lambda event, _: listed.append(event) if event in ('os.scandir', 'os.listdir') else None)
+print([*map(wanting, LIBRARY)], len(listed))
+"""
 
 
 def faults(tally: Tally, folder: pathlib.Path) -> None:
@@ -160,9 +170,58 @@ def elsewhere(tally: Tally, folder: pathlib.Path) -> None:
     (root / 'crates' / 'host' / 'desk.h').touch()
     (root / 'crates' / 'host' / 'must-fail' / 'more.edit').touch()
     tally.check('touched, no rt', asked() == answered, asked())
+    looked(tally, root, asked, answered)
     source.write_bytes(source.read_bytes() + b'// one more\n')
     seen = asked()
     tally.check('changed, no rt', seen.failed('src/lib.rt was changed since, and there is no rt'), seen)
+
+
+def looked(tally: Tally, root: pathlib.Path, asked: Callable[[], Seen], answered: Seen) -> None:
+    """What a look found is enough as long as nothing has changed, and whatever changes is seen behind it."""
+    host, made = root / 'crates' / 'host', root / 'target' / 'built' / 'libhost.a'
+    source, seen, empty = host / 'src' / 'lib.rt', made.with_suffix('.a.seen'), host / 'proofs' / 'empty'
+    asked()
+    tally.check('what has just been changed is not yet noted', not seen.exists())
+    code = root / 'office' / 'built.py'
+    code.write_text(code.read_text().replace('SETTLED = 2 * 10 ** 9', 'SETTLED = 0'))
+    empty.mkdir()
+
+    def noted() -> bool:
+        """Whether a look is noted behind which no folder is listed: the first look notes what is new of files."""
+        answers = [asked(), asked()]
+        told = subprocess.run([sys.executable, '-c', LISTED], cwd=root, capture_output=True, text=True, check=False)
+        return answers == [answered] * 2 and seen.exists() and told.stdout == "['', ''] 0\n"
+
+    def rewritten(file: pathlib.Path, data: bytes) -> None:
+        """Writes a file and gives it the time back that it had."""
+        before = file.stat()
+        file.write_bytes(data)
+        os.utime(file, ns=(before.st_atime_ns, before.st_mtime_ns))
+
+    bytes_of = {file: file.read_bytes() for file in (source, root / 'crates.txt', root / 'target' / 'libdesk.so', made)}
+    for name, change, back, word in [
+            ('one byte, with its old time', lambda: rewritten(source, bytes_of[source].replace(b'a', b'b', 1)),
+             lambda: rewritten(source, bytes_of[source]), 'src/lib.rt was changed since'),
+            ('a file in a folder', lambda: (host / 'specs' / 'More.antt').touch(),
+             lambda: (host / 'specs' / 'More.antt').unlink(), 'specs/More.antt came since'),
+            ('a file in an empty folder', lambda: (empty / 'Proof.antt').touch(),
+             lambda: (empty / 'Proof.antt').unlink(), 'proofs/empty/Proof.antt came since'),
+            ('a new part', lambda: ((host / 'data').mkdir(), (host / 'data' / 'one').touch()),
+             lambda: shutil.rmtree(host / 'data'), 'data/one came since'),
+            ('a file less', lambda: source.rename(root / 'lib.rt'), lambda: (root / 'lib.rt').rename(source),
+             'src/lib.rt went since'),
+            ('other rows', lambda: rewritten(root / 'crates.txt', b'host: \nmore:\nhost: more\n'),
+             lambda: rewritten(root / 'crates.txt', bytes_of[root / 'crates.txt']), 'the library'),
+            ('another library', lambda: rewritten(root / 'target' / 'libdesk.so', b'none'),
+             lambda: rewritten(root / 'target' / 'libdesk.so', bytes_of[root / 'target' / 'libdesk.so']),
+             'target/libdesk.so was changed since'),
+            ('no stamp', made.unlink, lambda: made.write_bytes(bytes_of[made]), 'is not built yet')]:
+        tally.check(f'{name}: noted before', noted(), asked())
+        change()
+        told = asked()
+        tally.check(f'{name}: seen behind a look', told.failed(word), told)
+        back()
+    tally.check('all as it was', noted(), asked())
 
 
 def main() -> None:
