@@ -10,8 +10,10 @@ import json
 import os
 import pathlib
 import re
+import shlex
 import signal
 import subprocess
+import sys
 import time
 from collections.abc import Callable
 from dataclasses import dataclass, field
@@ -54,7 +56,11 @@ class Hall:
         self.answers = self.folder / 'answers'
         (self.folder / self.file).write_bytes(self.paper)
         (self.folder / 'names.txt').write_text(self.listed or ''.join(f'{name}\n' for name in self.names))
+        # ./desk begins without modules of the site, and so without this one: Python is asked to have them.
         (self.folder / 'sitecustomize.py').write_text(GUARD)
+        self.desk = self.folder / 'desk'
+        self.desk.write_text(f'#!/bin/sh\nexec {shlex.join([sys.executable, str(DESK)])} "$@"\n')
+        self.desk.chmod(0o755)
 
     def altered(self, lines: str) -> 'Hall':
         """Has the process begin with some lines of Python."""
@@ -64,7 +70,7 @@ class Hall:
 
     @property
     def command(self) -> list[str]:
-        return [str(DESK), 'sit', str(self.folder / self.file), '--candidates', str(self.folder / 'names.txt'),
+        return [str(self.desk), 'sit', str(self.folder / self.file), '--candidates', str(self.folder / 'names.txt'),
                 '--answers', str(self.answers), '--port', str(self.port), *self.more]
 
     def start(self, limit: str = '') -> 'Hall':
