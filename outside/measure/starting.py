@@ -21,7 +21,7 @@ ENVIRONMENT = {name: value for name, value in os.environ.items() if name != 'PYT
 
 def commands(desk: object) -> dict[str, list[object]]:
     """What is measured, by how it is called."""
-    papers = ['check', 'key', 'show', 'missing', 'textbook', 'why', 'draw', 'program']
+    papers = ['check', 'key', 'show', 'missing', 'why', 'draw', 'program']
     return {'python3 -c pass': ['python3', '-c', 'pass'], 'python3 -S -c pass': ['python3', '-S', '-c', 'pass'],
             'the program': [PROGRAM], './key': [KEY, P], **{f'desk {name}': [desk, name, P] for name in papers},
             'desk why 3,9': [desk, 'why', P, '3,9'],

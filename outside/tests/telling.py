@@ -4,6 +4,7 @@ Needs gcc, target/bin/key and the library's archive (rt staticlib host).
 """
 import base64
 import ctypes
+import dataclasses
 import hashlib
 import math
 import pathlib
@@ -11,8 +12,10 @@ import random
 import re
 import shutil
 import subprocess
+import sys
 import tempfile
 
+from office import records
 from office.day import COMMANDS
 from office.frames import BARRED, CARRIED, FLAGGED, placement_text, text_of
 from office.header import DECLARED, HEADER
@@ -34,6 +37,10 @@ PROGRAMS = {
     'conjugate_gradient': {'iteration': 3}, 'n_body': {'step': 2}, 'monte_carlo': {'batch': 2},
     'multigrid': {'cycle': 1, 'down': 2, 'up': 2}}
 KINDS = ['deep', 'one', 'many', 'mixed', 'carried', 'tails', 'pairs', 'barred']
+# What takes long to load, and who does without.
+HEAVY = ['dataclasses', 'inspect', 'typing', 'pathlib', 'shutil', 'subprocess', 'hashlib', 'json', 'sqlite3',
+         'office.listing']
+LIGHT = [['check', 'P'], ['key', 'P'], ['key', 'P', '--words'], ['missing', 'P'], ['calls', 'P', '3']]
 
 # Papers with a fault: the text, the number, the line or 0, and words that quote the line or say what is missing. Which
 # cause it is, mistakes.py tries.
@@ -423,6 +430,48 @@ def reasons(tally: Tally, folder: pathlib.Path) -> None:
     tally.check('nothing beside the page', not [*folder.glob('.*')], [*folder.glob('.*')])
 
 
+def starts(tally: Tally, folder: pathlib.Path) -> None:
+    """What a start imports: little, and nothing that a site adds to every Python."""
+    (folder / 'sitecustomize.py').write_text('import sys\nsys.exit("a module of the site")\n')
+    for command in (DESK, DRAW):
+        asked = [command, *['check'] * (command == DESK), ROOT / 'examples' / 'p.hex']
+        tally.check(f'{command.name} has no module of the site', run(*asked, PYTHONPATH=str(folder)) == run(*asked))
+    for words in LIGHT:
+        asked = [ROOT / 'examples' / 'p.hex' if word == 'P' else word for word in words]
+        seen = run(sys.executable, '-S', '-X', 'importtime', DESK, *asked)
+        loaded = {line.rpartition('|')[2].strip() for line in seen.err.splitlines()}
+        tally.check(f'{" ".join(words)} is light', seen.status == 0 and 'office.library' in loaded and
+                    loaded.isdisjoint(HEAVY), loaded & {*HEAVY} or seen)
+
+
+def alike(tally: Tally) -> None:
+    """Records do what dataclasses do."""
+    told = []
+    for kind in (dataclasses, records):
+        @kind.dataclass(frozen=True)
+        class One:
+            first: int
+            second: str = 'two'
+            third: list[int] = kind.field(default_factory=list)
+
+        @kind.dataclass
+        class Other:
+            first: int
+
+        one = One(1)
+        mended = kind.replace(one, second='2')
+        told.append([str(one).rpartition('.')[2], vars(One(third=[3], first=1)), vars(mended), one == One(1, 'two', []),
+                     one == mended, one == Other(1), one.third is One(1).third, {Other(1) == Other(1)}, Other.__hash__,
+                     hash(One(1, third=())) == hash(One(1, 'two', ()))])
+        for name, given, named in [('many', (1, '2', [], 4), {}), ('unknown', (1,), {'fourth': 4}), ('few', (), {})]:
+            try:
+                One(*given, **named)
+                told[-1].append(name)
+            except (TypeError, AttributeError):
+                pass
+    tally.check('records', told[0] == told[1], told)
+
+
 def main() -> None:
     tally = Tally()
     with tempfile.TemporaryDirectory() as name:
@@ -437,6 +486,8 @@ def main() -> None:
         keys(tally, folder)
         trees(tally)
         reasons(tally, folder)
+        starts(tally, folder)
+        alike(tally)
     tally.close()
 
 
