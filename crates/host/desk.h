@@ -1,9 +1,9 @@
 /* The marking desk for barrier papers, for programs in C.
 
    A desk is a value: it goes into a call and comes back in the reply, and no call keeps anything. Begin with desk_new
-   and go on with the desk of each reply. No call checks a desk: on one that no call made it may answer anything, read or
-   write memory that is not its own, stop the program, or not end. Two desks are not to be compared byte by byte: what
-   lies beyond the counts in a desk is not told. Calls on different desks may run at the same time.
+   and go on with the desk of each reply. No call checks a desk: on one that no call made it may answer anything, read
+   or write memory that is not its own, stop the program, or not end. Two desks are not to be compared byte by byte:
+   what lies beyond the counts in a desk is not told. Calls on different desks may run at the same time.
 
    `number` is 0, or the number of a refusal; `line` is the line of the text, from 1, or 0 where no text is at fault.
    A refused call leaves the desk as it was, every byte of a lent buffer too, and answers 0.
@@ -11,8 +11,8 @@
      1   a line that is not an even, nonzero number of digits 0-9 a-f, then 0a
      2   a kind that is not of this text, or the wrong length for it
      3   a point after a dependence or a barred gap
-     4   a point before any DO or after the outermost loop; a dependence, a barred gap, or the end, while a loop is open;
-         in an argument a step before any claim, or a claim that leads no step
+     4   a point before any DO or after the outermost loop; a dependence, a barred gap, or the end, while a loop is
+         open; in an argument a step before any claim, or a claim that leads no step
      5   a 257th point, a loop 9 deep, a 513th dependence, a 256th barred gap; a 4,097th claim, a 1,025th step of one
      6   s, t or d names no point, or one of the wrong sort; Count of a point that is no DO; the number of a dependence
          that is none
@@ -360,11 +360,11 @@ DeskRunEnds desk_sheet(size_t processors, size_t phases, const uint16_t *duratio
    first text with their line, then those of the second. */
 DeskCompared desk_compare(Desk desk, const uint8_t *a, size_t first, const uint8_t *b, size_t second);
 
-/* Weighs an argument text, which tells why no correct placement is better: against the key, or against a placement text,
-   on any nest, with a key or without. Where it holds, the placement is a key. Numbers 10 and 11, of a placement 10 and
-   then 1, 2, 8, 16 of its text with their line; then 1, 2, 4, 5 of the argument with their line; then 21, with text 1
-   and line 0 where the placement is not correct, else with the first line that does not hold, or the line after the last
-   where a claim is missing. */
+/* Weighs an argument text, which tells why no correct placement is better: against the key, or against a placement
+   text, on any nest, with a key or without. Where it holds, the placement is a key. Numbers 10 and 11, of a placement
+   10 and then 1, 2, 8, 16 of its text with their line; then 1, 2, 4, 5 of the argument with their line; then 21, with
+   text 1 and line 0 where the placement is not correct, else with the first line that does not hold, or the line after
+   the last where a claim is missing. */
 DeskWeighed desk_weigh(Desk desk, const uint8_t *text, size_t length);
 DeskWeighed desk_weigh_placement(Desk desk, const uint8_t *placement, size_t gaps, const uint8_t *text, size_t length);
 
