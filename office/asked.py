@@ -21,6 +21,8 @@ TURNS, TURNS_HELP = 16, 'the turns of the loops in the order of their DOs, with 
 GAPS_HELP = "gaps in decimal with commas between, '' for none, or a file with these or with a placement text"
 PAPER_HELP = 'a file with a nest text or a listing; - for standard input'
 BLANK_HELP = 'lets an empty text be the paper, which is the blank one'
+# The names in listings that were taken as papers, by the file.
+LISTED: dict[str, dict[int, str]] = {}
 
 
 def said_of(text: bytes) -> Refusal | None:
@@ -77,8 +79,8 @@ def paper_in(file: str) -> bytes:
     text = read_in(file)
     if not is_listing(text):
         return text
-    from office.listing import spelled  # which takes long to load, and a text does not need it
-    text = spelled(text, file)
+    from office.listing import spelled_with_names  # which takes long to load, and a text does not need it
+    text, LISTED[file] = spelled_with_names(text, file)
     tell('desk', f'{printable(file)} is a listing: it is taken as the text that ./desk spell writes of it')
     return text
 

@@ -1,7 +1,7 @@
 """Names of a paper's statements and loops, in a file beside its text: paper.names for paper.hex.
 
 The text of a paper has no names, so they go along in a file of their own, written by ./desk spell. It is bound to the
-paper by its hash: beside another text it is told of and not used.
+paper by its hash: beside another text it is told of and not used. A listing that is taken as a paper has its own.
 
   sha256 3eb019b6...
   2 rent
@@ -10,6 +10,7 @@ paper by its hash: beside another text it is told of and not used.
 import os
 import re
 
+from office.asked import LISTED
 from office.command import REFUSED, Fault, printable, read_plain, tell
 from office.frames import ENDDO
 from office.library import Desk
@@ -68,7 +69,10 @@ def is_name(word: str) -> bool:
 
 
 def names_beside(desk: Desk, file: str, text: bytes) -> dict[int, str]:
-    """The names that lie beside the file of a paper; those of another one are told of and not used."""
+    """The names of a listing, or those that lie beside the file of a paper; those of another one are told of and not
+    used."""
+    if file in LISTED:
+        return LISTED[file]
     beside = os.path.splitext(file)[0] + SUFFIX
     if file == '-' or not os.path.exists(beside):
         return {}
@@ -85,11 +89,11 @@ def names_beside(desk: Desk, file: str, text: bytes) -> dict[int, str]:
 
 
 def named_paper(desk: Desk, file: str, text: bytes) -> Paper:
-    """The paper on a desk, with the names that lie beside its file."""
+    """The paper on a desk, with the names of its listing, or those that lie beside its file."""
     return paper_on(desk, names_beside(desk, file, text))
 
 
 def names_to_keep(desk: Desk, file: str, text: bytes) -> bytes:
-    """The names that lie beside the file of a paper, as a file of them; nothing where there are none."""
+    """The names of a paper's listing, or those beside its file, as a file of them; nothing where there are none."""
     names = names_beside(desk, file, text)
     return names_text(text, names) if names else b''

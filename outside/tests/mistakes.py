@@ -203,17 +203,21 @@ def listings(tally: Tally, folder: pathlib.Path) -> None:
 
 
 def papers_as_listings(tally: Tally, folder: pathlib.Path) -> None:
-    """Where a paper is named a listing is taken, and where a placement is, gaps in decimal; what it was taken for is
-    said. What is marked is the text."""
+    """Where a paper is named a listing is taken, as its text with its names, and where a placement is, gaps in decimal;
+    what it was taken for is said. What is marked is the text."""
     listing, answer, names, hall = (folder / name for name in ('nest.txt', 'anna.hex', 'names.txt', 'hall'))
     listing.write_bytes(LISTING)
     (folder / 'nest.hex').write_bytes(LISTING_TEXT)
     answer.write_bytes(b'2102\n')
     names.write_text('anna\n')
+    spelt = folder / 'spelt' / 'nest.hex'
+    spelt.parent.mkdir()
+    run(DESK, 'spell', listing, '-o', spelt)
+    tally.check('with names beside it', spelt.read_bytes() == LISTING_TEXT and spelt.with_suffix('.names').exists())
     taken = f'desk: {listing} is a listing: it is taken as the text that ./desk spell writes of it\n'
     for asked in (['check'], ['show'], ['key'], ['why', '2'], ['mark', str(answer)], ['calls', '2']):
         command, *more = asked
-        seen, plain = run(DESK, command, listing, *more), run(DESK, command, folder / 'nest.hex', *more)
+        seen, plain = run(DESK, command, listing, *more), run(DESK, command, spelt, *more)
         tally.check(f'{command} of a listing', seen == Seen(plain.out, taken, plain.status), (seen, plain))
     seen = run(DESK, 'join', '-', P, given=LISTING)
     joint = run(DESK, 'join', folder / 'nest.hex', P).out

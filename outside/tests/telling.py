@@ -275,6 +275,9 @@ def names(tally: Tally, folder: pathlib.Path) -> None:
     shown = run(DESK, 'show', paper)
     tally.check('shown', told(shown, 'DO year', '1 | rent', 'DO L2_', '0: rent -> bread', 'rent 1 to bread 3'), shown)
     tally.check('and read again', spelled(shown.out, '') == spelt.out, shown)
+    for file, given in ((listing, b''), ('-', listing.read_bytes())):
+        seen = run(DESK, 'show', file, given=given)
+        tally.check(f'a listing has its own names, {file}', seen.out == shown.out and 'is a listing' in seen.err, seen)
     drawn = run(DESK, 'draw', paper).out.decode()
     words = ('rent', 'bread', 'DO loop 0 year', 'ENDDO loop 0')
     tally.check('drawn', all(f'>{word}<' in drawn for word in words), drawn)
@@ -287,6 +290,16 @@ def names(tally: Tally, folder: pathlib.Path) -> None:
     run(DESK, 'mark', paper, answer, '--slips', slips)
     slip = run(DESK, 'slip', *slips.glob('candidate/nobody.*.hex'), '--paper', paper)
     tally.check('in the words of a slip', told(slip, 'dependence 0: independent, rent 1 to bread 3'), slip)
+    beside.rename(folder / 'away')
+    seen = run(DESK, 'slip', *slips.glob('candidate/nobody.*.hex'), '--paper', listing)
+    tally.check('by the listing', seen.out == slip.out, seen)
+    tally.check('drawn from a listing', b'>bread<' in run(DESK, 'draw', listing).out)
+    register = folder / 'named.db'
+    seen = run(DESK, 'mark', listing, answer, '--register', register, '--new')
+    run(DESK, 'export', register, '--slips', folder / 'listed')
+    pages = [page.read_text() for page in (folder / 'listed').rglob('*.html')]
+    tally.check('a register has them', pages and any('rent' in page for page in pages), (seen, pages[:1]))
+    (folder / 'away').rename(beside)
     written = folder / 'written.hex'
     seen = run(DESK, 'spell', listing, '-o', written)
     tally.check('beside what is written', (seen.err, seen.status) == ('', 0) and written.read_bytes() == spelt.out
