@@ -1,9 +1,9 @@
-"""What the arguments of a command name: a paper, a placement, turns. What is wrong with one is a fault in words."""
+"""What the arguments of a command name: a paper, a placement, turns. What is wrong with one is a fault in words, whose
+module is imported where something is."""
 import os
 import re
 from collections.abc import Callable
 
-from office.causes import Ask, gaps_told, no_gap, paper_cause, placement_cause
 from office.command import REFUSED, Fault, printable, read_in, tell
 from office.frames import DO, placement_text
 from office.library import Desk, Nest, refusal_of
@@ -14,6 +14,8 @@ from office.words import RULES, counted, gaps_named, joined
 TYPE_CHECKING = False
 if TYPE_CHECKING:
     from typing import TypeVar
+
+    from office.causes import Ask
     Given = TypeVar('Given')
 
 LONG = 9
@@ -39,6 +41,7 @@ def refused(file: str, refusal: Refused, text: bytes, cause: str = '') -> Fault:
 
 def refused_paper(file: str, refusal: Refused, text: bytes, desk: Desk | None = None) -> Fault:
     """The refusal of a paper; of one that is on a desk, by Plan."""
+    from office.causes import paper_cause
     cause = paper_cause(refusal.refusal, text, said_of) if desk is None else blocked_cause(desk)
     return refused(file, refusal, text, cause)
 
@@ -50,6 +53,7 @@ def refused_placement(file: str, refusal: Refused, text: bytes, desk: Desk) -> F
 
 def answer_cause(refusal: Refusal, text: bytes, desk: Desk) -> str:
     """Why a placement text is refused on the paper of a desk."""
+    from office.causes import placement_cause
     return placement_cause(refusal, text, lambda some: refusal_of(desk.candidate_slip, some), len(desk.nest.points))
 
 
@@ -126,6 +130,7 @@ def placement_asked(argument: str, desk: Desk) -> bytes:
     if not is_file(argument):
         words = re.findall('[0-9]+', argument)
         if any(len(word) > LONG for word in words):
+            from office.causes import gaps_told
             there = gaps_told(len(desk.nest.points), texts=False)
             raise Fault(f'a number of more than {LONG} digits is no gap: {there}')
         return placement_of([*map(int, words)], desk)
@@ -149,6 +154,7 @@ def placement_of(gaps: list[int], desk: Desk) -> bytes:
     points = len(desk.nest.points)
     for gap in gaps:
         if gap not in range(1, points):
+            from office.causes import no_gap
             raise Fault(no_gap(gap, points, texts=False))
     text = placement_text(sorted({*gaps}))
     refusal = refusal_of(desk.candidate_slip, text)
@@ -179,7 +185,7 @@ def turned(desk: Desk, argument: str, call: 'Callable[[Desk, bytes], Given]',
                     refusal.refusal.number, 0) from refusal
 
 
-def turns_cause(nest: Nest, turns: bytes, ask: Ask) -> str:
+def turns_cause(nest: Nest, turns: bytes, ask: 'Ask') -> str:
     """Why no calls are counted under turns: the paper, how many they are, or one of them, tried beside others."""
     loops = [d for d, kind in enumerate(nest.points) if kind == DO]
     if nest.barred or nest.flagged:

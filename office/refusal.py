@@ -6,7 +6,6 @@ import sys
 
 from office.frames import REFUSAL
 from office.records import dataclass
-from office.typed import line_at
 from office.words import RULES
 
 DIGITS_RULE, BLOCKED = 1, 15
@@ -25,6 +24,7 @@ class Refusal:
 
     def words(self, text: bytes, cause: str = '') -> list[str]:
         """What the refusal of a text means, a sentence a line: where, and the cause if it is known, else the rule."""
+        from office.typed import line_at  # which only a refusal needs
         line = line_at(text, self.line)
         if line is not None:
             where = f'line {self.line} is refused: {line.quoted()}'

@@ -4,8 +4,16 @@ that no file takes the place of, and an end without a traceback for whoever stop
   python3 -m office.start MODULE NAME ...    begins so, and goes on with a module of the office; ./key asks for it
 """
 import os
-import signal
 import sys
+
+TYPE_CHECKING = False
+if TYPE_CHECKING:
+    import signal
+else:
+    try:
+        import _signal as signal  # of which signal is made: it is there at once, and signal only when enum is loaded
+    except ImportError:
+        import signal
 
 OLDEST = (3, 10)
 
