@@ -48,6 +48,9 @@ class Naming:
         """A line as it would be typed."""
         return text_of([frame]).decode().strip()
 
+    def no_gap(self, gap: int, points: int) -> str:
+        return no_gap(gap, points)
+
     def code(self, kind: int) -> str:
         return f' ({kind:02x})'
 
@@ -169,7 +172,7 @@ class Faulty:
 
     def gap(self) -> str:
         """8: a barred gap that is none."""
-        return no_gap(self.frame[1] if self.frame else 0, len(self.points))
+        return self.naming.no_gap(self.frame[1] if self.frame else 0, len(self.points))
 
     def several(self) -> str:
         """14: a barred gap in a paper of several loops."""

@@ -3,6 +3,7 @@
 Names are turned into points here and nothing else is looked at: whether the paper is in order the desk says, and what
 it refuses is told at its line and column of the listing.
 """
+import itertools
 import unicodedata
 
 from office.causes import CAUSES, OPEN, NAMES, Faulty, Naming
@@ -16,6 +17,9 @@ from office.taken import PAPER, SAVED, in_one_form, is_utf16
 ARROWS = ('->', '→')
 LETTERS = 'a name has letters of any script, digits and _, and begins with a letter'
 FORMS = 'a line is DO or ENDDO with a name, the name of a statement alone, or a dependence A -> B or A -> B round LOOP'
+DEPENDENCE, ARROW = 'a dependence is A -> B or A -> B round LOOP', 'an arrow is typed ->'
+# Signs that arrows are made of, beside dashes and what Unicode calls one; what begins a remark elsewhere.
+SHAFTS, REMARKS = '<=>~\u2212', '!%*/;'
 WIDE, BEFORE = 100, 60
 
 
@@ -84,7 +88,8 @@ class Listing:
         column, words = ([], words) if bar is None else (words[:bar], words[bar + 1:])
         strange = [word for word in column if not word.text.isdecimal() and not word.means('BARRED')]
         if strange:
-            raise Unread('left of a bar stands the number of a gap, and barred where it is', '', strange[0])
+            cure = 'did you mean barred?' if nearest(strange[0].text.lower(), ['barred']) else ''
+            raise Unread('left of a bar stands the number of a gap, and barred where it is', cure, strange[0])
         bars = [word for word in column if word.means('BARRED')]
         if bars:
             self.barred.append((number, len(self.points), bars[0]))
@@ -140,7 +145,8 @@ class Listing:
         """A name alone."""
         first, *rest = words
         if not first.is_name:
-            raise Unread(f'{first.text} begins no line of a listing', LETTERS if first.text.isalnum() else FORMS, first)
+            cure = 'a remark begins with #' if first.text in REMARKS else FORMS
+            raise Unread(f'{first.text} begins no line of a listing', LETTERS if first.text.isalnum() else cure, first)
         if rest:
             raise Unread('a statement is a name alone', *instead_of_name(first, rest))
         self.name(first, Named(len(self.points), number))
@@ -168,13 +174,14 @@ class Listing:
 
     def end(self, words: list[Word], arrow: Word, where: str) -> tuple[str, Word]:
         """An end of a dependence."""
-        kind = words[0].text.upper() if len(words) > 1 and words[0].means('DO', 'ENDDO') else ''
-        named = words[1:] if kind else words
+        apart = len(words) > 2 and words[0].means('END') and words[1].means('DO')
+        kind = words[0].text.upper() if len(words) > 1 and words[0].means('DO', 'ENDDO') else 'ENDDO' * apart
+        named = words[1 + apart:] if kind else words
         if not named:
-            raise Unread(f'{where} the arrow a name is missing', 'a dependence is A -> B or A -> B round LOOP', arrow)
+            raise Unread(f'{where} the arrow a name is missing', DEPENDENCE, arrow)
         if len(named) > 1 or not named[0].is_name:
             wrong = named[1] if named[0].is_name else named[0]
-            cure = 'did you mean round?' if nearest(wrong.text.lower(), ['round']) else LETTERS
+            cure = instead_of_end(named[0], wrong, arrow)
             raise Unread(f'{where} the arrow stands one name, and {wrong.text} is no part of it', cure, wrong)
         return kind, named[0]
 
@@ -209,6 +216,7 @@ class Called(Naming):
     def __init__(self, listing: Listing):
         self.listing = listing
         self.names = {one.point: name for name, those in listing.named.items() for one in those}
+        self.own = {those[0].point for those in listing.named.values() if len(those) == 1}
         self.opens = {end: d for d, end in listing.closed.items()}
 
     def point(self, point: int) -> str:
@@ -229,7 +237,11 @@ class Called(Naming):
     def typed(self, frame: list[int]) -> str:
         _, d, *ends = frame
         s, t = map(self.point, ends)
-        return f'{s} -> {t} round {self.names[d]}' if d in self.names else f'{s} -> {t} round a name for that loop'
+        loop = self.names[d] if d in self.own else f'NAME, with DO NAME on line {self.line(d)}'
+        return f'{s} -> {t} round {loop}'
+
+    def no_gap(self, gap: int, points: int) -> str:
+        return 'no gap lies before the DO of the outermost loop'
 
     def code(self, kind: int) -> str:
         return ''
@@ -237,15 +249,33 @@ class Called(Naming):
 
 def instead_of_name(first: Word, rest: list[Word]) -> tuple[str, Word, Word]:
     """What was meant by more than a name, and where it begins and ends."""
-    signs = ''.join(word.text for word in rest[:-1])
-    if rest[-1].is_name and signs != '=' and signs and set(signs) <= set('-=<>~'):
-        return 'an arrow is typed ->', rest[0], rest[-2]
+    signs = [*itertools.takewhile(lambda word: not word.is_name, rest)]
+    behind = rest[len(signs):]
+    if behind and is_arrow(''.join(word.text for word in signs)) and (behind[1:] == [] or behind[1].means('ROUND')):
+        return ARROW, signs[0], signs[-1]
+    if first.means('BARRED'):
+        return f'did you mean barred | {" ".join(word.text for word in rest)}?', first, first
     meant = 'DO' if first.means('FOR', 'WHILE', 'LOOP', 'PARDO') else nearest(first.text.upper(), ['ENDDO', 'DO'])
     if meant:
         return f'did you mean {meant}?', first, first
     if rest[0].column == first.end and not rest[0].text.isspace():
         return LETTERS, rest[0], rest[0]
     return 'what it does can stand behind a #', rest[0], rest[-1]
+
+
+def instead_of_end(name: Word, wrong: Word, arrow: Word) -> str:
+    """What was meant by a word that is no part of an end of a dependence."""
+    if nearest(wrong.text.lower(), ['round']):
+        return 'did you mean round?'
+    if wrong.text not in ARROWS and is_arrow(wrong.text) and (wrong.end == arrow.column or wrong.column == arrow.end):
+        return ARROW
+    return LETTERS if wrong is name or wrong.column == name.end and wrong.text not in ',;' else DEPENDENCE
+
+
+def is_arrow(signs: str) -> bool:
+    """Whether signs look like an arrow, as some type it."""
+    return signs not in ('', '=') and all(sign in SHAFTS or unicodedata.category(sign) == 'Pd'
+                                          or 'ARROW' in unicodedata.name(sign, '') for sign in signs)
 
 
 def words_of(line: str) -> list[Word]:
@@ -288,17 +318,17 @@ class Typed:
     file: str
     lines: list[str]
 
-    def fault(self, line: int, column: int, width: int, why: str, cure: str = '') -> Fault:
-        """A fault of the listing, with its line and a mark below its place."""
+    def fault(self, line: int, column: int, width: int, why: str, cure: str = '', number: int | None = None) -> Fault:
+        """A fault of the listing, with its line and a mark below its place; by the desk, with the number."""
         where = f'{self.file}: line {line}, column {column + 1} of the listing is refused'
         shown = marked(self.lines[line - 1], column, width)
-        return Fault('\n'.join([f'{where}: {why}', *shown, *[cure] * bool(cure)]), REFUSED, None, line)
+        return Fault('\n'.join([f'{where}: {why}', *shown, *[cure] * bool(cure)]), REFUSED, number, line)
 
     def refused(self, listing: Listing, frames: list[list[int]], refusal: Refusal) -> Fault:
         """What the desk refuses, told at its place in the listing."""
         at, points = refusal.line - 1, len(listing.points)
         frame = frames[at] if at < len(frames) else None
-        naming = Called(listing)
+        naming, cure = Called(listing), ''
         faulty = Faulty(frames[:at], frame, lambda text: refusal_of(Desk().load, text), naming)
         cause = CAUSES[refusal.number](faulty) if refusal.number in CAUSES else refusal.rule
         why = f'number {refusal.number}: {cause}'
@@ -306,18 +336,20 @@ class Typed:
             left = faulty.left_open()
             line, _, word = listing.points[left[-1] if left else 0]
             ends = [name for name in listing.named if nearest(name.upper(), ['ENDDO'])]
-            cure = [f'{end} on line {listing.named[end][0].line} is a statement: did you mean ENDDO?' for end in ends]
-            return self.fault(line, word.column, len(word.text), why, ''.join(cure[:1]))
-        if at < points:
+            cures = [f'{end} on line {listing.named[end][0].line} is a statement: did you mean ENDDO?' for end in ends]
+            words, cure = [word], ''.join(cures[:1])
+        elif at < points:
             line, _, word = listing.points[at]
-            return self.fault(line, word.column, len(word.text), why)
-        if at < points + len(listing.arrows):
+            words = [word]
+        elif at < points + len(listing.arrows):
             arrow = listing.arrows[at - points]
+            line = arrow.line
             words = [arrow.words[faulty.misnamed()[0]]] if refusal.number == NAMES else [*arrow.words.values()]
-            first, last = min(words, key=lambda word: word.column), max(words, key=lambda word: word.column)
-            return self.fault(arrow.line, first.column, last.end - first.column, why)
-        line, _, word = listing.barred[at - points - len(listing.arrows)]
-        return self.fault(line, word.column, len(word.text), why)
+        else:
+            line, _, word = listing.barred[at - points - len(listing.arrows)]
+            words = [word]
+        first, last = min(words, key=lambda word: word.column), max(words, key=lambda word: word.column)
+        return self.fault(line, first.column, last.end - first.column, why, cure, refusal.number)
 
 
 def spelled(text: bytes, file: str) -> bytes:

@@ -8,7 +8,9 @@ PLACEMENT, KEY = re.compile(rb'(?:21[0-9a-f]{2}\n)+'), re.compile(rb'(?:21[0-9a-
 PAPER = re.compile(rb'0[14]\n(?:(?:0[1-4]|11[0-9a-f]{4}|12[0-9a-f]{6}|13[0-9a-f]{2})\n)*')
 SLIP, REFUSAL = re.compile(rb'23[0-9a-f]{4}\n'), re.compile(rb'2f[0-9a-f]{6}\n')
 DECIMAL = re.compile(rb'[\s,;]*[0-9]{1,3}(?:[\s,;]+[0-9]{1,3})*[\s,;]*')
-LISTED = re.compile(r'(?:[^|]*\|)?\s*(?:do|end\s*do)\b|.*(?:->|→)', re.I)
+SPACED = re.compile(rb'(?:21[ \t]+[0-9]{2}[ \t]*(?:\r?\n|$))+')
+LOOP = r'(?:do|end\s*do)\b|for\b\s*\(?\s*\w+\s*(?:=|:|in\b)|while\s*\('
+LISTED = re.compile(rf'(?:[^|]*\|)?\s*(?:[0-9]+\s*:\s*)?(?:{LOOP})|.*(?:->|→)', re.I)
 SAVED = 'the file is UTF-16: save it as plain text, in UTF-8'
 BEGINNINGS = {b'SQLite format 3\0': 'a register', b'<!DOCTYPE html>': 'a page of HTML', b'<svg ': 'a picture'}
 
@@ -25,14 +27,16 @@ def is_listing(text: bytes) -> bool:
         return False
     lines = [line.partition('#')[0].strip() for line in text.decode('utf-8-sig', 'replace').splitlines()]
     typed = [line for line in lines if line]
-    return bool(typed) and not re.fullmatch('[0-9a-f]+', typed[0]) and any(map(LISTED.match, typed))
+    return bool(typed) and not re.fullmatch('[0-9][0-9a-f]*', typed[0]) and any(map(LISTED.match, typed))
 
 
 def decimal_in(text: bytes) -> list[int]:
-    """The numbers of a text that is a list of them; none where it is something else, or a paper."""
+    """The numbers of a text that is a list of them; none where it is something else, or a paper, or a placement text
+    with a space behind each 21: as numbers these do not rise."""
     if not DECIMAL.fullmatch(text) or PAPER.fullmatch(text):
         return []
-    return [int(word) for word in re.findall(rb'[0-9]+', text)]
+    numbers = [int(word) for word in re.findall(rb'[0-9]+', text)]
+    return [] if SPACED.fullmatch(text) and numbers != sorted({*numbers}) else numbers
 
 
 def what_it_is(text: bytes) -> str:

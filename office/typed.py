@@ -38,11 +38,12 @@ class Line:
             found.append('it has capital digits: type a to f small')
         strange = sorted({c for c in digits if c not in SMALL + CAPITAL + SPACES})
         if strange:
-            return ['it has what are no digits: ' + ' '.join(repr(bytes([c]))[2:-1] for c in strange[:8])]
+            signs = ' '.join(repr(bytes([c]))[2:-1] for c in strange[:8])
+            return [f'it has what are no digits: {signs}; a line has 0 to 9 and a to f alone']
         if not digits:
             found.append('it is empty: take the line out')
         elif not found and len(digits) % 2 == 1:
-            found.append(f'it has {counted(len(digits), "digit")}, an odd number')
+            found.append(f'it has {counted(len(digits), "digit")}, an odd number: type two for each number')
         if not self.ended:
             found.append('no line feed comes after it: end the text with one')
         return found

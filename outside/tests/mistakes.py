@@ -25,6 +25,7 @@ from office.library import Desk
 from office.listing import spelled
 from office.refusal import Refusal, answered
 from office.sittings import hash_of
+from office.taken import is_listing
 from outside.tests.collecting import end, sit
 from outside.trying import DESK, DRAW, EXAMPLES, KEY, PROGRAM, ROOT, Seen, Tally, run
 
@@ -38,8 +39,9 @@ LISTING_TEXT = b'01\n03\n03\n02\n110102\n'
 NINE, LONG = b'01\n' * 9, b'01\n' + b'03\n' * 255
 TWO = b'01\n01\n03\n02\n03\n02\n'
 PAPERS = [
-    (b'01\n021\n', 1, 'it has 3 digits, an odd number'), (b'01\n0\n', 1, 'it has 1 digit, an odd number'),
-    (b'01\n# Points, 02\n', 1, 'it has what are no digits: # , P i n o s t'),
+    (b'01\n021\n', 1, 'it has 3 digits, an odd number'), (b'01\n0\n', 1, 'it has 1 digit, an odd number: type two for '
+                                                                       'each number'),
+    (b'01\n# Points, 02\n', 1, 'it has what are no digits: # , P i n o s t; a line has 0 to 9 and a to f alone'),
     (b'01\r\n02\r\n', 1, 'the line ends in CRLF (0d 0a): save the text with line feeds alone'),
     ('01\n02\n'.encode('utf-16-le'), 1, 'the file is UTF-16: save it as plain text, in UTF-8'),
     ('\ufeff01\n02\n'.encode('utf-16-be'), 1, 'the file is UTF-16'),
@@ -90,6 +92,7 @@ ANSWERS = [
     (b'5\n11', 1, 1, 'a placement text has 2105 and 210b for them'), (b'05 11', 1, 1, '2105 and 210b'),
     (b'11\n', 2, 1, 'these are gaps in decimal: a placement text has 210b for them'),
     (b'5, 14\n', 1, 1, f'these are numbers in decimal, and a placement text has lines 21 and a gap alone; {GAPS_OF_P}'),
+    (b'21 05\n21 11\n', 1, 1, 'there are spaces in it: leave them out'), (b'11 13', 1, 1, '210b and 210d for them'),
     ('2105\n'.encode('utf-16'), 1, 1, 'the file is UTF-16: save it as plain text'),
     (EXAMPLES['p'], 2, 1, 'this is a paper, and no placement text'), (LISTING, 1, 1, 'this is a listing of a paper'),
     (b'2105\n210b\n220000\n', 2, 3, 'the counts of a key are no part of it'), (b'23ffff\n', 2, 1, 'this is a slip'),
@@ -118,7 +121,14 @@ LISTINGS = [
     (BODY + 'ENDDO a -> x\n', '5, column 7', 'begins at a statement or a DO, and ENDDO a is neither', ''),
     (BODY + 'x -> DO a\n', '5, column 9', 'ends at a statement or an ENDDO, and DO a is neither', ''),
     (BODY + 'DO x -> y\n', '5, column 4', 'x is a statement, and no loop', 'leave DO out'),
-    (BODY + 'x => y\n', '5, column 3', 'a statement is a name alone', 'an arrow is typed ->'),
+    *((BODY + f'x {arrow} y{behind}\n', '5, column 3', 'a statement is a name alone', 'an arrow is typed ->')
+      for arrow in ('=>', '<-', '⇒', '←', '–>') for behind in ('', ' round a')),
+    (BODY + 'x --> y\n', '5, column 3', 'before the arrow stands one name, and - is', 'an arrow is typed ->'),
+    (BODY + 'x ->> y\n', '5, column 5', 'behind the arrow stands one name, and > is', 'an arrow is typed ->'),
+    (BODY + 'x -> y -> x\n', '5, column 8', 'and -> is no part of it', 'a dependence is A -> B or A -> B round LOOP'),
+    (BODY + 'x -> y, y -> x\n', '5, column 7', 'and , is no part of it', 'a dependence is A -> B or A -> B round LOOP'),
+    (BODY + 'x -> y carried by a\n', '5, column 8', 'and carried is no part of it', 'A -> B round LOOP'),
+    (BODY + 'END DO a -> x\n', '5, column 8', 'begins at a statement or a DO, and ENDDO a is neither', ''),
     (BODY + 'x - y\n', '5, column 3', 'a statement is a name alone', 'an arrow is typed ->'),
     (BODY + 'x ->\n', '5, column 3', 'behind the arrow a name is missing', 'A -> B round LOOP'),
     (BODY + '-> y\n', '5, column 1', 'before the arrow a name is missing', 'A -> B round LOOP'),
@@ -126,6 +136,11 @@ LISTINGS = [
     (BODY + 'x -> y arround a\n', '5, column 8', 'arround is no part of it', 'did you mean round?'),
     (BODY + 'x -> y+1\n', '5, column 7', '+ is no part of it', 'letters of any script'),
     ('DO a\n  x = y + 1\nENDDO\n', '2, column 5', 'a statement is a name alone', 'can stand behind a #'),
+    ('! by hand\nDO a\nENDDO\n', '1, column 1', '! begins no line', 'a remark begins with #'),
+    ('DO a\n  x\n// late\nENDDO\n', '3, column 1', '/ begins no line', 'a remark begins with #'),
+    ('DO a\n  barred x\nENDDO\n', '2, column 3', 'a statement is a name alone', 'did you mean barred | x?'),
+    ('barred | DO a\nENDDO\n', '1, column 1', 'number 8: no gap lies before the DO of the outermost loop', ''),
+    ('DO\n  x\n  y\nENDDO\ny -> x\n', '5, column 1', 'back to x', 'y -> x round NAME, with DO NAME on line 1?'),
     ('DO a\n  x-1\nENDDO\n', '2, column 4', 'a statement is a name alone', 'letters of any script, digits and _'),
     ('DO a\n  2x\nENDDO\n', '2, column 3', '2x begins no line', 'begins with a letter'),
     ('DO a\n  x\n  x\nENDDO\n', '3, column 3', 'x stands on line 2 already', 'a name of its own'),
@@ -135,7 +150,9 @@ LISTINGS = [
     ('DO k\n DO i = 1, n\n  x\n ENDDO\n DO i = 1, n\n  y\n ENDDO\nENDDO\nx -> x round i\n', '9, column 14',
      'i is the name of several loops, on lines 2 and 5', 'names of their own'),
     ('DO a\n x\nbarred |\nENDDO\n', '3, column 1', 'a gap lies before a point', ''),
-    ('DO a\n4 bard | x\nENDDO\n', '2, column 3', 'left of a bar stands the number of a gap', ''),
+    ('DO a\n4 bard | x\nENDDO\n', '2, column 3', 'left of a bar stands the number', 'did you mean barred?'),
+    ('DO k\n DO i = 1, n\n  x\n  y\n ENDDO\n DO i = 1, n\n ENDDO\nENDDO\ny -> x\n', '9, column 1', 'back to x',
+     'y -> x round NAME, with DO NAME on line 2 or y -> x round k?'),
     (BODY + 'größe -> 名\n', '5, column 1', 'nothing is called größe', ''),
     (BODY + f'{"x" * 90} -> y -> {"z" * 90}\n', '5, column 97', '-> is no part of it', ''),
     (BODY.replace('x', '名').replace('y', 'größe') + '名 -> grösse\n', '5, column 6', 'grösse', 'did you mean größe?')]
@@ -193,6 +210,10 @@ def listings(tally: Tally, folder: pathlib.Path) -> None:
     fortran = 'DO i = 1, n\n DO j = 1, i - 1\n a\n END DO\n do j=1,n\n b\n enddo j\nend do i\na -> b\nb → a round i\n'
     wanted = b'01\n01\n03\n02\n01\n03\n02\n02\n110205\n12000502\n'
     tally.check('as in Fortran', spelled(fortran.encode(), '') == wanted, spelled(fortran.encode(), ''))
+    ended = spelled(f'{BODY}x -> END DO a\n'.encode(), '')
+    tally.check('END DO behind an arrow', ended == b'01\n03\n03\n02\n110103\n', ended)
+    for typed in (b'0: DO a\n1: x\n2: ENDDO\n', b'a\nDO b\nENDDO\n', b'for (i = 0; i < n; i++) {\n x\n}\n'):
+        tally.check(f'{typed!r} is a listing', is_listing(typed), typed)
     names = 'DO प्रिया\n  größe\n  名2\nENDDO प्रिया\ngröße -> 名2\n名2 -> gro\u0308ße round प्रिया\n'
     tally.check('names of any script', spelled(names.encode(), '') == b'01\n03\n03\n02\n110102\n12000201\n')
     told = said(spelled, EXAMPLES['p'], 'p.hex')[1]
@@ -411,14 +432,16 @@ def as_json(tally: Tally, folder: pathlib.Path) -> None:
         fields = ['verdicts', 'added', 'head'] if 'mark' in asked and 'added' in one else documented[asked[0]]
         tally.check(f'{asked}: its fields', [*one] == fields, ([*one], fields))
         tally.check(f'{asked}: nothing else is said', seen.err == '' and seen.status == (asked[0] == 'verify'), seen)
-    bad = folder / 'bad.hex'
+    bad, listing = folder / 'bad.hex', folder / 'bad.txt'
     bad.write_bytes(b'01\n03\n03\n02\n110201\n')
-    for asked in (['key', bad], ['show', bad], ['check', bad]):
+    listing.write_text(f'{BODY}y -> x\n')
+    for asked in (['key', bad], ['show', bad], ['check', bad], ['check', listing], ['key', listing]):
         seen = run(DESK, *asked, '--json')
         value = json.loads(seen.out)
-        refused = (value[0] if asked[0] == 'check' else value)['refused']
-        held = (refused['number'], refused['line']) == (7, 5) and 'did you mean 12000201?' in refused['words'][1]
-        tally.check(f'{asked[0]} refused, as JSON', held and seen.status == 1 and 'number 7' in seen.err, seen)
+        refused, words = (value[0] if asked[0] == 'check' else value)['refused'], ('12000201?', 'y -> x round a?')
+        held = (refused['number'], refused['line']) == (7, 5)
+        told = f'did you mean {words[asked[1] == listing]}' in ''.join(refused['words'])
+        tally.check(f'{asked} refused, as JSON', held and told and seen.status == 1 and 'number 7' in seen.err, seen)
 
 
 def skipping(tally: Tally, folder: pathlib.Path) -> None:
