@@ -19,6 +19,11 @@ def relied_on(desk: Desk, text: bytes) -> dict[int, list[int]]:
     return {number: loops for number, loops in told if loops}
 
 
+def skipped_fields(relied: dict[int, list[int]]) -> list[dict[str, object]]:
+    """The same for programs."""
+    return [{'dependence': number, 'loops': loops} for number, loops in relied.items()]
+
+
 def skipped_told(relied: dict[int, list[int]], name: str) -> list[str]:
     """What a placement leaves uncut where loops do not run, a sentence for each row of loops."""
     uncut: dict[tuple[int, ...], list[int]] = {}

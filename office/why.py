@@ -6,17 +6,16 @@ import textwrap
 import time
 
 from office.argued import Argued, argued, argument_lines, before
-from office.asked import (GAPS_HELP, PAPER_HELP, TURNS, TURNS_HELP, is_file, loaded, placement_asked, planned,
-                          turns_asked)
+from office.asked import (GAPS_HELP, PAPER_HELP, TURNS_HELP, is_file, loaded, placement_asked, planned, turns_asked,
+                          turns_cause)
 from office.command import REFUSED, Fault, title_of, write_json, write_out, write_over
-from office.frames import DO
 from office.library import DEARER, UNCUT, Compared, Desk, Mark, refusal_of
 from office.names import named_paper
 from office.paper import Paper, Placed, loops_told, placed
 from office.records import dataclass
 from office.refusal import Refused
 from office.result import hand_over, result_arguments
-from office.skipped import relied_on, skipped_told
+from office.skipped import relied_on, skipped_fields, skipped_told
 from office.trees import beside, drawn
 from office.words import VERDICTS, counted, gaps_named, spoken, stretches
 
@@ -41,6 +40,7 @@ INSIDE_OUT = ('Barriers are not added up: they are counted loop by loop, and the
               'out.')
 FEWEST = ('Of the key alone it is true that no correct placement makes fewer calls, and only where each inner loop '
           'makes at least two turns.')
+NO_COST = 'The program could go wrong, so nothing is said about cost.'
 UNCOUNTED = 'Calls are not counted on a paper with barred gaps or with loops that may not run.'
 
 
@@ -100,8 +100,7 @@ def uncut_words(paper: Paper, side: Side, first: int) -> str:
     gaps = paper.dependences[first].gaps
     where = f'its only gap, {gaps[0]}' if len(gaps) == 1 else f'any of its {stretches(gaps)}'
     many = f', the first of {side.uncut},' if side.uncut > 1 else ''
-    return (f'With {side.name} dependence {first}{many} is not cut: no barrier stands in {where}. The '
-            'program could go wrong, so nothing is said about cost.')
+    return f'With {side.name} dependence {first}{many} is not cut: no barrier stands in {where}.'
 
 
 def decided(paper: Paper, d: int, first: Side, second: Side) -> str:
@@ -137,11 +136,11 @@ def cost_words(paper: Paper, held: Compared, first: Side, second: Side) -> list[
 
 
 def reasons(paper: Paper, held: Compared, first: Side, second: Side) -> str:
-    """One paragraph: whether both cut all, how the costs compare, what the desk says."""
+    """One paragraph: whether both cut all, how the costs compare, what the desk says, no sentence twice."""
     wrong = [uncut_words(paper, side, side.placed.uncut) for side in (first, second) if side.placed.uncut is not None]
-    told = wrong or ['Both cut every dependence.', *cost_words(paper, held, first, second)]
+    told = [*wrong, NO_COST] if wrong else ['Both cut every dependence.', *cost_words(paper, held, first, second)]
     said = [verdict(side.name, side.mark) for side in (first, second) if side.mark and side.name != KEY]
-    return ' '.join(told + said)
+    return ' '.join(dict.fromkeys(told + said))
 
 
 def calls_made(desk: Desk, argument: str, turns: bytes, sides: list[Side]) -> list[int]:
@@ -151,8 +150,9 @@ def calls_made(desk: Desk, argument: str, turns: bytes, sides: list[Side]) -> li
     except Refused as refusal:
         if desk.nest.barred or desk.nest.flagged:
             return []
-        many = counted(desk.nest.points.count(DO), 'number')
-        raise Fault(f'this paper wants {many} of turns from 1 to {TURNS}: {argument}') from refusal
+        cause = turns_cause(desk.nest, turns, lambda some: refusal_of(
+            lambda told: desk.placement_calls(sides[0].text, told), some))
+        raise Fault(f'turns {argument}: {cause}') from refusal
 
 
 def calls_words(paper: Paper, held: Compared, turns: bytes, made: list[int], first: Side, second: Side) -> str:
@@ -174,8 +174,7 @@ def side_told(side: Side) -> dict[str, object]:
     """A placement for programs."""
     mark = None if side.mark is None else {**vars(side.mark), 'verdict': VERDICTS[side.mark.verdict]}
     return {'gaps': side.placed.gaps, 'counts': loops_told(side.placed.counts), 'first_uncut': side.placed.uncut,
-            'uncut': side.uncut, 'mark': mark,
-            'skipped': [{'dependence': number, 'loops': loops} for number, loops in side.relied.items()]}
+            'uncut': side.uncut, 'mark': mark, 'skipped': skipped_fields(side.relied)}
 
 
 def head_of(asked: argparse.Namespace, name: str, text: bytes) -> dict[str, str]:
@@ -203,6 +202,8 @@ def fitting(asked: argparse.Namespace) -> None:
     """What cannot be asked for together is a fault."""
     if asked.text and (asked.gaps is not None or asked.html is not None or asked.json):
         raise Fault('--text writes the argument for the key of a paper, with nothing beside it')
+    if asked.html is not None and asked.json:
+        raise Fault('--html is for people and --json for programs: give one of them')
     if asked.output is not None and not asked.text:
         raise Fault('-o is where the argument goes as a text: --text asks for it')
     if asked.turns is not None and asked.gaps is None:
@@ -218,21 +219,23 @@ def of_key(asked: argparse.Namespace) -> None:
     found, tree = argued(desk, paper, key.counts), drawn(paper, key.counts)
     if found is None:
         raise Fault(before(found, True), REFUSED)
-    title = f'{KEY}: {gaps_titled(key.gaps)}'
+    title, relied = f'{KEY}: {gaps_titled(key.gaps)}', relied_on(desk, desk.key())
     if asked.text:
         hand_over(asked, found.text, TEXT, lambda there: is_argument(desk, there))
     elif asked.json:
-        write_json({'gaps': key.gaps, 'counts': loops_told(key.counts), 'argument': found.fields()})
+        write_json({'gaps': key.gaps, 'counts': loops_told(key.counts), 'argument': found.fields(),
+                    'skipped': skipped_fields(relied)})
     elif asked.html is not None:
         from office.claim_figures import argument_markup
         from office.page import BEGINS, Shown, page
         name = title_of(asked.paper)
         markup = argument_markup(found, asked.argument, paper, key, name)
         head = head_of(asked, name, text) | {'SHA-256 of the argument': found.sha256}
-        made_page = page(name, head, paper, [Shown(title, key, tree)], [], [], markup)
+        made_page = page(name, head, paper, [Shown(title, key, tree)], skipped_told(relied, KEY), [], markup)
         write_over(asked.html, made_page.encode(), begins=BEGINS)
     else:
-        paragraphs = ['\n'.join([title, '', *tree]), *argument_lines(found, asked.argument)]
+        skipped = ['\n'.join(textwrap.wrap(words, WIDE)) for words in skipped_told(relied, KEY)]
+        paragraphs = ['\n'.join([title, '', *tree]), *skipped, *argument_lines(found, asked.argument)]
         write_out(('\n\n'.join(paragraphs) + '\n').encode())
 
 
@@ -270,7 +273,8 @@ def compared(asked: argparse.Namespace) -> None:
     told = [reasons(paper, held, first, second)]
     if correct:
         told.append(calls_words(paper, held, turns, made, first, second))
-        told += skipped_told(first.relied, first.name) + skipped_told(second.relied, second.name)
+    for side in (first,) if first.text == second.text else (first, second):
+        told += skipped_told(side.relied, side.name) if side.placed.uncut is None else []
     found = argued(desk, paper, second.placed.counts) if asked.other is None else None
     if asked.json:
         sides = [side_told(side) for side in (first, second)]

@@ -456,6 +456,16 @@ def skipping(tally: Tally, folder: pathlib.Path) -> None:
     told = 'Where loop 2 does not run, gap 4 leaves dependence 0 uncut'
     tally.check('named by why', 'So gap 4 is better.' in words and told in words, words)
     tally.check('of the other there is nothing to say', words.count('does not run') == 1, words)
+    for asked in ([], ['4'], ['1']):
+        words = ' '.join(run(DESK, 'why', paper, *asked).out.decode().split())
+        told = f'Where loop 2 does not run, {"gap 4" if asked == ["4"] else "the key"} leaves dependence 0 uncut'
+        tally.check(f'named by why {asked}', told in words and words.count('does not run') == 1, words)
+    page = folder / 'why.html'
+    run(DESK, 'why', paper, '--html', page)
+    tally.check('named on the page', 'Where loop 2 does not run, the key leaves dependence 0 uncut' in page.read_text())
+    value = json.loads(run(DESK, 'why', paper, '--json').out)
+    tally.check('of the key, for programs', [*value] == ['gaps', 'counts', 'argument', 'skipped'] and
+                value['skipped'] == [{'dependence': 0, 'loops': [2]}], value)
     rng = random.Random(1)
     for turn in range(300):
         points, opened = [1], 1

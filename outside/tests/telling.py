@@ -409,10 +409,18 @@ def reasons(tally: Tally, folder: pathlib.Path) -> None:
     tally.check('no calls counted', told(run(DESK, 'why', barred, '2'), 'Calls are not counted'))
     tally.check('two without a key', told(run(DESK, 'why', blocked, '2', '3'), 'With gap 2 dependence 0 is not cut'))
     for asked, word in [(['14'], 'gap 14 is none of this paper: its gaps are 1 to 13\n'),
-                        (['5', '--turns', '0'], '3 numbers of turns from 1 to 16'),
-                        (['5', '--turns', '2,2'], '3 numbers of turns'), (['5', '--turns', 'x'], 'up to 16')]:
+                        (['5', '--turns', '0'], 'turns 0: loop 0 may have 1 to 16 turns, and 0 are given'),
+                        (['5', '--turns', '2,17,2'], 'loop 1 may have 1 to 16 turns, and 17 are given'),
+                        (['5', '--turns', '2,2'], 'this paper has 3 loops, and 2 numbers of turns are given'),
+                        (['5', '--turns', 'x'], 'up to 16'),
+                        (['5', '--json', '--html', folder / 'none.html'], 'give one of them')]:
         seen = run(DESK, 'why', p, *asked)
         tally.check(f'why {asked}', seen.failed(word), seen)
+    tally.check('no page beside JSON', not (folder / 'none.html').exists())
+    for gaps, times in (('3', 1), ('4', 2)):
+        words = ' '.join(run(DESK, 'why', p, '3', gaps).out.decode().split())
+        many = words.count('is not cut'), words.count('The desk says of gap'), words.count('The program could')
+        tally.check(f'why 3 {gaps}: nothing is said twice', many == (times, times, 1), words)
     page = folder / 'why.html'
     seen = run(DESK, 'why', q, '4,7', '--html', page)
     html = page.read_text()
