@@ -84,11 +84,13 @@ def statuses(tally: Tally, folder: pathlib.Path) -> None:
     paper, link = ROOT / 'examples' / 'p.hex', folder / 'link'
     link.symlink_to(KEY)
     for name, seen in [('by name', run(KEY, paper)), ('by input', run(KEY, given=EXAMPLES['p'])),
+                       ('by a dash', run(KEY, '-', given=EXAMPLES['p'])),
                        ('by a link', run(link, paper)), ('elsewhere', run(KEY, paper, shell='cd / && "$@"')),
                        ('input closed', run(KEY, paper, given=None))]:
         tally.check(f'P {name}', (seen.out, seen.err, seen.status) == (P_ANSWER, '', 0), seen)
     seen = run(KEY)
     tally.check('empty', (seen.out, seen.status) == (b'220000\n', 0) and 'the blank paper' in seen.err, seen)
+    tally.check('-h', run(KEY, '-h') == run(KEY, '--help'))
     for option, word in [('--help', b'usage: ./key'), ('--version', f'key {VERSION}, commit '.encode())]:
         seen = run(KEY, option)
         tally.check(option, word in seen.out and (seen.err, seen.status) == ('', 0), seen)
