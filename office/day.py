@@ -30,8 +30,8 @@ def module_of(name: str) -> 'Any':
 def command_parser(name: str) -> Parser:
     """What a command takes."""
     module = module_of(name)
-    parser = Parser(prog=f'./desk {name}', description=f'It {module.HELP}.\n\n{module.MORE}', epilog=STATUS,
-                    formatter_class=Layout)
+    description = f'{module.HELP[0].upper()}{module.HELP[1:]}.\n\n{module.MORE}'
+    parser = Parser(prog=f'./desk {name}', description=description, epilog=STATUS, formatter_class=Layout)
     module.arguments(parser)
     return parser
 
@@ -51,17 +51,22 @@ def main(arguments: list[str]) -> None:
     if name == '--version':
         from office.version import told  # which knows the library
         write_out(f'desk {told()}\n'.encode())
-    elif name in ASKS_HELP and rest[:1] and rest[0] in COMMANDS:
-        command_parser(rest[0]).print_help()
-    elif name in ASKS_HELP:
+    elif name in ASKS_HELP and (not rest or rest[0] in ASKS_HELP):
         whole_parser().print_help()
+    elif name in ASKS_HELP and rest[0] in COMMANDS:
+        command_parser(rest[0]).print_help()
     elif name in COMMANDS:
         run(name, command_parser(name).asked(rest))
     else:
-        what = 'option' if name.startswith('-') else 'command'
-        meant = nearest(name, [*COMMANDS, '--version', '--help'])
-        raise Fault(f'there is no {what} {printable(name)}{f": did you mean {meant}?" if meant else ""}; '
-                    './desk --help says how to ask')
+        raise unknown(rest[0] if name in ASKS_HELP else name)
+
+
+def unknown(name: str) -> Fault:
+    """That there is no such command, and which may be meant."""
+    what = 'option' if name.startswith('-') else 'command'
+    meant = nearest(name, [*COMMANDS, '--version', '--help'])
+    return Fault(f'there is no {what} {printable(name)}{f": did you mean {meant}?" if meant else ""}; '
+                 './desk --help says how to ask')
 
 
 def run(name: str, asked: argparse.Namespace) -> None:

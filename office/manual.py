@@ -3,7 +3,7 @@ import argparse
 import os
 
 from office.command import Fault, Parser, printable, write_out, write_over
-from office.day import ABOUT, COMMANDS, STATUS, VERSION_HELP, command_parser, module_of
+from office.day import ABOUT, COMMANDS, STATUS, VERSION_HELP, command_parser, module_of, unknown
 from office.version import version
 
 HELP = 'writes pages for man, from the texts of the help'
@@ -72,7 +72,7 @@ def pages() -> dict[str, bytes]:
 
 def main(asked: argparse.Namespace) -> None:
     if asked.command is not None and asked.command not in COMMANDS:
-        raise Fault(f'there is no command {printable(asked.command)}')
+        raise unknown(asked.command)
     if asked.into is None:
         write_out(whole_page() if asked.command is None else command_page(asked.command))
         return

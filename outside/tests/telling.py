@@ -95,11 +95,15 @@ def usage(tally: Tally) -> None:
     seen = run(DESK, '--help')
     tally.check('--help', told(seen, *COMMANDS, 'Status: 0 done, 1 refused, 2'), seen)
     for name in COMMANDS:
-        tally.check(f'{name} --help', told(run(DESK, name, '--help'), f'usage: ./desk {name} ', 'Status: 0'), name)
+        shown = run(DESK, name, '--help')
+        tally.check(f'{name} --help', told(shown, f'usage: ./desk {name} ', 'Status: 0'), name)
+        tally.check(f'{name} --help: what it does', re.search(rb'\n\n[A-Z][a-z]+s ', shown.out) is not None, shown)
     for asked in [[], ['help'], ['-h']]:
         tally.check(f'the help by {asked}', run(DESK, *asked) == seen, asked)
     tally.check('help of a command', run(DESK, 'help', 'mark') == run(DESK, 'mark', '--help'))
     for name, asked, word in [
+            ('help of no command', ['help', 'chek'], 'no command chek: did you mean check?'),
+            ('the page of no command', ['manual', 'marks'], 'no command marks: did you mean mark?'),
             ('no command', ['chek'], 'no command chek: did you mean check?'), ('nothing near', ['xyz'], 'command xyz;'),
             ('no option of all', ['--bogus'], 'no option --bogus;'), ('no option', ['key', '--b'], 'no option --b;'),
             ('an option in part', ['key', '--word', 'x'], 'no option --word: did you mean --words?'),
@@ -122,7 +126,6 @@ def manual(tally: Tally, folder: pathlib.Path) -> None:
     pages = sorted(path.name for path in (folder / 'man1').iterdir())
     tally.check('a page each', pages == sorted(['desk.1', *(f'desk-{name}.1' for name in COMMANDS)]), (seen, pages))
     tally.check('one alone', run(DESK, 'manual', 'mark').out == (folder / 'man1' / 'desk-mark.1').read_bytes())
-    tally.check('no such command', run(DESK, 'manual', 'marks').failed('there is no command marks'))
     other = folder / 'man1' / 'desk.1'
     other.write_text('a letter')
     seen = run(DESK, 'manual', '--into', folder / 'man1')
