@@ -9,7 +9,7 @@ from office.frames import DO, placement_text
 from office.library import Desk, Nest, refusal_of
 from office.refusal import Refusal, Refused
 from office.taken import decimal_in, is_listing
-from office.words import RULES, counted, gaps_named, joined
+from office.words import RULES, counted, gaps_named, spoken
 
 TYPE_CHECKING = False
 if TYPE_CHECKING:
@@ -63,8 +63,8 @@ def blocked_cause(desk: Desk) -> str:
     for number in range(len(desk.nest.dependences)):
         gaps = desk.gaps(number)
         if barred.issuperset(gaps):
-            return (f'dependence {number} has only barred gaps, {joined([*map(str, gaps)])}: no placement cuts it, so '
-                    'there is no key')
+            barred_gaps = f'{spoken("gap", gaps)} alone, which {"is" if len(gaps) == 1 else "are"} barred'
+            return f'dependence {number} has {barred_gaps}: no placement cuts it, so there is no key'
     return ''
 
 
@@ -134,12 +134,12 @@ def placement_asked(argument: str, desk: Desk) -> bytes:
             there = gaps_told(len(desk.nest.points), texts=False)
             raise Fault(f'a number of more than {LONG} digits is no gap: {there}')
         return placement_of([*map(int, words)], desk)
-    if re.match('[0-9]', argument) and not os.path.lexists(argument):
+    if re.match('-?[0-9]', argument) and not os.path.lexists(argument):
         raise Fault(f'{printable(argument)} is no file, and no list of gaps: they are decimal, with commas between')
     text = read_in(argument)
     gaps = decimal_in(text)
     if gaps:
-        text = placement_of(gaps, desk)
+        text = placement_of(gaps, desk, f'{printable(argument)}: ')
         tell('desk', f'{printable(argument)} has numbers in decimal: it is taken as {gaps_named(sorted({*gaps}))}')
         return text
     try:
@@ -149,17 +149,17 @@ def placement_asked(argument: str, desk: Desk) -> bytes:
     return text
 
 
-def placement_of(gaps: list[int], desk: Desk) -> bytes:
-    """The placement text of gaps in decimal, in any order."""
+def placement_of(gaps: list[int], desk: Desk, where: str = '') -> bytes:
+    """The placement text of gaps in decimal, in any order; what is wrong with them is told with where they stand."""
     points = len(desk.nest.points)
     for gap in gaps:
         if gap not in range(1, points):
             from office.causes import no_gap
-            raise Fault(no_gap(gap, points, texts=False))
+            raise Fault(where + no_gap(gap, points, texts=False))
     text = placement_text(sorted({*gaps}))
     refusal = refusal_of(desk.candidate_slip, text)
     if refusal is not None:
-        raise Fault(answer_cause(refusal, text, desk))
+        raise Fault(where + answer_cause(refusal, text, desk))
     return text
 
 

@@ -13,7 +13,7 @@ from office.colours import SERVED, in_light
 from office.frames import ENDDO, STATEMENT
 from office.paper import Dependence, Paper, Placed
 from office.sight import LEFT, STRIP, WHOLE, WIDE_ROOM, Bar, Drawn, Layout, View
-from office.words import ranges
+from office.words import in_number, ranges
 
 # The width of a letter, and of the count at the end of a row.
 LETTER, COUNT = 7.6, 56
@@ -49,8 +49,8 @@ class Picture(Layout):
         self.bar_sign = BAR_SIGN if known else PLAIN_SIGN
         self.out: list[str] = []
         parts = [name, *[f'loop {view.loop}'] * (view.loop is not None),
-                 *[f'dependences {ranges(sorted(only or []))}'] * (only is not None)]
-        self.title = f'{", ".join(parts)}, barriers {ranges(placed.gaps) or "none"}'
+                 *[f'{in_number("dependence", only or [])} {ranges(sorted(only or []))}'] * (only is not None)]
+        self.title = f'{", ".join(parts)}, {in_number("barrier", placed.gaps)} {ranges(placed.gaps) or "none"}'
         tally = TALLY * (self.drawn is Drawn.STRIPS)
         self.width = max(self.nest_width + tally + self.lanes_width, NARROWEST)
         self.ends: dict[tuple[int, int], list[Bar]] = {}

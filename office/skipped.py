@@ -1,7 +1,7 @@
 """Loops that may not run, in words: which need a barrier for their missing run, and what a placement leaves uncut
 without them. The loops come from Missing runs and from Relied on."""
 from office.library import Desk
-from office.words import joined, spoken
+from office.words import in_number, spoken
 
 
 def missing_told(missing: list[int]) -> list[str]:
@@ -33,6 +33,6 @@ def skipped_told(relied: dict[int, list[int]], name: str) -> list[str]:
     for skipped, numbers in uncut.items():
         not_run = f'{spoken("loop", list(skipped))} {"does" if len(skipped) == 1 else "do"} not run'
         told.append(f'Where {not_run}, {name} {"leave" if name.startswith("gaps") else "leaves"} '
-                    f'{joined([f"dependence {number}" for number in numbers])} uncut: a barrier has to be called in '
-                    'place of the missing run.')
+                    f'{spoken("dependence", numbers)} uncut: a barrier has to be called in place of the missing '
+                    f'{in_number("run", skipped)}.')
     return told

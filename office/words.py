@@ -1,5 +1,5 @@
 """Words for the desk's numbers and verdicts. These tables stand once; every command takes its words from them."""
-from collections.abc import Sequence
+from collections.abc import Collection, Sequence
 
 from office.header import DECLARED
 
@@ -74,9 +74,14 @@ def ranges(numbers: list[int]) -> str:
     return ', '.join(in_turn(numbers))
 
 
+def in_number(one: str, numbers: Collection[int]) -> str:
+    """A word for things by their numbers: barrier; barriers, also where there is none."""
+    return one if len(numbers) == 1 else f'{one}s'
+
+
 def spoken(one: str, numbers: list[int]) -> str:
     """Things by their rising numbers in a sentence: gap 6; gaps 8 and 9; loops 1, 4 to 7 and 9."""
-    return f'{one}{"s" if len(numbers) > 1 else ""} {joined(in_turn(numbers))}'
+    return f'{in_number(one, numbers)} {joined(in_turn(numbers))}'
 
 
 def stretches(gaps: list[int]) -> str:

@@ -82,7 +82,8 @@ PAPERS = [
     (b'01\n03\n02\n1303\n', 8, 'gap 3 is none of this paper: its gaps are 1 and 2, in texts 01 and 02'),
     (b'01\n02\n1300\n', 8, 'gap 0 is none of this paper: its only gap is 1, in texts 01'),
     (TWO + b'1301\n', 14, 'only a paper of one loop has barred gaps, and this one has 2 loops'),
-    (b'01\n03\n03\n02\n110102\n1302\n', 15, 'dependence 0 has only barred gaps, 2: no placement cuts it')]
+    (b'01\n03\n03\n02\n110102\n1302\n', 15, 'dependence 0 has gap 2 alone, which is barred: no placement cuts it'),
+    (b'01\n03\n03\n02\n110103\n1302\n1303\n', 15, 'dependence 0 has gaps 2 and 3 alone, which are barred')]
 # Answers to P that are refused: the text, number and line, and the words of the cause with its cure.
 GAPS_OF_P = 'its gaps are 1 to 13, in texts 01 to 0d'
 ANSWERS = [
@@ -254,9 +255,12 @@ def papers_as_listings(tally: Tally, folder: pathlib.Path) -> None:
     seen, plain = run(DESK, 'why', P, decimal), run(DESK, 'why', P, '5,11')
     told = f'desk: {decimal} has numbers in decimal: it is taken as gaps 5, 11\n'
     tally.check('gaps in decimal in a file', seen == Seen(plain.out, told, 0), seen)
+    decimal.write_bytes(b'5 14\n')
+    told = said(day.main, ['why', str(P), str(decimal)])[1]
+    tally.check('a gap of a file that is none', told == f'{decimal}: gap 14 is none of this paper: its gaps are 1 to 13')
     for gaps, words in [('14', 'gap 14 is none of this paper: its gaps are 1 to 13'), ('0', 'gap 0 is none'),
                         ('5;11', '5;11 is no file, and no list of gaps: they are decimal, with commas between'),
-                        ('0b', '0b is no file, and no list of gaps')]:
+                        ('0b', '0b is no file, and no list of gaps'), ('-1', '-1 is no file, and no list of gaps')]:
         tally.check(f'gaps {gaps}', words in said(day.main, ['why', str(P), gaps])[1], gaps)
     status, told = said(day.main, ['why', str(ROOT / 'examples' / 'foundation.hex'), '1,3'])
     tally.check('a barred gap', (status, told) == ('2', 'gap 1 is barred: no barrier may stand there'), told)

@@ -56,7 +56,7 @@ def drawn(tally: Tally, folder: pathlib.Path) -> None:
     with open(strange, 'wb') as opened:
         opened.write(EXAMPLES['q'])
     seen = run(DRAW, os.fsdecode(strange), '4')
-    tally.check('a strange name', words_of(texts_of(seen), 'title') == ['?<&, barriers 4'] and seen.status == 0, seen)
+    tally.check('a strange name', words_of(texts_of(seen), 'title') == ['?<&, barrier 4'] and seen.status == 0, seen)
     for option, word in [('--help', b'usage: ./draw '), ('--version', f'draw {VERSION}, commit '.encode())]:
         seen = run(DRAW, option)
         tally.check(option, seen.status == 0 and word in seen.out, seen)
@@ -78,7 +78,7 @@ def barred(tally: Tally, folder: pathlib.Path) -> None:
     blocked, answer = folder / 'blocked.hex', folder / 'answer.hex'
     blocked.write_bytes(b'01\n03\n02\n110001\n1301\n')
     seen = run(DRAW, blocked)
-    tally.check('no key to draw', seen.out == b'' and 'only barred gaps' in seen.err and seen.status == 1, seen)
+    tally.check('no key to draw', seen.out == b'' and 'alone, which is barred' in seen.err and seen.status == 1, seen)
     seen = run(DRAW, blocked, '2')
     tally.check('a blocked paper', 'barred 1; UNCUT' in ' '.join(words_of(texts_of(seen))) and seen.status == 0, seen)
     seen = run(DRAW, paper, '2,3,4,5,1')
@@ -132,7 +132,7 @@ def views(tally: Tally, folder: pathlib.Path) -> None:
     seen = run(DRAW, paper, '5', '--only', '5, 1')
     numbers = words_of(texts_of(seen), 'n')
     tally.check('some dependences', sorted(numbers) == ['1'] * 3 + ['5'] * 3 and words_of(texts_of(seen), 'title') == [
-        'p, dependences 1, 5, barriers 5'], seen)
+        'p, dependences 1, 5, barrier 5'], seen)
     seen = run(DRAW, large, '', '--loop', '113')
     tally.check('a loop of a full-size paper', seen.status == 0 and len(seen.out) < 60_000, len(seen.out))
     for name, word, *asked in [
