@@ -3,7 +3,7 @@ import argparse
 import os
 
 from office.asked import PAPER_HELP, paper_in, refused_paper
-from office.command import Fault, done, files_in, printable, tell, write_json, write_out
+from office.command import REFUSED, Fault, done, files_in, printable, tell, write_json, write_out
 from office.frames import DO
 from office.library import Desk
 from office.paper import Paper, paper_on
@@ -18,6 +18,7 @@ texts and listings in it, the files *.hex and *.txt. That a paper is hard for pe
   ./desk check paper.hex
   ./desk check papers
 """
+FIELDS = ('points', 'loops', 'deep', 'dependences', 'barred', 'may_not_run', 'blank', 'advice', 'missing_runs')
 # Gaps of its own and dependences at home in one loop: what a person can look over.
 GAPS, DEPENDENCES = 25, 40
 
@@ -84,8 +85,8 @@ class Checked:
         """The same for programs."""
         refused = None if self.fault is None else {
             'number': self.fault.number, 'line': self.fault.line, 'words': str(self.fault).splitlines()}
-        return {'paper': self.file, 'accepted': bool(self.has), 'has_key': self.fault is None, **self.has,
-                'refused': refused}
+        return {'paper': self.file, 'accepted': bool(self.has), 'has_key': self.fault is None,
+                **{field: self.has.get(field) for field in FIELDS}, 'refused': refused}
 
 
 def main(asked: argparse.Namespace) -> None:
@@ -101,7 +102,7 @@ def main(asked: argparse.Namespace) -> None:
             tell('desk', str(one.fault))
         done(f'{len(checked):,} of {counted(len(files), "paper")} checked')
     if asked.json:
-        write_json([one.told for one in checked])
+        write_json([one.told for one in checked if one.fault is None or one.fault.status == REFUSED])
     faults = [one.fault for one in checked if one.fault is not None]
     if faults:
         worst = max(fault.status for fault in faults)

@@ -24,6 +24,8 @@ def arguments(parser: argparse.ArgumentParser) -> None:
 def main(asked: argparse.Namespace) -> None:
     if not 0 <= asked.budget < MOST:
         raise Fault(f'a budget is a number of tries from 0: {asked.budget}')
+    if asked.text and asked.json:
+        raise Fault('--text writes the placement text alone: --json has no place beside it')
     desk, _ = planned(asked.paper)
     found = turned(desk, asked.turns, lambda desk, turns: Desk.improve(desk, turns, asked.budget),
                    lambda desk, turns: Desk.improve(desk, turns, 0))

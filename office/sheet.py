@@ -42,7 +42,8 @@ def sheet_in(text: bytes, file: str) -> tuple[int, int, list[int], list[int]]:
             if phases and words and len(words) != len(phases[0]):
                 raise Fault(f'it has {len(words)} processors where the first phase has {len(phases[0])}', REFUSED)
         except Fault as fault:
-            raise Fault(f'{printable(file)}: line {number} of the sheet is refused: {fault}', REFUSED) from fault
+            raise Fault(f'{printable(file)}: line {number} of the sheet is refused: {fault}', REFUSED, None,
+                        number) from fault
         phases += [phase] if words else []
     cells = [cell for phase in phases for cell in phase]
     many = len(phases[0]) if phases else 0

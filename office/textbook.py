@@ -20,6 +20,8 @@ def arguments(parser: argparse.ArgumentParser) -> None:
 
 
 def main(asked: argparse.Namespace) -> None:
+    if asked.words and asked.json:
+        raise Fault('--words is for people and --json for programs: give one of them')
     if (asked.words or asked.json) and asked.output is not None:
         raise Fault(f'-o writes the placement text: --{"words" if asked.words else "json"} has no place beside it')
     desk, text = loaded(asked.paper)

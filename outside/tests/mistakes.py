@@ -446,6 +446,17 @@ def as_json(tally: Tally, folder: pathlib.Path) -> None:
         held = (refused['number'], refused['line']) == (7, 5)
         told = f'did you mean {words[asked[1] == listing]}' in ''.join(refused['words'])
         tally.check(f'{asked} refused, as JSON', held and told and seen.status == 1 and 'number 7' in seen.err, seen)
+        fields = documented['check'] if asked[0] == 'check' else ['refused']
+        tally.check(f'{asked} refused: its fields', [*(value[0] if asked[0] == 'check' else value)] == fields, value)
+    seen = run(DESK, 'check', folder / 'none.hex', P, '--json')
+    papers = [one['paper'] for one in json.loads(seen.out)]
+    tally.check('what is not read is no part of it', (papers, seen.status) == ([str(P)], 2), seen)
+    sheet.write_bytes(b'5 3\n4:0\n')
+    refused = json.loads(run(DESK, 'sheet', sheet, '--json').out)['refused']
+    tally.check('the line of a sheet', (refused['number'], refused['line']) == (None, 2), refused)
+    for asked in (['key', P, '--words'], ['textbook', R, '--words'], ['improve', Q, '1', '--text']):
+        seen = run(DESK, *asked, '--json')
+        tally.check(f'{asked}: not beside JSON', seen.out == b'' and asked[-1] in seen.err and seen.status == 2, seen)
 
 
 def skipping(tally: Tally, folder: pathlib.Path) -> None:
