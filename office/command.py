@@ -126,6 +126,7 @@ def mention(message: str) -> None:
 def write_out(data: bytes) -> None:
     """Writes all of the data to standard output. A reader who leaves ends the command, as with other programs."""
     signal.signal(signal.SIGPIPE, signal.SIG_DFL)
+    done('standard output was written in part, or not at all')  # whoever stops a write is not told how far it went
     try:
         while data:
             data = data[os.write(1, data):]

@@ -18,6 +18,7 @@ from office.refusal import Refusal
 from office.register import Register, to_write
 from office.rows import FIRST, as_csv, first_cells
 from office.slip_files import Slips, slips_of
+from office.taken import SAVED, is_utf16
 from office.words import ABSENT, UNREAD, VERDICTS, counted
 from office.words import REFUSED as REFUSED_WORD
 
@@ -72,9 +73,9 @@ class Marking:
             elif self.slips is not None and answer.text is not None:
                 self.hand_out(self.slips, answer, answer.text)
             self.done.append(answer)
-        if self.register is None:
-            slips = '' if self.slips is None else ', with their slips'
-            done(f'{counted(len(self.done), "answer")} marked{slips}; no row was written')
+            if self.register is None:
+                slips = '' if self.slips is None else ', with their slips'
+                done(f'{counted(len(self.done), "answer")} marked{slips}; no row was written')
 
     def kept(self, answers: list[Answer]) -> list[tuple[Answer, str]]:
         """Answers, each with why the register did not take it, or nothing."""
@@ -126,14 +127,24 @@ def listed_in(file: str, paper: str) -> dict[str, Candidate]:
     return {folded(one.identity): one for one in candidates_in(file) if one.paper in ('', paper)}
 
 
+def named_in(file: str) -> list[str]:
+    """The files that a list names, a line each."""
+    text = read_in(file)
+    if is_utf16(text):
+        raise Fault(f'{printable(file)}: {SAVED}')
+    named = [line for line in text.decode('utf-8-sig', 'surrogateescape').splitlines() if line.strip()]
+    if not named:
+        raise Fault(f'{printable(file)} names no answer')
+    return named
+
+
 def answers_in(places: list[str]) -> list[str]:
     """The files of answers: themselves, those in a folder, those that a list names, a line each. A folder that is
     called as an answer came by a pattern, and is none."""
     files: list[str] = []
     for place in places:
         if place.startswith('@'):
-            named = read_in(place[1:]).decode('utf-8', 'surrogateescape').splitlines()
-            files += answers_in([f'./{line}' if line.startswith('@') else line for line in named if line.strip()])
+            files += answers_in([f'./{line}' if line.startswith('@') else line for line in named_in(place[1:])])
         else:
             files += files_in(place) if os.path.isdir(place) and not place.endswith('.hex') else [place]
     return files

@@ -7,6 +7,7 @@ import os
 import pathlib
 import random
 import re
+import select
 import signal
 import subprocess
 import sys
@@ -390,6 +391,12 @@ def batches(tally: Tally, folder: pathlib.Path) -> None:
     names.write_text(f'{answers}/bert.hex\n\n{answers}/anna.hex\n')
     tally.check('answers by a list', run(DESK, 'mark', P, f'@{names}') == one_by_one)
     tally.check('by standard input', run(DESK, 'mark', P, '@-', given=names.read_bytes()) == one_by_one)
+    names.write_bytes(f'\ufeff{answers}/bert.hex\r\n{answers}/anna.hex\r\n'.encode())
+    tally.check('a list with a byte order mark', run(DESK, 'mark', P, f'@{names}') == one_by_one)
+    for text, words in ((b'\n', 'names no answer'), (f'{answers}/anna.hex\n'.encode('utf-16'), 'the file is UTF-16')):
+        names.write_bytes(text)
+        seen = run(DESK, 'mark', P, f'@{names}')
+        tally.check(f'a list of {text[:8]!r}', seen.failed(words) and str(names) in seen.err, seen)
     names.write_text(f'{answers}/nobody.hex\n')
     tally.check('a list with a mistake', 'there is no file' in said(day.main, ['mark', str(P), f'@{names}'])[1])
 
@@ -530,6 +537,22 @@ def at_once(tally: Tally, folder: pathlib.Path) -> None:
         desk.send_signal(signal.SIGINT)
         _, err = desk.communicate(timeout=60)
         tally.check(f'Ctrl-C after {wait} s', b'Traceback' not in err or b'office' not in err, err)
+    many, slips = folder / 'many', folder / 'many slips'
+    many.mkdir()
+    for number in range(1000):
+        (many / f'{number}.hex').write_bytes(b'2105\n')
+    desk = begun('mark', P, many)
+    select.select([desk.stdout], [], [])  # which has no room for all the rows
+    desk.send_signal(signal.SIGINT)
+    rows, err = desk.communicate(timeout=300)
+    held = rows and (err, desk.returncode) == (b'desk: ended: standard output was written in part, or not at all\n', 130)
+    tally.check('Ctrl-C while rows are written', held, err)
+    desk = begun('mark', P, many, '--slips', slips)
+    while len([*slips.glob('examiner/*.hex')]) < 3 and desk.poll() is None:
+        time.sleep(0.01)
+    desk.send_signal(signal.SIGINT)
+    _, err = desk.communicate(timeout=300)
+    tally.check('Ctrl-C while slips are written', b'nothing was written' not in err and desk.returncode == 130, err)
     pipe = folder / 'pipe'
     os.mkfifo(pipe)
     for asked, told in ((['check', pipe], b'nothing was written'), (['check', P, pipe], b'1 of 2 papers checked')):
