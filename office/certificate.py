@@ -65,7 +65,8 @@ def best_of(register: Register, candidate: str, paper: str | None) -> Mark:
     told = ', '.join(f'{names[mark.seq]} ({mark.paper[:SHORTEST]}): {verdict(mark)}' for mark in marks)
     if best:
         raise Fault(f'{printable(candidate)} has several marks, and --paper says which: {told}')
-    why = f'it is {told}' if marks else 'there is no mark of this candidate, or none on this paper'
+    where = f' on paper {printable(paper)}' if paper is not None and names else ''
+    why = f'it is {told}' if marks else f'there is no mark of this candidate{where}'
     raise Fault(f'there is no certificate for {printable(candidate)}: {why}', REFUSED)
 
 

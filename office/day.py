@@ -27,11 +27,16 @@ def module_of(name: str) -> 'Any':
     return importlib.import_module(f'office.{COMMANDS[name]}')
 
 
+def about(does: str, more: str) -> str:
+    """How the help of a command begins."""
+    return f'{does[0].upper()}{does[1:]}.\n\n{more}'
+
+
 def command_parser(name: str) -> Parser:
     """What a command takes."""
     module = module_of(name)
-    description = f'{module.HELP[0].upper()}{module.HELP[1:]}.\n\n{module.MORE}'
-    parser = Parser(prog=f'./desk {name}', description=description, epilog=STATUS, formatter_class=Layout)
+    parser = Parser(prog=f'./desk {name}', description=about(module.HELP, module.MORE), epilog=STATUS,
+                    formatter_class=Layout)
     module.arguments(parser)
     return parser
 

@@ -4,12 +4,14 @@ import re
 
 from office.asked import GAPS_HELP, PAPER_HELP, loaded, placement_asked, planned
 from office.command import Fault, Parser, printable, title_of, write_out, write_over
+from office.day import about
 from office.names import named_paper
 from office.paper import Paper, placed
 from office.picture import Picture
 from office.result import OUT_HELP
 from office.sight import View
 from office.version import Told
+from office.words import joined, ranges
 
 HELP = 'draws a paper as SVG, with the barriers of its key or with those that are named'
 MORE = """  ./desk draw paper.hex -o paper.svg               the barriers of the key
@@ -32,7 +34,7 @@ def view_asked(paper: Paper, asked: argparse.Namespace) -> View:
             raise Fault('--unfold goes with --loop: the whole paper has no loop folded')
         return View()
     if asked.loop not in map(str, paper.end):
-        raise Fault(f'no DO of this paper, which has {", ".join(map(str, paper.end))}: {printable(asked.loop)}')
+        raise Fault(f'{printable(asked.loop)} is no DO of this paper, which has {joined([*map(str, paper.end)])}')
     return View(int(asked.loop), asked.unfold)
 
 
@@ -42,9 +44,11 @@ def only_asked(paper: Paper, view: View, argument: str | None) -> set[int] | Non
         return None
     named = [word for word in re.split('[, ]+', argument) if word]
     there = {str(number): number for number in range(len(paper.dependences))}
-    if not named or not there.keys() >= set(named):
-        has = f'0 to {len(there) - 1}' if there else 'none'
-        raise Fault(f'no dependences of this paper, which has {has}: {printable(argument)}')
+    wrong = [word for word in named if word not in there]
+    if wrong or not named:
+        has = ranges([*there.values()]) or 'none'
+        what = f'{printable(wrong[0])} is' if wrong else '--only names'
+        raise Fault(f'{what} no dependence of this paper, which has {has}')
     chosen = {there[word] for word in named}
     away = [number for number in sorted(chosen) if view.loop is not None and paper.home[number] != view.loop]
     if away:
@@ -81,7 +85,7 @@ def main(asked: argparse.Namespace) -> None:
 
 def alone(given: list[str]) -> None:
     """The command under its own name."""
-    parser = Parser(prog='./draw', description=f'It {HELP}.\n\n{MORE.replace("./desk draw", "./draw")}',
+    parser = Parser(prog='./draw', description=about(HELP, MORE.replace('./desk draw', './draw')),
                     formatter_class=argparse.RawDescriptionHelpFormatter)
     parser.add_argument('--version', action=Told, name='draw')
     arguments(parser)

@@ -111,7 +111,7 @@ def telling(register: Register | None, many: int) -> Iterator[None]:
     except (KeyboardInterrupt, Fault) as fault:
         if register is None:
             raise
-        kept = f'{counted(register.kept, "mark")} of {many:,} answers kept; the same command goes on'
+        kept = f'{counted(register.kept, "mark")} of {counted(many, "answer")} kept; the same command goes on'
         if isinstance(fault, KeyboardInterrupt):
             raise Fault(f'ended: {kept}', INTERRUPTED) from fault
         raise Fault(f'{fault}\n{kept}', fault.status) from fault

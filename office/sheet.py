@@ -10,7 +10,7 @@ from office.command import REFUSED, Fault, printable, read_in, write_json, write
 from office.header import DECLARED
 from office.library import refusal_of, run_ends
 from office.refusal import Refused
-from office.words import RULES
+from office.words import RULES, counted, spoken
 
 HELP = 'tells when the run of a timing sheet ends, with its waits and with all barriers kept'
 MORE = """a sheet, a line for each phase, a cell for each processor from 0 on; # begins a remark:
@@ -40,7 +40,8 @@ def sheet_in(text: bytes, file: str) -> tuple[int, int, list[int], list[int]]:
         try:
             phase = [cell_in(word, not phases) for word in words]
             if phases and words and len(words) != len(phases[0]):
-                raise Fault(f'it has {len(words)} processors where the first phase has {len(phases[0])}', REFUSED)
+                many = counted(len(words), 'processor')
+                raise Fault(f'it has {many} where the first phase has {len(phases[0])}', REFUSED)
         except Fault as fault:
             raise Fault(f'{printable(file)}: line {number} of the sheet is refused: {fault}', REFUSED, None,
                         number) from fault
@@ -70,8 +71,8 @@ def waits_cause(processors: int, phases: int, durations: list[int], waits: list[
             phase, k = at // processors + 2, at % processors
             if said(some | alone[at]):
                 return f'processor {k} does not wait for itself in phase {phase}: name it among those it waits for'
-            return (f'in phase {phase} processor {k} waits for one that the sheet does not have: it has 0 to '
-                    f'{processors - 1}')
+            there = spoken('processor', [*range(processors)])
+            return f'in phase {phase} processor {k} waits for one that the sheet does not have: it has {there}'
     return RULES[20]
 
 

@@ -97,7 +97,7 @@ def told(event: Event, sitting: Sitting) -> str:
     if event.act in (ENTER, LEAVE):
         return f'{"enters" if event.act == ENTER else "leaves"}{at}'
     there = sitting.desk.standing()
-    now = f'{told_gaps(there.gaps)}, {there.uncut} of {len(there.cuts)} dependences uncut'
+    now = f'{told_gaps(there.gaps)}, {there.uncut} of {counted(len(there.cuts), "dependence")} uncut'
     if MOVE.fullmatch(event.act):
         return f'{event.act}{at}: {now}'
     return f'hands in{at}: {now}; receipt {receipt_of(event)}'

@@ -3,6 +3,7 @@ import html
 
 from office.printed import document
 from office.sittings import Sitting
+from office.words import counted
 
 KIND = 'tickets'
 STYLE = """
@@ -18,7 +19,7 @@ WHAT = ('Open the address in a browser and type the ticket; capitals, spaces and
 
 def minutes_told(sitting: Sitting) -> str:
     minutes = sitting.minutes or sitting.allowed.minutes
-    return f' You have {minutes} minutes from when you enter.' if minutes else ''
+    return f' You have {counted(minutes, "minute")} from when you enter.' if minutes else ''
 
 
 def slip(address: str, sitting: Sitting, ticket: str) -> str:

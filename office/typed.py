@@ -20,7 +20,7 @@ class Line:
         """The line made printable, and cut where it is long."""
         shown = repr(self.typed[:QUOTED])[2:-1].replace('"', '\\"')
         more = len(self.typed) - QUOTED
-        return f'"{shown}"' if more <= 0 else f'"{shown}..." and {more} bytes more'
+        return f'"{shown}"' if more <= 0 else f'"{shown}..." and {counted(more, "byte")} more'
 
     def slips(self) -> list[str]:
         """What a person who types digits by hand gets wrong, each with what to do."""

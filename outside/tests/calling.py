@@ -128,7 +128,8 @@ def sheets(tally: Tally) -> None:
     tally.check('one phase', run(DESK, 'sheet', '-', given=b'65535') == Seen(told, '', 0))
     for text, word in [(b'', 'number 19'), (b'1 ' * 17, 'number 19'), (b'1\n' + b'1:0\n' * 64, 'number 19'),
                        (b'1 1\n1:0 1:0\n', 'number 20'), (b'1 1\n1:0 1:1,2\n', 'number 20'),
-                       (b'1 1\n1:0\n', 'line 2 of the sheet is refused: it has 1'), (b'1:0\n', 'line 1'),
+                       (b'1 1\n1:0\n', 'line 2 of the sheet is refused: it has 1 processor where'),
+                       (b'1:0\n', 'line 1'),
                        (b'1\n1\n', 'line 2'), (b'65536\n', 'line 1'), (b'1\n1:16\n', 'line 2'), (b'x\n', 'line 1')]:
         seen = run(DESK, 'sheet', '-', given=text)
         tally.check(f'the sheet {text[:20]!r}', word in seen.err and (seen.out, seen.status) == (b'', 1), seen)

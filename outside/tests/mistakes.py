@@ -299,7 +299,9 @@ def others(tally: Tally, folder: pathlib.Path) -> None:
             (b'1 1\n1:0 1:1\n1:0 1:0\n', 'number 20: processor 1 does not wait for itself in phase 3: name it '
              'among those it waits for'),
             (b'1 1\n1:0 1:1,2\n', 'number 20: in phase 2 processor 1 waits for one that the sheet does not have: it '
-             'has 0 to 1')]:
+             'has processors 0 and 1'),
+            (b'1\n1:0,1\n', 'number 20: in phase 2 processor 0 waits for one that the sheet does not have: it has '
+             'processor 0')]:
         sheet.write_bytes(text)
         status, *told = said(day.main, ['sheet', str(sheet)])
         tally.check(f'the sheet {text[:20]!r}', status == '1' and told[1] == words, told)

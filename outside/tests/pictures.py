@@ -136,10 +136,11 @@ def views(tally: Tally, folder: pathlib.Path) -> None:
     seen = run(DRAW, large, '', '--loop', '113')
     tally.check('a loop of a full-size paper', seen.status == 0 and len(seen.out) < 60_000, len(seen.out))
     for name, word, *asked in [
-            ('no such loop', 'no DO of this paper', '--loop', '2'), ('no number', 'no DO of this paper', '--loop', 'x'),
+            ('no such loop', '2 is no DO of this paper, which has 0, 1 and 7', '--loop', '2'),
+            ('no number', 'x is no DO of this paper', '--loop', 'x'),
             ('unfold alone', '--unfold goes with --loop', '--unfold'),
-            ('no such dependence', 'no dependences of this paper, which has 0 to 5', '--only', '6'),
-            ('no dependence', 'no dependences of this paper', '--only', ''),
+            ('no such dependence', '6 is no dependence of this paper, which has 0 to 5', '--only', '5,6'),
+            ('no dependence', '--only names no dependence of this paper', '--only', ''),
             ('of another loop', 'at home in loop 0, not in loop 1', '--loop', '1', '--only', '5')]:
         seen = run(DRAW, paper, '5', *asked)
         tally.check(name, seen.failed(word), seen)

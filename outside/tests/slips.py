@@ -340,7 +340,9 @@ def no_certificate(tally: Tally, folder: pathlib.Path) -> None:
     for named in ('<i>&q', '<i>&q.hex', hashlib.sha256(EXAMPLES['q']).hexdigest()[:8]):
         seen = run(*ask, '--candidate', 'anna', *OFFICE, '--paper', named)
         tally.check(f'on {named}', b'paper <b><bdi>&lt;i&gt;&amp;q</bdi></b>' in seen.out and seen.status == 0, seen)
-    tally.check('on none', run(*ask, '--candidate', 'anna', *OFFICE, '--paper', 'r').failed('none on this paper', 1))
+    for name, told in (('anna', 'no mark of this candidate on paper r\n'), ('fay', 'no mark of this candidate\n')):
+        seen = run(*ask, '--candidate', name, *OFFICE, '--paper', 'r')
+        tally.check(f'on none, {name}', seen.failed(told, 1), seen)
     answer.write_bytes(text_of([3, 9, 13]))
     run(DESK, 'mark', P, answer, '--register', register, '--replace', 'an appeal')
     seen = run(DESK, 'verify', register, number)
