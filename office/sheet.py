@@ -40,8 +40,8 @@ def sheet_in(text: bytes, file: str) -> tuple[int, int, list[int], list[int]]:
         try:
             phase = [cell_in(word, not phases) for word in words]
             if phases and words and len(words) != len(phases[0]):
-                many = counted(len(words), 'processor')
-                raise Fault(f'it has {many} where the first phase has {len(phases[0])}', REFUSED)
+                there = counted(len(words), 'processor')
+                raise Fault(f'it has {there} where the first phase has {len(phases[0])}', REFUSED)
         except Fault as fault:
             raise Fault(f'{printable(file)}: line {number} of the sheet is refused: {fault}', REFUSED, None,
                         number) from fault
