@@ -232,6 +232,7 @@ def write_over(file: str, data: bytes, lasting: bool = False, begins: bytes = b'
         with contextlib.suppress(OSError):
             os.unlink(beside)
         raise Fault(f'cannot write {printable(file)}: {fault.strerror}') from fault
+    done(f'{printable(file)} was written')
 
 
 def take_away(file: str) -> None:

@@ -2,9 +2,10 @@
 import argparse
 import os
 
-from office.command import Fault, Parser, printable, write_out, write_over
+from office.command import Fault, Parser, done, printable, write_out, write_over
 from office.day import ABOUT, COMMANDS, STATUS, VERSION_HELP, command_parser, module_of, unknown
 from office.version import version
+from office.words import counted
 
 HELP = 'writes pages for man, from the texts of the help'
 MORE = """Without --into the page is written to standard output: of ./desk, or of one command.
@@ -82,5 +83,7 @@ def main(asked: argparse.Namespace) -> None:
         os.makedirs(asked.into, exist_ok=True)
     except OSError as fault:
         raise Fault(f'cannot write in {printable(asked.into)}: {fault.strerror}') from fault
-    for name, page in pages().items():
+    made = pages()
+    for number, (name, page) in enumerate(made.items(), 1):
         write_over(os.path.join(asked.into, f'{name}.1'), page, begins=BEGINS)
+        done(f'{number} of {counted(len(made), "page")} written')

@@ -19,7 +19,7 @@ from collections.abc import Callable
 from office import day
 from office.asked import answer_cause, planned, said_of
 from office.causes import paper_cause
-from office.command import Fault
+from office.command import DONE, Fault
 from office.frames import placement_text, text_of
 from office.keeping import finding_of
 from office.library import Desk
@@ -555,6 +555,11 @@ def at_once(tally: Tally, folder: pathlib.Path) -> None:
     desk.send_signal(signal.SIGINT)
     _, err = desk.communicate(timeout=300)
     tally.check('Ctrl-C while slips are written', b'nothing was written' not in err and desk.returncode == 130, err)
+    pages = len(day.COMMANDS) + 1
+    for asked, told in ((['draw', P, '-o', folder / 'done.svg'], f'{folder / "done.svg"} was written'),
+                        (['manual', '--into', folder / 'man'], f'{pages} of {pages} pages written')):
+        day.main([*map(str, asked)])
+        tally.check(f'Ctrl-C behind {asked[0]}', DONE == [told], DONE)
     pipe = folder / 'pipe'
     os.mkfifo(pipe)
     for asked, told in ((['check', pipe], b'nothing was written'), (['check', P, pipe], b'1 of 2 papers checked')):
