@@ -16,9 +16,9 @@ BEGINNINGS = {b'SQLite format 3\0': 'a register', b'<!DOCTYPE html>': 'a page of
 
 
 def is_utf16(text: bytes) -> bool:
-    """Whether every other byte is a zero, or a mark says so."""
+    """Whether every other byte is a zero, and not all are, or a mark says so."""
     some = text[:64]
-    return text[:2] in MARKS_OF_16 or len(some) > 1 and not (any(some[::2]) and any(some[1::2]))
+    return text[:2] in MARKS_OF_16 or any(some) and len(some) > 1 and not (any(some[::2]) and any(some[1::2]))
 
 
 def is_listing(text: bytes) -> bool:

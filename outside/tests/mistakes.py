@@ -45,7 +45,7 @@ PAPERS = [
     (b'01\n# Points, 02\n', 1, 'it has what are no digits: # , P i n o s t; a line has 0 to 9 and a to f alone'),
     (b'01\r\n02\r\n', 1, 'the line ends in CRLF (0d 0a): save the text with line feeds alone'),
     ('01\n02\n'.encode('utf-16-le'), 1, 'the file is UTF-16: save it as plain text, in UTF-8'),
-    ('\ufeff01\n02\n'.encode('utf-16-be'), 1, 'the file is UTF-16'),
+    ('\ufeff01\n02\n'.encode('utf-16-be'), 1, 'the file is UTF-16'), (bytes(9), 1, 'it has what are no digits: \\x00;'),
     (b'01\n2105\n', 2, 'no line of a paper begins with 21'), (b'01\n02\n1100\n', 2, 'a line 11 s t has 6 digits, and '
                                                                'this one has 4'),
     (b'01\n0103\n', 2, 'a line 01 has 2 digits, and this one has 4'),
