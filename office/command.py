@@ -207,17 +207,23 @@ def begins_with(file: str, begins: bytes) -> bool:
         raise Fault(f'cannot read {printable(file)}: {fault.strerror}') from fault
 
 
-def write_over(file: str, data: bytes, lasting: bool = False, begins: bytes = b'', mode: int = 0o666) -> None:
-    """Writes a file beside, under a name of its own, and renames it over: at every moment the old one or the new one is
-    there, whole. What is lasting is on the disk before it takes the old one's place. A file that does not begin as what
-    is written here is somebody else's, and is left alone."""
-    import secrets  # which takes long to load
+def target_of(file: str, begins: bytes) -> str:
+    """Where a file will stand that is written. One that does not begin as what is written is somebody else's."""
     if file == '-':
         raise Fault('- stands for standard output, and this is written to a file: give it a name')
     target = place_of(file)
     if begins and not begins_with(target, begins):
         raise Fault(f'{printable(file)} is there and is none of the desk\'s files, so it is left alone: '
                     'give another name')
+    return target
+
+
+def write_over(file: str, data: bytes, lasting: bool = False, begins: bytes = b'', mode: int = 0o666) -> None:
+    """Writes a file beside, under a name of its own, and renames it over: at every moment the old one or the new one is
+    there, whole. What is lasting is on the disk before it takes the old one's place. A file that does not begin as what
+    is written here is somebody else's, and is left alone."""
+    import secrets  # which takes long to load
+    target = target_of(file, begins)
     beside = os.path.join(os.path.dirname(target), f'.desk-{secrets.token_hex(8)}.new')
     try:
         with open(beside, 'xb', opener=lambda name, flags: os.open(name, flags, mode)) as opened:

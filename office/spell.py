@@ -3,7 +3,7 @@ import argparse
 import os
 
 from office.asked import is_paper
-from office.command import read_in, write_over
+from office.command import read_in, target_of, write_over
 from office.listing import spelled_with_names
 from office.names import BEGINS, SUFFIX, names_text
 from office.result import hand_over, result_arguments
@@ -33,6 +33,8 @@ def main(asked: argparse.Namespace) -> None:
     text, names = spelled_with_names(read_in(asked.listing), asked.listing)
     beside = None if asked.output in (None, '-') else os.path.splitext(asked.output)[0] + SUFFIX
     place = asked.names or (beside if names else None)
+    if place is not None:
+        target_of(place, BEGINS)  # so that no paper is written where its names cannot be
     if beside is not None:  # names of a paper that is not written would be of nothing
         hand_over(asked, text, 'paper', is_paper)
     if place is not None:

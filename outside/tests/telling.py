@@ -321,6 +321,11 @@ def names(tally: Tally, folder: pathlib.Path) -> None:
     seen = run(DESK, 'show', paper)
     tally.check('of another paper', b'S1' in seen.out and 'is of another paper' in seen.err and seen.status == 0, seen)
     kept = paper.read_bytes()
+    letter = folder / 'letter.hex'
+    letter.with_suffix('.names').write_text('dear Sir\n')
+    for more in ([], ['--names', paper], ['--names', '-']):
+        seen = run(DESK, 'spell', listing, '-o', letter, *more)
+        tally.check(f'no paper without its names, {more}', seen.status == 2 and not letter.exists(), seen)
     seen = run(DESK, 'spell', listing, '--names', paper)
     tally.check('no names over a paper', seen.failed('left alone') and paper.read_bytes() == kept, seen)
 
