@@ -1,3 +1,2 @@
--- The claims of loops, given one after the other.
+-- The claims of a loop, given one after the other.
 pub mod Given
-pub mod Whole

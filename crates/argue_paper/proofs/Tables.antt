@@ -28,7 +28,7 @@ use Rattle.argue_key.proofs.AllClaims.{made-length}
 use Rattle.argue_key.proofs.Plain.{table}
 use Rattle.argue_sets.specs.Numbered.{lineSet}
 use Rattle.argue_spell.specs.Added.{WORD}
-use Rattle.argue_give.specs.Whole.{GiveTables, TableGround, GivenAll}
+use Rattle.argue_loops.specs.Whole.{GiveTables, TableGround, GivenAll}
 use Rattle.argue_paper.specs.Spelled.{Spelled, CostsAre}
 
 -- new lists, filled with one number

@@ -123,7 +123,7 @@ fn give_tables(nest: Nest, costs: &[usize], out: &mut [u8]) -> Sofar
     let mut loops = [0; CLAIMS];
     let mut froms = [0; CLAIMS];
     let mut uptos = [0; CLAIMS];
-    argue_give::give_loops(
+    argue_loops::give_loops(
         nest,
         &points[..n],
         &own,

@@ -12,9 +12,9 @@ use Rattle.argue_texts.specs.ArgumentTexts.{argumentText}
 use Rattle.argue_key.specs.Laps.{Head, loopHeads, headsFrom}
 use Rattle.argue_spell.proofs.Adding.{added-none}
 use Rattle.argue_trace.specs.Traced.{claimsAt}
 use Rattle.argue_give.specs.Given.{bareAll, Gives}
-use Rattle.argue_give.specs.Whole.{TableGround, ListsRoom, GivenAll}
 use Rattle.argue_give.proofs.Giving.{gives-none, gives-then}
+use Rattle.argue_loops.specs.Whole.{TableGround, ListsRoom, GivenAll}
 
 -- the last loop's heads come first
 heads-top : (ps : List ℕ) (T : Tables) (k d : ℕ) (hs : List Head) →

@@ -25,8 +25,8 @@ use Rattle.plan_settle.specs.Settled.{HasHeight}
 use Rattle.plan_settle.proofs.Heights.{height-low, height-high, child-height}
 use Rattle.argue_key.specs.Laps.{lowHeads, sideHeads, loopHeads}
 use Rattle.argue_spell.specs.Added.{WORD}
 use Rattle.argue_give.specs.Given.{GiveRoom, RowRoom, RowGround}
-use Rattle.argue_give.specs.Whole.{GiveTables, TableGround, ListsRoom}
+use Rattle.argue_loops.specs.Whole.{GiveTables, TableGround, ListsRoom}
 
 -- a point that is no DO
 pub point-other : (ps : List ℕ) (T : Tables) (d : ℕ) → (getD ps d 0 ≡ 1 → ⊥) → [] ≡ loopHeads ps T d

@@ -4,11 +4,11 @@ use Prim.Native.Nat.{ℕ, _+_, _*_, _≤_}
 use native.Mathlib.Omega.{arith}
 use Rattle.laws.specs.Entries.{at}
 use Rattle.argue_spell.specs.Added.{WORD}
 use Rattle.argue_give.proofs.Giving.{gives-none, gives-as, gives-under}
-use Rattle.argue_give.proofs.Points.{point-other, low, high, long, short, point-row, point-room, point-idle, point-heads, point-ground, lists-after}
+use Rattle.argue_loops.proofs.Points.{point-other, low, high, long, short, point-row, point-room, point-idle, point-heads, point-ground, lists-after}
 use borrow.Author.Needs.{needs}
-use Rattle.argue_give.proofs.give_point.Statement.{statement}
-use Rattle.argue_give.proofs.give_point.Tie as tie
+use Rattle.argue_loops.proofs.give_point.Statement.{statement}
+use Rattle.argue_loops.proofs.give_point.Tie as tie
 
 -- the call, from behind the first test
 abbrev called : tie.Else1 → tie.Start

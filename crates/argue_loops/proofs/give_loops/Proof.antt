@@ -1,9 +1,9 @@
 -- From the last point to the first, each loop gives its claims (Looping).
 use mathlib.Core.Path.{refl, _∙_}
 use native.Mathlib.Omega.{arith}
-use Rattle.argue_give.proofs.Looping.{Looping, Sizes, loops-begin, loops-on, loops-done}
-use Rattle.argue_give.proofs.give_loops.Statement.{statement}
-use Rattle.argue_give.proofs.give_loops.Tie as tie
+use Rattle.argue_loops.proofs.Looping.{Looping, Sizes, loops-begin, loops-on, loops-done}
+use Rattle.argue_loops.proofs.give_loops.Statement.{statement}
+use Rattle.argue_loops.proofs.give_loops.Tie as tie
 
 abbrev Inv-loop : tie.InvT-loop
 Inv-loop nest points own ends heights left reach numbers costs need₀ sets₀ loops₀ froms₀ uptos₀ out₀ s₀ d₀ need sets loops froms uptos out s d =

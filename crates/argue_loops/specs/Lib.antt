@@ -1,0 +1,2 @@
+-- The claims of all loops, given from the planner's tables.
+pub mod Whole
