@@ -12,7 +12,7 @@ import re
 import unicodedata
 from collections.abc import Collection, Iterator
 
-from office.command import Fault, printable, read_in, write_over
+from office.command import LISTS, Fault, printable, read_in, write_over
 from office.records import dataclass
 
 IDENTITY = re.compile('[A-Za-z0-9][A-Za-z0-9._-]{0,63}')
@@ -59,7 +59,7 @@ def identity_of(called: str, candidates: list[Candidate]) -> str:
 def text_of(file: str) -> str:
     """The text of a list or of tickets, whoever saved it."""
     try:
-        return unicodedata.normalize('NFC', read_in(file).decode('utf-8-sig'))
+        return unicodedata.normalize('NFC', read_in(file, LISTS).decode('utf-8-sig'))
     except UnicodeDecodeError as fault:
         raise Fault(f'{printable(file)} is not UTF-8: save it as CSV UTF-8') from fault
 

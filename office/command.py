@@ -17,8 +17,8 @@ ROOT = os.path.dirname(os.path.dirname(os.path.realpath(__file__)))
 # A clone has its sources, and builds. What a release installs has none, and nothing is written beside it.
 CLONE = os.path.exists(f'{ROOT}/crates.txt')
 REFUSED, FAILED, INTERRUPTED = 1, 2, 130
-# More bytes than any text, listing or sheet has.
-ENOUGH = 1 << 20
+# More bytes than any text, listing or sheet has, and than a list of answers or candidates.
+ENOUGH, LISTS = 1 << 20, 1 << 26
 NUMBER = re.compile(r'-[0-9]+(?:\.[0-9]*)?')
 # Where nothing tells how wide a terminal is.
 WIDE = 80
@@ -143,12 +143,12 @@ def write_json(value: object) -> None:
     write_out((f'[{text}]\n' if isinstance(value, list) else f'{text}\n').encode('utf-8', 'replace'))
 
 
-def read_in(file: str) -> bytes:
+def read_in(file: str, most: int = ENOUGH) -> bytes:
     """The bytes of a file, or of standard input for a dash, which can be read once."""
     if file == '-' and READ:
         raise Fault('- stands for standard input, and can be named once')
     READ.extend([file] * (file == '-'))
-    return read_from(0 if file == '-' else file, file)
+    return read_from(0 if file == '-' else file, file, most)
 
 
 def files_in(folder: str, endings: tuple[str, ...] = ('.hex',)) -> list[str]:
@@ -176,15 +176,16 @@ def read_plain(file: str) -> bytes:
         os.close(opened)
 
 
-def read_from(opened: int | str, file: str) -> bytes:
+def read_from(opened: int | str, file: str, most: int = ENOUGH) -> bytes:
     """The bytes of a file that is open, or that has a name."""
     try:
         with open(opened, 'rb', closefd=isinstance(opened, str)) as source:
-            data = source.read(ENOUGH + 1)
+            data = source.read(most + 1)
     except OSError as fault:
         raise Fault(f'cannot read {printable(file)}: {fault.strerror}') from fault
-    if len(data) > ENOUGH:
-        raise Fault(f'cannot read {printable(file)}: it has more than {ENOUGH:,} bytes, which no text has')
+    if len(data) > most:
+        what = 'text' if most == ENOUGH else 'list'
+        raise Fault(f'cannot read {printable(file)}: it has more than {most:,} bytes, which no {what} has')
     return data
 
 

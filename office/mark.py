@@ -6,8 +6,8 @@ from collections import Counter
 
 from office.asked import BLANK_HELP, PAPER_HELP, answer_cause, planned
 from office.candidates import IDENTITY, IDENTITY_FORM, Candidate, candidates_in, folded
-from office.command import (FAILED, REFUSED, Fault, done, files_in, printable, read_in, read_plain, tell, write_json,
-                            write_out)
+from office.command import (FAILED, LISTS, REFUSED, Fault, done, files_in, printable, read_in, read_plain, tell,
+                            write_json, write_out)
 from office.keeping import EVERY, Answer, Marker, PaperText, finding_of, keep, marker, telling
 from office.library import Desk
 from office.marks import Finding, sha256_of
@@ -129,7 +129,7 @@ def listed_in(file: str, paper: str) -> dict[str, Candidate]:
 
 def named_in(file: str) -> list[str]:
     """The files that a list names, a line each."""
-    text = read_in(file)
+    text = read_in(file, LISTS)
     if is_utf16(text):
         raise Fault(f'{printable(file)}: {SAVED}')
     named = [line for line in text.decode('utf-8-sig', 'surrogateescape').splitlines() if line.strip()]

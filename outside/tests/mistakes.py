@@ -393,6 +393,11 @@ def batches(tally: Tally, folder: pathlib.Path) -> None:
     names.write_text(f'{answers}/bert.hex\n\n{answers}/anna.hex\n')
     tally.check('answers by a list', run(DESK, 'mark', P, f'@{names}') == one_by_one)
     tally.check('by standard input', run(DESK, 'mark', P, '@-', given=names.read_bytes()) == one_by_one)
+    listed = folder / 'listed.txt'
+    listed.write_text('anna\n' + '# nobody\n' * 120_000 + 'bert\n')
+    names.write_text(f'{answers}/bert.hex\n' + '\n' * 2 ** 20 + f'{answers}/anna.hex\n')
+    seen = run(DESK, 'mark', P, f'@{names}', '--candidates', listed)
+    tally.check('lists of more than a mebibyte', seen == one_by_one, seen)
     names.write_bytes(f'\ufeff{answers}/bert.hex\r\n{answers}/anna.hex\r\n'.encode())
     tally.check('a list with a byte order mark', run(DESK, 'mark', P, f'@{names}') == one_by_one)
     for text, words in ((b'\n', 'names no answer'), (f'{answers}/anna.hex\n'.encode('utf-16'), 'the file is UTF-16')):
