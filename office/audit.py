@@ -26,7 +26,6 @@ from office.schema import SCHEMAS
 from office.view import verdict
 from office.words import ABSENT, UNREAD, counted
 
-HELP = 'looks at a register whether all is as it was made, and makes every mark again'
 MORE = """Each fault is told at its row, and the status is then 1. The chain of hashes shows an edit; that the end was
 cut off, or all written anew, only a head can show that was noted elsewhere. Every ./desk mark tells it. Of each paper
 it is told that an argument holds by which no placement is better than its key; ./desk why prints it.

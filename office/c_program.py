@@ -9,7 +9,6 @@ from office.paper import paper_on, placed
 from office.refusal import Refused
 from office.threads import BEGINS, TURNS, program
 
-HELP = 'writes a paper as a program in C, with threads and the barriers of its key or with those that are named'
 MORE = """  ./desk program paper.hex > paper.c             the barriers of the key
   ./desk program paper.hex 3,9 > paper.c         these gaps, in decimal; '' for none
   ./desk program paper.hex 3,9 -o paper.c        the same; another's file is not written over

@@ -5,7 +5,6 @@ from office.asked import PAPER_HELP, TURNS_HELP, planned, turned
 from office.command import write_json, write_out
 from office.library import Desk
 
-HELP = 'counts the barrier calls of the key in a run, given the turns of each loop'
 MORE = 'Turns are 2 to 16, of the outermost loop from 1. No correct placement has fewer calls.'
 
 

@@ -12,7 +12,6 @@ from office.register import Register, opened, readable
 from office.stored import Stored
 from office.view import verdict
 
-HELP = 'makes the certificate of a candidate who is marked Best, a page to print'
 MORE = """The register keeps that it was given; asked for again it is the same, with the same number and date. A mark
 that another took the place of has none. The office's name and place are told by options, or by a file with a line for
 each.

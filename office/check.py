@@ -11,7 +11,6 @@ from office.refusal import Refused
 from office.skipped import missing_told
 from office.words import counted, spoken
 
-HELP = 'tells whether papers are accepted, and what is wrong with them in words'
 MORE = """A paper that is accepted but can have no key is told as well, and has status 1 too. A folder stands for the
 texts and listings in it, the files *.hex and *.txt. That a paper is hard for people is advice, and no fault.
 

@@ -22,7 +22,6 @@ from office.register import Register, to_write
 from office.sittings import Sittings
 from office.words import ABSENT, counted
 
-HELP = 'takes a sitting that has ended into the register, with its log, and marks what was handed in'
 MORE = """Every line of the log is held against its chain, and every move is made once more by the library. Who never
 entered is marked Absent. Who entered and has neither handed in nor been collected is told and not marked, and the
 status is then 1: the same command takes them in when the log has their end.

@@ -13,18 +13,42 @@ marked as they come in, and the day ends in the register. Gaps, loops and points
 hexadecimal in texts."""
 VERSION_HELP = 'says which desk this is: version, commit and library'
 STATUS = 'Status: 0 done, 1 refused, 2 bad usage or a file that cannot be read or written.'
-# The commands, each with its module.
-COMMANDS = {'check': 'check', 'show': 'show', 'spell': 'spell', 'key': 'key', 'mark': 'mark', 'collect': 'collect',
-            'register': 'view', 'export': 'export', 'slip': 'slip', 'certificate': 'certificate', 'verify': 'verify',
-            'audit': 'audit', 'take-in': 'take_in', 'why': 'why', 'draw': 'draw', 'program': 'c_program',
-            'join': 'join', 'calls': 'calls', 'textbook': 'textbook', 'missing': 'missing', 'improve': 'improve',
-            'sheet': 'sheet', 'sit': 'sit', 'story': 'story', 'manual': 'manual'}
+# The commands, each with what it does; and the modules of those whose module is called otherwise.
+COMMANDS = {
+    'check': 'tells whether papers are accepted, and what is wrong with them in words',
+    'show': 'writes a paper as an indented listing, with gap numbers and dependences in words',
+    'spell': 'writes the text of a paper from a listing, so that no points need be counted',
+    'key': 'writes the key of a paper and the counts of its loops, as the program does',
+    'mark': 'marks answers beside the key of a paper, a row of CSV for each, or a mark in the register',
+    'collect': 'takes a sitting that has ended into the register, with its log, and marks what was handed in',
+    'register': 'shows the marks of a register, or writes them as CSV or JSON',
+    'export': 'writes the slips of a register, with a page in words beside each',
+    'slip': 'tells in words what a slip says, whoever it is for',
+    'certificate': 'makes the certificate of a candidate who is marked Best, a page to print',
+    'verify': 'tells of a certificate whether it is in the register, by its number',
+    'audit': 'looks at a register whether all is as it was made, and makes every mark again',
+    'take-in': 'marks the rows of an old register, a file of CSV, again and takes them into a register',
+    'why': 'tells why no placement beats the key of a paper, or how one placement beats another',
+    'draw': 'draws a paper as SVG, with the barriers of its key or with those that are named',
+    'program': 'writes a paper as a program in C, with threads and the barriers of its key or with those that are '
+               'named',
+    'join': 'joins two papers into one, under a new outermost loop',
+    'calls': 'counts the barrier calls of the key in a run, given the turns of each loop',
+    'textbook': 'writes the placement that the textbook method gives for a paper of one loop',
+    'missing': 'lists the loops that may not run and need a barrier for their missing run',
+    'improve': 'looks for a placement with fewer calls than the key where loops run once',
+    'sheet': 'tells when the run of a timing sheet ends, with its waits and with all barriers kept',
+    'sit': 'serves a sitting on a page, where candidates put and lift barriers and hand in',
+    'story': 'tells what the log of a hall has: whether it is whole, who handed in, or the story of one candidate',
+    'manual': 'writes pages for man, from the texts of the help',
+}
+MODULES = {'register': 'view', 'take-in': 'take_in', 'program': 'c_program'}
 ASKS_HELP = ('help', '--help', '-h')
 
 
 def module_of(name: str) -> 'Any':
-    """The module of a command: HELP, MORE, arguments and main."""
-    return importlib.import_module(f'office.{COMMANDS[name]}')
+    """The module of a command: MORE, arguments and main."""
+    return importlib.import_module(f'office.{MODULES.get(name, name)}')
 
 
 def about(does: str, more: str) -> str:
@@ -35,7 +59,7 @@ def about(does: str, more: str) -> str:
 def command_parser(name: str) -> Parser:
     """What a command takes."""
     module = module_of(name)
-    parser = Parser(prog=f'./desk {name}', description=about(module.HELP, module.MORE), epilog=STATUS,
+    parser = Parser(prog=f'./desk {name}', description=about(COMMANDS[name], module.MORE), epilog=STATUS,
                     formatter_class=Layout)
     module.arguments(parser)
     return parser
@@ -46,8 +70,8 @@ def whole_parser() -> Parser:
     made = Parser(prog='./desk', description=ABOUT, epilog=STATUS)
     made.add_argument('--version', action='store_true', help=VERSION_HELP)
     commands = made.add_subparsers(title='commands', metavar='COMMAND')
-    for name in COMMANDS:
-        commands.add_parser(name, help=module_of(name).HELP)
+    for name, does in COMMANDS.items():
+        commands.add_parser(name, help=does)
     return made
 
 

@@ -4,7 +4,7 @@ import re
 
 from office.asked import GAPS_HELP, PAPER_HELP, loaded, placement_asked, planned
 from office.command import Fault, Parser, printable, title_of, write_out, write_over
-from office.day import about
+from office.day import COMMANDS, about
 from office.names import named_paper
 from office.paper import Paper, placed
 from office.picture import Picture
@@ -13,7 +13,6 @@ from office.sight import View
 from office.version import Told
 from office.words import joined, ranges
 
-HELP = 'draws a paper as SVG, with the barriers of its key or with those that are named'
 MORE = """  ./desk draw paper.hex -o paper.svg               the barriers of the key
   ./desk draw paper.hex 5,11 -o paper.svg          these gaps, in decimal; '' for none
   ./desk draw paper.hex answer.hex -o paper.svg    the gaps of a placement text, lines 21 and a gap
@@ -85,7 +84,7 @@ def main(asked: argparse.Namespace) -> None:
 
 def alone(given: list[str]) -> None:
     """The command under its own name."""
-    parser = Parser(prog='./draw', description=about(HELP, MORE.replace('./desk draw', './draw')),
+    parser = Parser(prog='./draw', description=about(COMMANDS['draw'], MORE.replace('./desk draw', './draw')),
                     formatter_class=argparse.RawDescriptionHelpFormatter)
     parser.add_argument('--version', action=Told, name='draw')
     arguments(parser)

@@ -12,7 +12,6 @@ from office.slip_words import slip_in
 from office.stored import Stored
 from office.words import REFUSED, counted
 
-HELP = 'writes the slips of a register, with a page in words beside each'
 MORE = """DIR/candidate has what candidates get: nothing there tells the key or a verdict. DIR/examiner has what the
 examiner reads, and nobody else may. A refused answer has a note. Only marks that hold today are told of: what others
 took the place of is written over, or taken away. A file that is none of the desk's is left alone.

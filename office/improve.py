@@ -7,7 +7,6 @@ from office.frames import placement_text
 from office.library import Desk
 from office.words import ENDED, counted, gaps_named
 
-HELP = 'looks for a placement with fewer calls than the key where loops run once'
 MORE = 'Turns are 1 to 16. No correct placement has fewer calls than the floor.'
 BUDGET, MOST = 1000, 2 ** 64
 BY = {0: 'round', 1: 'budget'}

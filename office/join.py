@@ -8,7 +8,6 @@ from office.library import Desk, join, refusal_of
 from office.refusal import Refused
 from office.result import hand_over, result_arguments
 
-HELP = 'joins two papers into one, under a new outermost loop'
 MORE = 'The first paper comes first, its dependences too. The key of the joint paper is the two keys, moved along.'
 BARRED, POINT = 'it has barred gaps, and only papers without any can be joined', len(b'01\n')
 

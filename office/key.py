@@ -12,7 +12,6 @@ from office.skipped import missing_told
 from office.trees import drawn
 from office.words import gaps_named
 
-HELP = 'writes the key of a paper and the counts of its loops, as the program does'
 MORE = 'A refused paper gets the line 2f of its refusal, and standard error has it in words.'
 TOO_LONG = Refusal(5, 0)
 

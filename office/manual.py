@@ -7,7 +7,6 @@ from office.day import ABOUT, COMMANDS, STATUS, VERSION_HELP, command_parser, mo
 from office.version import version
 from office.words import counted
 
-HELP = 'writes pages for man, from the texts of the help'
 MORE = """Without --into the page is written to standard output: of ./desk, or of one command.
 
   ./desk manual check | man -l -
@@ -52,8 +51,7 @@ def page_of(name: str, about: str, parser: Parser, body: list[str], see: list[st
 
 def command_page(name: str) -> bytes:
     """The page of a command."""
-    module = module_of(name)
-    return page_of(f'desk-{name}', module.HELP, command_parser(name), as_typed(module.MORE), ['desk'])
+    return page_of(f'desk-{name}', COMMANDS[name], command_parser(name), as_typed(module_of(name).MORE), ['desk'])
 
 
 def whole_page() -> bytes:
@@ -61,7 +59,7 @@ def whole_page() -> bytes:
     parser = Parser(prog='./desk')
     parser.add_argument('--version', action='store_true', help=VERSION_HELP)
     parser.add_argument('command', metavar='COMMAND', help='one of the commands above, with its arguments')
-    listed = [line for name in COMMANDS for line in ('.TP', f'\\fB{typed(name)}\\fR', typed(module_of(name).HELP))]
+    listed = [line for name, does in COMMANDS.items() for line in ('.TP', f'\\fB{typed(name)}\\fR', typed(does))]
     return page_of('desk', "the office's day over the proved library", parser,
                    [typed(ABOUT), '.SH COMMANDS', *listed], [f'desk-{name}' for name in COMMANDS])
 

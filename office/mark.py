@@ -22,7 +22,6 @@ from office.taken import SAVED, is_utf16
 from office.words import ABSENT, UNREAD, VERDICTS, counted
 from office.words import REFUSED as REFUSED_WORD
 
-HELP = 'marks answers beside the key of a paper, a row of CSV for each, or a mark in the register'
 MORE = """A candidate is called as the file of the answer, without .hex. An answer that is refused has a mark too; a
 line on standard error says why, and the others are marked. A file that cannot be read is marked Not read, and takes no
 mark away that is there. The status is then 1, or 2 where something was not read, not kept or not written.

@@ -5,7 +5,6 @@ from office.asked import PAPER_HELP, planned
 from office.command import tell, write_json, write_out
 from office.library import Desk
 
-HELP = 'lists the loops that may not run and need a barrier for their missing run'
 MORE = """A loop a line, by the point of its DO; none where no loop needs one. The list is for loops that are skipped in
 every turn or in none. A dependence for which it may not be enough where a loop is skipped in some turns alone is told
 on standard error."""

@@ -12,7 +12,6 @@ from office.library import refusal_of, run_ends
 from office.refusal import Refused
 from office.words import RULES, counted, spoken
 
-HELP = 'tells when the run of a timing sheet ends, with its waits and with all barriers kept'
 MORE = """a sheet, a line for each phase, a cell for each processor from 0 on; # begins a remark:
   5 3 8                  durations, 0 to 65535
   4:0,1 2:1 6:0,1,2      durations, and the processors that each waits for, itself too

@@ -15,7 +15,6 @@ from office.frames import DO, ENDDO, STATEMENT
 from office.names import named_paper
 from office.paper import Paper
 
-HELP = 'writes a paper as an indented listing, with gap numbers and dependences in words'
 MORE = 'The number left of a bar is the gap just before that line. ./desk spell reads such a listing.'
 KINDS = {DO: 'DO', ENDDO: 'ENDDO', STATEMENT: 'statement'}
 NAMED = '# Left of the bar is the gap just before a line.'

@@ -13,7 +13,6 @@ from office.library import Desk
 from office.names import named_paper, names_text
 from office.words import counted
 
-HELP = 'serves a sitting on a page, where candidates put and lift barriers and hand in'
 MORE = """Each candidate gets a ticket. The answers handed in are files that ./desk mark takes; every move is kept, and
 the same command goes on where it was. docs/HALL.md tells the person in charge more.
 

@@ -8,7 +8,6 @@ from office.paper import Paper, loops_told
 from office.slip_words import Slip, counts_told, cuts_told, slip_in, uncut_told
 from office.view import verdict
 
-HELP = 'tells in words what a slip says, whoever it is for'
 MORE = """A slip names dependences and loops by their numbers. With --paper their words stand beside them.
 
   ./desk slip slips/candidate/anna.p-3fa1c022.candidate.hex

@@ -8,7 +8,6 @@ from office.listing import spelled_with_names
 from office.names import BEGINS, SUFFIX, names_text
 from office.result import hand_over, result_arguments
 
-HELP = 'writes the text of a paper from a listing, so that no points need be counted'
 MORE = """a listing, a line each:
   DO NAME, ENDDO NAME        a loop; names may be left out; DO NAME may not run: a loop that need not
   DO NAME = 1, n             the same: bounds are not read, and such loops may share a name

@@ -13,7 +13,6 @@ from office.played import Played
 from office.sittings import COLLECTED, ENTER, HAND_IN, LEAVE, MOVE, Sitting, Sittings, told_gaps
 from office.words import counted
 
-HELP = 'tells what the log of a hall has: whether it is whole, who handed in, or the story of one candidate'
 MORE = """Each line is held against the chain of hashes, and every move is made once more by the library. The head is
 the code of the last line: who has written it down can look it up by --code, as candidates can the code of a
 receipt. Times are UTC.

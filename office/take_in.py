@@ -19,7 +19,6 @@ from office.register import Register, to_write
 from office.rows import FIRST, first_cells
 from office.words import UNREAD, counted
 
-HELP = 'marks the rows of an old register, a file of CSV, again and takes them into a register'
 MORE = """Papers and answers are found by their hashes, whatever their files are called; a folder stands for the files
 in it. A row that does not come out as it says, or whose paper or answer is not there, is told and not taken in; the
 status is then 1.

@@ -8,7 +8,6 @@ from office.refusal import Refused
 from office.result import hand_over, result_arguments
 from office.words import gaps_named
 
-HELP = 'writes the placement that the textbook method gives for a paper of one loop'
 MORE = 'The result is a placement text, which ./desk mark takes. It has as many barriers as the key.'
 
 

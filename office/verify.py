@@ -8,7 +8,6 @@ from office.slip_pages import of_whom, when
 from office.stored import Stored, damaged
 from office.view import verdict
 
-HELP = 'tells of a certificate whether it is in the register, by its number'
 MORE = """It says yes with the row, or no; the status is then 1. The mark is made again by the proved calls. The number
 may be typed with or without dashes, in capital or small letters.
 

@@ -7,7 +7,6 @@ from office.register import Register, opened, readable
 from office.rows import ALL, as_csv, as_json, cells_of
 from office.words import counted
 
-HELP = 'shows the marks of a register, or writes them as CSV or JSON'
 MORE = """Without --history the marks that hold today; with it those that others took the place of, too.
 
   ./desk register register.db

@@ -19,7 +19,6 @@ from office.skipped import relied_on, skipped_fields, skipped_told
 from office.trees import beside, drawn
 from office.words import VERDICTS, counted, gaps_named, spoken, stretches
 
-HELP = 'tells why no placement beats the key of a paper, or how one placement beats another'
 MORE = """  ./desk why paper.hex                      why no placement is better than the key
   ./desk why paper.hex 4,7                  gaps 4 and 7 beside the key, and then the same
   ./desk why paper.hex 4,7 answer.hex       beside the placement of a file
