@@ -4,15 +4,19 @@
        ./test edit CRATE EDIT    one edit that must be refused, alone
 
 SECONDS: how long the program is compared with the judge, 60 if none is named.
-The last line counts all, 'N passed, M failed', and the status is 0 only if nothing failed.
+The last line counts all, 'N passed, M failed', and the status is 0 only if nothing failed. Those of the hall, which
+mostly wait, run beside the parts that follow, and are shown when all are done.
 
 The parts, in their order:"""
+import concurrent.futures
+import io
 import os
 import re
 import subprocess
 import sys
 import time
 from dataclasses import dataclass
+from typing import TextIO
 
 from office import built as building
 from office.command import Fault
@@ -26,16 +30,17 @@ SCRIPTS, PROGRAMS, QUICK = 25, 60, 10
 
 @dataclass(frozen=True)
 class Part:
-    """A part of the test: what it is, its command, whether it wants the program, the archive and the judge, and whether
-    it counts by a closing line; one that does not goes by its status."""
+    """A part of the test: what it is, its command, whether it wants the program, the archive and the judge, whether it
+    counts by a closing line, or else goes by its status, and whether it runs beside the parts that follow."""
     about: str
     command: list[str]
     built: bool = True
     counts: bool = True
+    beside: bool = False
 
 
-def module(about: str, name: str, built: bool = True) -> Part:
-    return Part(about, [sys.executable, '-m', f'outside.{name}'], built)
+def module(about: str, name: str, built: bool = True, beside: bool = False) -> Part:
+    return Part(about, [sys.executable, '-m', f'outside.{name}'], built, beside=beside)
 
 
 def parts(scripts: int = SCRIPTS, programs: int = PROGRAMS) -> dict[str, Part]:
@@ -51,6 +56,9 @@ def parts(scripts: int = SCRIPTS, programs: int = PROGRAMS) -> dict[str, Part]:
         'faults': Part('the faults that the judge must catch fit the code',
                        [sys.executable, '-m', 'outside.faults.faults', '--fit'], False),
         'hosts': module('the C boundary', 'tests.hosts'),
+        'log': module('the hall: its log, disks, kills and starts', 'hall.log', beside=True),
+        'server': module('the hall: its server', 'hall.server', beside=True),
+        'sitting': module('the hall: its page in a browser', 'hall.sitting', beside=True),
         'reading': Part("the judge's check of itself", [judge, '--self-check']),
         'scripts': Part('every call beside the judge', [judge, '--scripts', '1', str(scripts)]),
         'judge': Part('the program beside the judge', [judge, str(PROGRAM), '1', str(programs)]),
@@ -69,24 +77,21 @@ def parts(scripts: int = SCRIPTS, programs: int = PROGRAMS) -> dict[str, Part]:
         'slips': module('./desk: slips, notes and certificates for people', 'tests.slips'),
         'collecting': module('./desk: sittings taken into the register', 'tests.collecting'),
         'release': module('./release: unpacked and installed elsewhere', 'tests.release'),
-        'log': module('the hall: its log, disks, kills and starts', 'hall.log'),
-        'server': module('the hall: its server', 'hall.server'),
-        'sitting': module('the hall: its page in a browser', 'hall.sitting'),
         'documents': module('the documents beside the repository', 'checks.documents'),
     }
 
 
-def counted(name: str, part: Part) -> tuple[int, int]:
+def counted(name: str, part: Part, shown: TextIO) -> tuple[int, int]:
     """Runs a part and shows what it prints; how much passed and failed. A part that should count and has no closing
     line has failed, whatever its status."""
-    print(f'== {name}: {part.about}', flush=True)
+    print(f'== {name}: {part.about}', file=shown, flush=True)
     closing, begun = None, time.monotonic()
     with subprocess.Popen(part.command, cwd=ROOT, stdout=subprocess.PIPE, stderr=subprocess.STDOUT, text=True,
                           errors='replace') as ran:
         for line in ran.stdout or ():
-            print(line, end='', flush=True)
+            print(line, end='', file=shown, flush=True)
             closing = CLOSING.match(line) or closing
-    print(f'== {name}: {time.monotonic() - begun:.0f} s', flush=True)
+    print(f'== {name}: {time.monotonic() - begun:.0f} s', file=shown, flush=True)
     well = ran.returncode == 0
     if not part.counts:
         return int(well), int(not well)
@@ -113,15 +118,25 @@ def build() -> bool:
 
 
 def tried(chosen: dict[str, Part]) -> bool:
-    """Runs parts one after the other; whether nothing failed. What they want is built before the first that does."""
-    passed = failed = 0
+    """Runs parts one after the other, and some beside the others; whether nothing failed. What they want is built
+    before the first that does."""
+    results: list[tuple[int, int]] = []
+    waiting: list[tuple[io.StringIO, concurrent.futures.Future[tuple[int, int]]]] = []
     built = False
-    for name, part in chosen.items():
-        if part.built and not built and not (built := build()):
-            failed += 1
-            break
-        well, ill = counted(name, part)
-        passed, failed = passed + well, failed + ill
+    with concurrent.futures.ThreadPoolExecutor(1) as beside:
+        for name, part in chosen.items():
+            if part.built and not built and not (built := build()):
+                results.append((0, 1))
+                break
+            if part.beside and len(chosen) > 1:
+                shown = io.StringIO()
+                waiting.append((shown, beside.submit(counted, name, part, shown)))
+            else:
+                results.append(counted(name, part, sys.stdout))
+        for shown, ran in waiting:
+            results.append(ran.result())
+            print(shown.getvalue(), end='', flush=True)
+    passed, failed = (sum(column) for column in zip(*results))
     print(f'{passed} passed, {failed} failed')
     return failed == 0
 
