@@ -4,15 +4,17 @@ import os
 import pwd
 from collections.abc import Iterator
 
-from office.chain import now
 from office.command import INTERRUPTED, Fault
 from office.library import Desk
 from office.marks import NO_MARK, Finding, Mark, sha256_of
 from office.records import dataclass
 from office.refusal import Refused
-from office.register import Register
 from office.version import desk_version, library_sha256
 from office.words import REFUSED, VERDICTS, counted
+
+TYPE_CHECKING = False
+if TYPE_CHECKING:
+    from office.register import Register
 
 # How many answers are marked before their marks are kept.
 EVERY = 300
@@ -27,7 +29,7 @@ class PaperText:
     text: bytes
     names: bytes = b''
 
-    def add_to(self, register: Register) -> None:
+    def add_to(self, register: 'Register') -> None:
         """Adds what is not there yet, inside adding()."""
         register.add_paper(self.sha256, self.name, self.text)
         if self.names:
@@ -83,7 +85,7 @@ def marker(reason: str | None = None, sitting: str | None = None) -> Marker:
     return Marker(who, desk_version(), library_sha256(), reason, sitting)
 
 
-def keep(register: Register, paper: PaperText, answers: list[Answer], by: Marker) -> list[Outcome]:
+def keep(register: 'Register', paper: PaperText, answers: list[Answer], by: Marker) -> list[Outcome]:
     """Adds the marks of answers, all of them or, where a fault says so, none. The same answer marked again adds
     nothing; another one takes the place of the first only for a reason, and none at all never does."""
     outcomes: list[Outcome] = []
@@ -104,7 +106,7 @@ def keep(register: Register, paper: PaperText, answers: list[Answer], by: Marker
 
 
 @contextlib.contextmanager
-def telling(register: Register | None, many: int) -> Iterator[None]:
+def telling(register: 'Register | None', many: int) -> Iterator[None]:
     """Whoever ends a marking into a register, or whatever does, the marks that were kept are told."""
     try:
         yield
@@ -137,8 +139,9 @@ def kept_from(answer: Answer, there: Mark, reason: str | None) -> str:
     return f'another answer is in the register, {there.verdict}; --replace "reason" puts this one in its place'
 
 
-def new_mark(register: Register, paper: PaperText, answer: Answer, by: Marker, there: Mark | None) -> Mark:
+def new_mark(register: 'Register', paper: PaperText, answer: Answer, by: Marker, there: Mark | None) -> Mark:
     """The next mark of the chain."""
+    from office.chain import now
     seq, before = register.end()
     replaces, reason = (None, None) if there is None else (there.seq, by.reason or f'{there.verdict} before')
     return Mark(seq + 1, now(), answer.candidate, paper.sha256, answer.sha256, **vars(answer.finding), desk=by.desk,

@@ -15,12 +15,15 @@ from office.names import names_to_keep
 from office.progress import Progress
 from office.records import dataclass, field, replace
 from office.refusal import Refusal
-from office.register import Register, to_write
 from office.rows import FIRST, as_csv, first_cells
 from office.slip_files import Slips, slips_of
 from office.taken import SAVED, is_utf16
 from office.words import ABSENT, UNREAD, VERDICTS, counted
 from office.words import REFUSED as REFUSED_WORD
+
+TYPE_CHECKING = False
+if TYPE_CHECKING:
+    from office.register import Register
 
 MORE = """A candidate is called as the file of the answer, without .hex. An answer that is refused has a mark too; a
 line on standard error says why, and the others are marked. A file that cannot be read is marked Not read, and takes no
@@ -39,7 +42,7 @@ class Marking:
     """A paper with its key on a desk, where its marks and slips go, and what there is to say while marking."""
     desk: Desk
     paper: PaperText
-    register: Register | None
+    register: 'Register | None'
     by: Marker | None
     slips: Slips | None
     bar: Progress
@@ -178,7 +181,7 @@ def summary(answers: list[Answer]) -> str:
     return ': '.join([counted(len(answers) - many[ABSENT], 'answer'), *filter(None, [', '.join(told)])]) + absent
 
 
-def register_asked(asked: argparse.Namespace) -> contextlib.AbstractContextManager[Register | None]:
+def register_asked(asked: argparse.Namespace) -> contextlib.AbstractContextManager['Register | None']:
     """The register that is asked for, which is told from any other file before anything is marked."""
     if asked.register is None:
         if asked.new or asked.replace is not None:
@@ -186,6 +189,7 @@ def register_asked(asked: argparse.Namespace) -> contextlib.AbstractContextManag
         return contextlib.nullcontext()
     if asked.replace is not None and not asked.replace.strip():
         raise Fault('--replace wants the reason')
+    from office.register import to_write  # which loads SQLite, and not every mark is kept
     return to_write(asked.register, asked.new)
 
 

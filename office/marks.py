@@ -1,6 +1,5 @@
 """A mark as the register keeps it: its fields, and the chain in which each mark holds the hash of the one before."""
 import hashlib
-import json
 
 from office.candidates import BETWEEN, LETTERS, spelled
 from office.records import dataclass, replace
@@ -59,6 +58,7 @@ class Mark:
 
     def hashed(self) -> str:
         """The hash that it should have: of the hash before it and of its fields."""
+        import json
         told = {name: value for name, value in vars(self).items() if name not in ('before', 'own')}
         spelled = json.dumps(told, separators=(',', ':'), default=bytes.hex)
         return hashlib.sha256(f'{self.before}{spelled}'.encode()).hexdigest()

@@ -2,9 +2,12 @@
 import sys
 import time
 from collections.abc import Iterator
-from typing import TypeVar
 
-Thing = TypeVar('Thing')
+TYPE_CHECKING = False
+if TYPE_CHECKING:
+    from typing import TypeVar
+    Thing = TypeVar('Thing')
+
 WIDTH, EVERY = 40, 0.1
 CLEAR = '\r\x1b[K'
 
@@ -16,7 +19,7 @@ class Progress:
         self.what, self.total, self.done, self.shown = what, total, 0, 0.0
         self.visible = sys.stderr is not None and sys.stderr.isatty()
 
-    def over(self, things: list[Thing]) -> Iterator[Thing]:
+    def over(self, things: 'list[Thing]') -> 'Iterator[Thing]':
         """The things, with the bar moved on after each and gone at the end."""
         try:
             for thing in things:

@@ -2,15 +2,17 @@
 import csv
 import functools
 import io
-import json
 from collections.abc import Iterable
 
 from office.asked import answer_cause
 from office.library import Desk, refusal_of
 from office.marks import Finding, Mark
 from office.refusal import Refusal
-from office.register import Register
 from office.words import BEST, REFUSED
+
+TYPE_CHECKING = False
+if TYPE_CHECKING:
+    from office.register import Register
 
 YES, NO = 'yes', 'no'
 FIRST = ['candidate', 'verdict', 'uncut', 'loop', 'theirs', 'ours', 'number', 'line', 'certificate', 'paper_sha256',
@@ -31,7 +33,7 @@ def first_cells(candidate: str, finding: Finding, paper: str, answer: str | None
     return dict(zip(FIRST, cells, strict=True))
 
 
-def cells_of(register: Register, mark: Mark) -> dict[str, Cell]:
+def cells_of(register: 'Register', mark: Mark) -> dict[str, Cell]:
     """All columns of a mark in the register."""
     paper = register.paper(mark.paper)
     told = first_cells(mark.candidate, mark.finding, mark.paper, mark.answer)
@@ -39,7 +41,7 @@ def cells_of(register: Register, mark: Mark) -> dict[str, Cell]:
     return told | named | {'words': words(register, mark)} | {name: getattr(mark, name) for name in OF_MARK}
 
 
-def words(register: Register, mark: Mark) -> str | None:
+def words(register: 'Register', mark: Mark) -> str | None:
     """Why an answer was refused, with the line as it was typed."""
     text = register.answer(mark.answer) if mark.answer and mark.verdict == REFUSED else None
     if text is None or mark.number is None or mark.line is None:
@@ -73,5 +75,6 @@ def as_csv(columns: list[str], rows: Iterable[dict[str, Cell]], excel: bool = Fa
 
 def as_json(rows: Iterable[dict[str, Cell]]) -> bytes:
     """The rows as a list of objects, a line each."""
+    import json
     lines = ',\n'.join(json.dumps(row, ensure_ascii=False) for row in rows)
     return f'[\n{lines}\n]\n'.encode() if lines else b'[]\n'
