@@ -79,9 +79,9 @@ unseen reach q e a f h = go (eqb a q && ltb e (reach a)) refl
     go false z = refl
 
 -- a lap that ends with a front further on has no step for the supposed gap
-pub record Open (d upto : ℕ) (s : State) : Type 0 where
-  pub none : length (closeStep upto (s .f)) ≤ 0
-  pub same : closeUp d upto s .f ≡ s .f
+record Open (d upto : ℕ) (s : State) : Type 0 where
+  none : length (closeStep upto (s .f)) ≤ 0
+  same : closeUp d upto s .f ≡ s .f
 
 still-open : (d upto f : ℕ) (s : State) → d < f → f < closeUp d upto s .f → Open d upto s
 unfolding closeUp closeStep put
@@ -165,7 +165,6 @@ module _
       length (stepsAt f) ≤ cnt (λ a. eqb (to a) (sweptAt f .f)) e + length (closeStep (h .upto) (sweptAt f .f))
   unfolding lapSteps lapNeed
   lap-steps f =
-      let need : ℕ → ℕ = lapNeed ps ds d (h .from) f in
       let tr : List Step = trace B T (lapNeed ps ds d (h .from) f) (lapSet ps ds d (h .from) f) lead d e e (start e) in
       let few-here : length tr ≤ cnt (λ a. eqb (to a) (falls B T (lapNeed ps ds d (h .from) f) d e e (suc e))) e =
       trace-counts B (laws .of-loops) T d is-do high (lapNeed ps ds d (h .from) f) (reachOf ps ds d)
@@ -212,7 +211,7 @@ module _
                 (λ a. beyond f (endAt f .f) (to a) far),
           )
 
-  -- no claim has more steps than twice the points up to its ENDDO
+  -- no claim has more steps than twice the gaps up to its ENDDO, and one
   pub head-steps : length (stepsFor ps ds T lead h) ≤ e + suc e
   unfolding stepsFor
   head-steps =
@@ -223,7 +222,7 @@ module _
         cnt-most (λ a. ltb (suc d) (to a)) e,
       )
 
--- no claim of an argument has more than 511 steps
+-- of a key's argument, whatever the paper
 pub few-steps : (n : Nest) → isValid n ≡ true → isBlocked n ≡ false → (k : Claim) → Among k (argumentOf n) →
     length (k .steps) ≤ MOST-STEPS
 few-steps n valid unblocked = go (plain-of n valid unblocked)

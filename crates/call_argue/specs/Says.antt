@@ -1,5 +1,5 @@
 -- What giving the argument of the key promises. The desk stays as it is.
--- Main definitions: `argumentOn`, `argueFault`, `ArgueSays`.
+-- Main definitions: `textOf`, `argueFault`, `ArgueSays`.
 use mathlib.Core.Path.{_≡_}
 use mathlib.Core.Bool.{true, _||_}
 use mathlib.Core.List.{List}

@@ -62,17 +62,17 @@ module _ (d : Desk) (gs : List ℕ) (m : IsMade d) (k : KeyOn d gs) where
       room-fault out ∙ z
 
   -- the value is told with both
-  value-of : (k out : List ℕ) (a : Answer) → ArgueSays d out k a → (n : ℕ) → argueFault (deskIn d) out ≡ n →
+  value-of : (out out′ : List ℕ) (a : Answer) → ArgueSays d out out′ a → (n : ℕ) → argueFault (deskIn d) out ≡ n →
       (eqb n 0 || eqb n 9) ≡ true → a .value ≡ length text
-  value-of k out a h n f t =
+  value-of out out′ a h n f t =
       let v : pick (eqb (argueFault (deskIn d) out) 0 || eqb (argueFault (deskIn d) out) 9) (length text) 0 ≡
       length text = rw (f, t) refl in
       h .value-is ∙ v
 
   value-told : (out out′ : List ℕ) (a : Answer) → ArgueSays d out out′ a → a .value ≡ length text
   value-told out out′ a h = ⊎-elim
-      (λ (z : length text ≤ length out). value-of out′ out a h 0 (number-with out z) refl)
-      (λ (z : length out < length text). value-of out′ out a h 9 (number-without out z) refl)
+      (λ (z : length text ≤ length out). value-of out out′ a h 0 (number-with out z) refl)
+      (λ (z : length out < length text). value-of out out′ a h 9 (number-without out z) refl)
       (le-or (length text) (length out))
 
   wants : Wants d (length text)
