@@ -10,7 +10,7 @@ use argue_texts::CLAIMS;
 use paper_nests::Nest;
 
 // How many claims were given, and the place behind them.
-#[derive(Drop)]
+#[derive(Clone, Copy)]
 pub struct Sofar {
     pub many: usize,
     pub at: usize,

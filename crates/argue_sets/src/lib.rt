@@ -15,7 +15,7 @@ use paper_nests::{Dependence, Nest};
 const ROW: usize = 256;
 
 // A start, and the number of the dependence that has it.
-#[derive(Drop)]
+#[derive(Clone, Copy)]
 pub struct Start {
     pub at: usize,
     pub num: usize,

@@ -6,7 +6,7 @@ ghost use Rattle.argue_texts.specs.Parts.{part_in, progress_in, IsPart, IsFaulte
 use paper_lines::{Frame, Read, digit_values, read_line};
 
 // A claim of loop d, as its line has it: low where a and b are 0.
-#[derive(Drop)]
+#[derive(Clone, Copy)]
 pub struct Claimed {
     pub d: u8,
     pub a: u8,
@@ -15,7 +15,7 @@ pub struct Claimed {
 
 // What a frame of an argument text tells: a claim, that a claim leads the next step, a step with a set (0 the supposed
 // gap from a on, 1 the one up to b, k + 2 dependence k), or nothing that is known.
-#[derive(Drop)]
+#[derive(Clone, Copy)]
 pub enum Part {
     Claims(Claimed),
     By(u16),
@@ -24,7 +24,7 @@ pub enum Part {
 }
 
 // What was read so far: how many claims, how many steps of the last; 0, or one more than the claim that leads the next.
-#[derive(Drop)]
+#[derive(Clone, Copy)]
 pub struct Progress {
     pub claims: usize,
     pub steps: usize,
@@ -32,7 +32,7 @@ pub struct Progress {
 }
 
 // The number and the line of a text's refusal, 0 and 0 for none.
-#[derive(Drop)]
+#[derive(Clone, Copy)]
 pub struct TextFault {
     pub number: u8,
     pub line: usize,

@@ -12,7 +12,7 @@ ghost use Rattle.argue_trace.specs.Traced.{claims_at, lead_at, HeadsRoom, SetsRo
 use argue_spell::put_step;
 
 // How a sweep ends: its barriers and its front, and the place behind its steps.
-#[derive(Drop)]
+#[derive(Clone, Copy)]
 pub struct Swept {
     pub c: usize,
     pub f: usize,

@@ -17,7 +17,7 @@ use paper_nests::Dependence;
 use paper_placements::Placement;
 
 // The claim that is open: its loop's DO and ENDDO, its a and its b.
-#[derive(Drop)]
+#[derive(Clone, Copy)]
 pub struct Open {
     pub d: usize,
     pub e: usize,
@@ -27,7 +27,7 @@ pub struct Open {
 
 // A step: its set, and one more than the claim that leads it, or 0; how many dependences there are, and of dependence
 // set - 2, where there is one, the ENDDO of the loop that carries it.
-#[derive(Drop)]
+#[derive(Clone, Copy)]
 pub struct Asked {
     pub set: usize,
     pub by: usize,
@@ -37,7 +37,7 @@ pub struct Asked {
 }
 
 // Whether a step holds; how many sets were counted, and what is gone, after it.
-#[derive(Drop)]
+#[derive(Clone, Copy)]
 pub struct Taken {
     pub fine: bool,
     pub c: usize,

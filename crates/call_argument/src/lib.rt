@@ -17,7 +17,7 @@ use paper_placements::{Placement, uncut};
 // The number of a refusal, and the text at fault (1 the placement, 2 the argument, 0 for neither) with its line; zeros
 // where the argument holds.
 #[repr(C)]
-#[derive(Drop)]
+#[derive(Clone, Copy)]
 pub struct Weighed {
     pub number: u8,
     pub text: u8,

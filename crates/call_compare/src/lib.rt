@@ -17,7 +17,7 @@ use paper_placements::Placement;
 // placement is as good or better than the second, and the second than the first; and the set of the loops that decide
 // between them, by their DOs.
 #[repr(C)]
-#[derive(Drop)]
+#[derive(Clone, Copy)]
 pub struct Compared {
     pub number: u8,
     pub text: u8,

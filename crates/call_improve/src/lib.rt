@@ -29,7 +29,7 @@ pub const BUDGET: u8 = 1;
 // The number and the line of a refusal, 0 and 0 for none; where the tries lead, its calls, how many tries were made and
 // what ended them; the floor.
 #[repr(C)]
-#[derive(Drop)]
+#[derive(Clone, Copy)]
 pub struct Improved {
     pub number: u8,
     pub line: usize,
@@ -42,7 +42,7 @@ pub struct Improved {
 
 // A placement with its calls and, in chains, the dependences by the highest barrier that cuts them: the first of each
 // barrier's, and after each dependence the next of the same barrier; the number of dependences for none.
-#[derive(Drop)]
+#[derive(Clone, Copy)]
 struct Current {
     placement: Placement,
     calls: u64,
@@ -51,7 +51,7 @@ struct Current {
 }
 
 // What a try leaves, with its calls.
-#[derive(Drop)]
+#[derive(Clone, Copy)]
 struct Try {
     placement: Placement,
     calls: u64,

@@ -16,7 +16,7 @@ use paper_texts::read_nest;
 // The reply: the number of the refusal, the text at fault (1 or 2, or 0 for neither) with its line, zeros for none; and
 // the length of the joint text.
 #[repr(C)]
-#[derive(Drop)]
+#[derive(Clone, Copy)]
 pub struct Joined {
     pub number: u8,
     pub text: u8,

@@ -14,7 +14,7 @@ use paper_placements::Cut;
 
 // The ENDDO of every DO of a nest, by the DO's point: found once for a list, looked up for each record. A byte each, as
 // the table goes into every step by value.
-#[derive(Drop)]
+#[derive(Clone, Copy)]
 pub struct Ends {
     pub of: [u8; Nest::POINTS],
 }

@@ -17,7 +17,7 @@ use paper_nests::Nest;
 
 // The number of a refusal, 0 for none, with line 0; how many dependences remain uncut; the desk after the call.
 #[repr(C)]
-#[derive(Drop)]
+#[derive(Clone, Copy)]
 pub struct Moved {
     pub number: u8,
     pub line: usize,

@@ -14,7 +14,7 @@ use run_count::{INNER, OUTER, calls_of, turns_fit};
 
 // The number and the line of a refusal, 0 and 0 for none, and the calls.
 #[repr(C)]
-#[derive(Drop)]
+#[derive(Clone, Copy)]
 pub struct Calls {
     pub number: u8,
     pub line: usize,

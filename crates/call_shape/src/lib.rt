@@ -13,7 +13,7 @@ use paper_nests::Nest;
 // The number and the line of a refusal, 0 and 0 for none; by each gap the DO of its loop; by each DO its ENDDO; by each
 // point how many loops it is inside. Every other place has 0.
 #[repr(C)]
-#[derive(Drop)]
+#[derive(Clone, Copy)]
 pub struct Shape {
     pub number: u8,
     pub line: usize,

@@ -17,7 +17,7 @@ const ALL: u16 = 65535;
 // The number and the line of a refusal, 0 and 0 for none, and when the run ends: with the sheet's waits, and with all
 // barriers kept.
 #[repr(C)]
-#[derive(Drop)]
+#[derive(Clone, Copy)]
 pub struct RunEnds {
     pub number: u8,
     pub line: usize,

@@ -13,7 +13,7 @@ use paper_placements::Placement;
 // its own gaps, by its DO; how many of them cut each dependence; how many dependences none cuts. Every other place has
 // 0. No loop has more than the gaps 1 to 255, so that a count fits a byte.
 #[repr(C)]
-#[derive(Drop)]
+#[derive(Clone, Copy)]
 pub struct Standing {
     pub number: u8,
     pub line: usize,

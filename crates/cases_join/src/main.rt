@@ -168,7 +168,7 @@ fn faults(text: &[u8], number: u8, line: usize) -> bool {
 }
 
 // A paper of so many loops in one another, with so many statements in the innermost, and so many dependences.
-#[derive(Drop)]
+#[derive(Clone, Copy)]
 struct Size {
     loops: usize,
     statements: usize,

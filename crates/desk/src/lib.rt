@@ -19,7 +19,7 @@ use paper_placements::{Compared, Counts, Placement};
 // A desk: whether there is a nest, the nest, whether there is a key, the key, the candidate's sitting, the moves that
 // can be taken back.
 #[repr(C)]
-#[derive(Drop)]
+#[derive(Clone, Copy)]
 pub struct Desk {
     pub loaded: bool,
     pub nest: Nest,
@@ -31,7 +31,7 @@ pub struct Desk {
 
 // A desk of the kind before sittings.
 #[repr(C)]
-#[derive(Drop)]
+#[derive(Clone, Copy)]
 pub struct PlainDesk {
     pub loaded: bool,
     pub nest: Nest,
@@ -41,7 +41,7 @@ pub struct PlainDesk {
 
 // The number and the line of a refusal, 0 and 0 for none, and the desk after the call.
 #[repr(C)]
-#[derive(Drop)]
+#[derive(Clone, Copy)]
 pub struct Reply {
     pub number: u8,
     pub line: usize,
@@ -50,7 +50,7 @@ pub struct Reply {
 
 // The number and the line of a refusal, 0 and 0 for none, and the answer.
 #[repr(C)]
-#[derive(Drop)]
+#[derive(Clone, Copy)]
 pub struct Answer {
     pub number: u8,
     pub line: usize,
@@ -60,7 +60,7 @@ pub struct Answer {
 // The number and the line of a refusal, 0 and 0 for none, and a set: of gaps by the textbook method, of loops by their
 // DOs for the missing runs.
 #[repr(C)]
-#[derive(Drop)]
+#[derive(Clone, Copy)]
 pub struct Chosen {
     pub number: u8,
     pub line: usize,
@@ -68,21 +68,21 @@ pub struct Chosen {
 }
 
 // The number and the line of a refusal.
-#[derive(Drop)]
+#[derive(Clone, Copy)]
 pub struct Fault {
     pub number: u8,
     pub line: usize,
 }
 
 // What the desk says of a placement: the first uncut dependence, or the first loop that is dearer, or best.
-#[derive(Drop)]
+#[derive(Clone, Copy)]
 pub enum Verdict {
     Uncut(usize),
     Dearer(Counts),
     Best,
 }
 
-#[derive(Drop)]
+#[derive(Clone, Copy)]
 pub enum Marked {
     Refused(Fault),
     Given(Verdict),

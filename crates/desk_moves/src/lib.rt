@@ -4,7 +4,7 @@ ghost use Rattle.desk_moves.specs.Ring.{KEPT, before, IsRing, EmptySays, PushSay
 
 // A gap put or lifted.
 #[repr(C)]
-#[derive(Drop)]
+#[derive(Clone, Copy)]
 pub struct Move {
     pub gap: u8,
     pub put: bool,
@@ -13,7 +13,7 @@ pub struct Move {
 // A ring: the latest move stands at `head`, the one before it at the place before, and the last place comes before
 // place 0. There are `many`.
 #[repr(C)]
-#[derive(Drop)]
+#[derive(Clone, Copy)]
 pub struct Moves {
     pub ring: [Move; Moves::KEPT],
     pub head: usize,

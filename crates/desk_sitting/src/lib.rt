@@ -14,7 +14,7 @@ use paper_placements::Placement;
 // The placement; for each dependence how many of its barriers cut it; how many dependences none cuts. A dependence has
 // at most the gaps 1 to 255, so that its count fits a byte.
 #[repr(C)]
-#[derive(Drop)]
+#[derive(Clone, Copy)]
 pub struct Sitting {
     pub placement: Placement,
     pub counts: [u8; Nest::DEPENDENCES],

@@ -39,7 +39,7 @@ use paper_nests::Dependence;
 // Mark's answer in numbers alone: the number and the line of a refusal, or 0 and 0 with the verdict's code. Uncut (0)
 // has a dependence in a; Dearer (1) has a loop in a, their count in b and our count in c; Best is 2. All else is 0.
 #[repr(C)]
-#[derive(Drop)]
+#[derive(Clone, Copy)]
 pub struct Mark {
     pub number: u8,
     pub line: usize,
@@ -51,7 +51,7 @@ pub struct Mark {
 
 // The version of the library, as the file VERSION has it.
 #[repr(C)]
-#[derive(Drop)]
+#[derive(Clone, Copy)]
 pub struct Version {
     pub major: usize,
     pub minor: usize,

@@ -10,7 +10,7 @@ use libc::{EINTR, STDIN_FILENO, STDOUT_FILENO};
 const INTERRUPTS: usize = 65536;
 
 // What standard input gave.
-#[derive(Drop)]
+#[derive(Clone, Copy)]
 enum Input {
     // so many bytes at the start of the buffer: the input ended there, or the buffer is full
     Whole(usize),
@@ -19,7 +19,7 @@ enum Input {
 }
 
 // What one read gave.
-#[derive(Drop)]
+#[derive(Clone, Copy)]
 enum Step {
     // so many bytes
     More(usize),
@@ -32,14 +32,14 @@ enum Step {
 }
 
 // What the reads so far gave: so many bytes at the start of the buffer, and so many interrupts.
-#[derive(Drop)]
+#[derive(Clone, Copy)]
 struct Reads {
     bytes: usize,
     interrupts: usize,
 }
 
 // What follows a read: one more, or the end of the reading.
-#[derive(Drop)]
+#[derive(Clone, Copy)]
 enum Next {
     On(Reads),
     Done(Input),

@@ -1,7 +1,7 @@
 -- Members of lists, and lists gathered over a run of numbers.
 -- Main statements: `no_members`, `among_drop`, `among_front`, `among_back`, `in_here`, `in_later`, `in_cons`,
 -- `each_of`, `every_by`, `in_gathered`, `gathered_in`, `gathered_before`, `every-below`.
-use mathlib.Core.Path.{◌≡◌, refl}
+use mathlib.Core.Path.{◌≡◌, refl, sym, subst}
 use mathlib.Core.Bool.{Bool, true, false, ◌&&◌}
 use mathlib.Core.List.{List, [], ◌∷◌, ◌++◌}
 use mathlib.Core.Logic.{◌⊎◌, inl, inr, ⊎_elim}
@@ -174,7 +174,7 @@ module _ (passes : ℕ → Bool) (value : ℕ → ℕ) (v : ℕ) (ys : List ℕ)
       go true p (z ∷ zs) q r =
           let z_is : value i ≡ z = cc in
           split_later f i zs (z ∷ zs)
-          (λ _. rw z_is (in_here z zs))
+          (λ _. let P : ℕ → Type 0 = λ n. is_in n (z ∷ zs) ≡ true in subst P (sym z_is) (in_here z zs))
           (λ x h. in_later x z zs h)
           (r zs (cc))
       go false p zs q r = split_later f i zs zs (λ h. never_both h p) (λ x h. h) (r zs q)

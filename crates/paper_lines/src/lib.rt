@@ -5,7 +5,7 @@ ghost use Rattle.paper_lines.specs.Reading.{take_digits, line_at, AreValues};
 ghost use Rattle.paper_lines.specs.Writing.{over};
 
 // A frame's first bytes, how many it has, and where the next line starts.
-#[derive(Drop)]
+#[derive(Clone, Copy)]
 pub struct Frame {
     pub kind: u8,
     pub len: usize,
@@ -16,7 +16,7 @@ pub struct Frame {
 }
 
 // A line is either one frame or one refusal.
-#[derive(Drop)]
+#[derive(Clone, Copy)]
 pub enum Read {
     End,
     Refused(u8),

@@ -27,7 +27,7 @@ pub const BARRED: u8 = 19;
 
 // A dependence from point s to point t, independent or carried by the loop of DO d.
 #[repr(C)]
-#[derive(Drop)]
+#[derive(Clone, Copy)]
 pub struct Dependence {
     pub kind: u8,
     pub d: u8,
@@ -38,7 +38,7 @@ pub struct Dependence {
 // A nest: the first `count` points, the first `many` dependences, the first `bars` barred gaps, and the DOs of the first
 // `flags` loops that may not run.
 #[repr(C)]
-#[derive(Drop)]
+#[derive(Clone, Copy)]
 pub struct Nest {
     pub count: usize,
     pub points: [u8; Nest::POINTS],

@@ -14,20 +14,20 @@ use paper_nests::{Dependence, Nest};
 
 // A set of gaps, or of loops by their DOs: gap g, or the loop of DO g, is bit g mod 64 of word g / 64.
 #[repr(C)]
-#[derive(Drop)]
+#[derive(Clone, Copy)]
 pub struct Placement {
     pub words: [u64; 4],
 }
 
 // What the cut test answers: the lowest gap of the placement that cuts the dependence, or none.
-#[derive(Drop)]
+#[derive(Clone, Copy)]
 pub enum Cut {
     By(usize),
     Uncut,
 }
 
 // The counts of a loop in two placements.
-#[derive(Drop)]
+#[derive(Clone, Copy)]
 pub struct Counts {
     pub d: usize,
     pub theirs: usize,
@@ -35,7 +35,7 @@ pub struct Counts {
 }
 
 // What comparing two placements answers: the first loop by its ENDDO at which the counts differ, or none.
-#[derive(Drop)]
+#[derive(Clone, Copy)]
 pub enum Compared {
     Differ(Counts),
     Same,

@@ -23,7 +23,7 @@ use paper_nests::{
 use paper_placements::Placement;
 
 // A nest text's reading: the number and the line of its refusal, 0 and 0 for none, and the nest.
-#[derive(Drop)]
+#[derive(Clone, Copy)]
 pub struct Reading {
     pub number: u8,
     pub line: usize,
@@ -31,7 +31,7 @@ pub struct Reading {
 }
 
 // A placement text's reading: the number and the line of its refusal, 0 and 0 for none, and the placement.
-#[derive(Drop)]
+#[derive(Clone, Copy)]
 pub struct PlacementReading {
     pub number: u8,
     pub line: usize,
@@ -39,7 +39,7 @@ pub struct PlacementReading {
 }
 
 // What a frame of a nest text tells: a point, a dependence, a barred gap, a flagged DO, or nothing that is known.
-#[derive(Drop)]
+#[derive(Clone, Copy)]
 pub enum Piece {
     Point(u8),
     Dependence(Dependence),

@@ -11,7 +11,7 @@ use paper_placements::Placement;
 
 // How two placements stand to each other: whether the first is as good or better than the second, whether the second is
 // as good or better than the first, and the loops that decide between them, by their DOs.
-#[derive(Drop)]
+#[derive(Clone, Copy)]
 pub struct Standing {
     pub first: bool,
     pub second: bool,

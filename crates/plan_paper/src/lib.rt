@@ -17,14 +17,14 @@ use paper_nests::{Dependence, Nest};
 use paper_placements::Placement;
 
 // What planning a paper gives: its key, or that some dependence has all its gaps barred, with no gap for the key.
-#[derive(Drop)]
+#[derive(Clone, Copy)]
 pub struct Planned {
     pub blocked: bool,
     pub key: Placement,
 }
 
 // What renumbering a nest gives: the nest of its unbarred gaps, or that it is blocked, with the nest itself.
-#[derive(Drop)]
+#[derive(Clone, Copy)]
 pub struct Reduced {
     pub blocked: bool,
     pub ring: Nest,

@@ -90,7 +90,7 @@ fn clear(xs: &mut [u16], base: usize, d: usize, e: usize)
 }
 
 // The leftmost front so far, 0 for none, and the suffix that gives it.
-#[derive(Drop)]
+#[derive(Clone, Copy)]
 pub struct Leftmost {
     pub f: u16,
     pub at: u16,

@@ -12,7 +12,7 @@ ghost use Rattle.plan_starts.specs.Started.{Marked, end_after, EventSays, Events
 ghost use Rattle.plan_starts.specs.Started.{MarkRoom, ChildRoom, ChildSays, FollowRoom, StartsRoom};
 
 // Own barriers, and the leftmost barrier.
-#[derive(Drop)]
+#[derive(Clone, Copy)]
 pub struct Front {
     pub c: u16,
     pub f: u16,

@@ -6,7 +6,7 @@ ghost use Rattle.plan_method.specs.Sweep.{seek};
 ghost use Rattle.plan_sweeps.specs.Listed.{Stepped};
 
 // The front after a step over a child, and the bound that the child was asked with.
-#[derive(Drop)]
+#[derive(Clone, Copy)]
 pub struct Step {
     pub c: usize,
     pub f: usize,
