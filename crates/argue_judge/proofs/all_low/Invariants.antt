@@ -1,0 +1,12 @@
+-- `all_low` meets its contract: the points below decide (`LowFrom`).
+use mathlib.Core.Path.{sym, ◌∙◌}
+use native.Mathlib.Omega.{arith}
+use lib.ListN.{length}
+use Rattle.argue_judge.proofs.Ends.{LowFrom, low_start, low_on, low_stop, low_all}
+use Rattle.argue_judge.proofs.all_low.Given as goal
+
+abbrev pub invariant-loop-d : goal.invariant-loop-d
+invariant-loop-d l = LowFrom l.points l.counts l.low.words (length l.points) l.d
+
+abbrev pub decreases-loop-d : goal.decreases-loop-d
+decreases-loop-d l = l.d

@@ -1,0 +1,15 @@
+-- `strike` meets its contract: from the ENDDO down, the gaps behind are done (`Striking`).
+use Prim.Native.Nat.{◌<◌}
+use native.Mathlib.Omega.{arith}
+use lib.ListN.{length}
+use Rattle.paper_nests.specs.Kinds.{POINTS}
+use Rattle.argue_weigh.specs.Striking.{excludes_at}
+use Rattle.argue_weigh.proofs.Strikes.{Striking, strike_start, strike_on, strike_done}
+use Rattle.argue_weigh.proofs.strike.Given as goal
+
+abbrev pub invariant-loop-g : goal.invariant-loop-g
+invariant-loop-g l =
+    Striking (excludes_at l.a l.b l.exact l.most l.owners l.times l.d) l.d l.e l.initial.struck l.g l.struck
+
+abbrev pub decreases-loop-g : goal.decreases-loop-g
+decreases-loop-g l = l.g

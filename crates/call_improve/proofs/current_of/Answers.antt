@@ -1,0 +1,104 @@
+use mathlib.Core.Path.{◌≡◌, refl, ◌∙◌}
+use Prim.Native.Nat.{◌-◌, ◌≤◌, ◌<◌}
+use native.Mathlib.Omega.{arith}
+use lib.ListN.{length}
+use borrow.Author.Rules.{rules}
+use Rattle.laws.proofs.Copies.{copies, copies_at}
+use Rattle.paper_nests.specs.Kinds.{POINTS, DEPENDENCES}
+use Rattle.paper_nests.specs.Stored.{nest_in}
+use Rattle.paper_placements.specs.Words.{gaps_in}
+use Rattle.paper_gaps.proofs.Lies.{found_lies}
+use Rattle.call_improve.specs.Tops.{top_at}
+use Rattle.call_improve.proofs.Chains.{Chaining, chain_start, chain_on, chain_done, top_told, top_low}
+use Rattle.run_count.proofs.Timing.{entry}
+use Rattle.call_improve.proofs.current_of.Goals as goal
+
+pub loop-i-init : goal.loop-i-init
+unfolding copies
+loop-i-init c =
+    let many = c.args.nest.many in
+    chain_start (nest_in c.args.nest) (gaps_in c.args.p.words) many (copies 256 many) (copies 512 many)
+    c.requires.with_ends.counted.many_is refl refl
+    (λ h p. entry (copies 256 many) h 0 many p ∙ copies_at 256 many h)
+
+pub highest-h-requires : goal.highest-h-requires
+highest-h-requires c =
+    let there : c.loop-i.i - 1 < c.args.nest.many = omega (arith, c.loop-i.invariant.within, c.requires.with_ends.counted.many_is) in
+    found_lies c.requires.with_ends (there)
+
+pub offset_bounds-first-h : goal.offset_bounds-first-h
+offset_bounds-first-h c =
+    let there : c.loop-i.i - 1 < c.args.nest.many = omega (arith, c.loop-i.invariant.within, c.requires.with_ends.counted.many_is) in
+    let told : let a = c.args in
+    let n = nest_in a.t1 in
+    c.highest-h.result ≡ top_at n.points n.deps (gaps_in a.p.words) (c.loop-i.i - 1) = top_told c.requires.with_ends c.args.p.words c.requires.words_value c.requires.words_value_2 (there) c.latest_of-latest.result
+    c.highest-h.result c.latest_of-latest.ensures c.highest-h.ensures in
+    let low : c.highest-h.result < POINTS = omega (
+      arith,
+      told,
+      top_low c.requires.with_ends c.args.p.words c.requires.words_value c.requires.words_value_2 (there),
+    ) in
+    omega (arith, low)
+
+pub bounds-first-h : goal.bounds-first-h
+bounds-first-h c =
+    let there : c.loop-i.i - 1 < c.args.nest.many = omega (arith, c.loop-i.invariant.within, c.requires.with_ends.counted.many_is) in
+    let told : let a = c.args in
+    let n = nest_in a.t1 in
+    c.highest-h.result ≡ top_at n.points n.deps (gaps_in a.p.words) (c.loop-i.i - 1) = top_told c.requires.with_ends c.args.p.words c.requires.words_value c.requires.words_value_2 (there) c.latest_of-latest.result
+    c.highest-h.result c.latest_of-latest.ensures c.highest-h.ensures in
+    let low : c.highest-h.result < POINTS = omega (
+      arith,
+      told,
+      top_low c.requires.with_ends c.args.p.words c.requires.words_value c.requires.words_value_2 (there),
+    ) in
+    omega (arith, low)
+
+pub offset_bounds-first-h-in-loop-i : goal.offset_bounds-first-h-in-loop-i
+offset_bounds-first-h-in-loop-i c =
+    let there : c.loop-i.i - 1 < c.args.nest.many = omega (arith, c.loop-i.invariant.within, c.requires.with_ends.counted.many_is) in
+    let told : let a = c.args in
+    let n = nest_in a.t1 in
+    c.highest-h.result ≡ top_at n.points n.deps (gaps_in a.p.words) (c.loop-i.i - 1) = top_told c.requires.with_ends c.args.p.words c.requires.words_value c.requires.words_value_2 (there) c.latest_of-latest.result
+    c.highest-h.result c.latest_of-latest.ensures c.highest-h.ensures in
+    let low : c.highest-h.result < POINTS = omega (
+      arith,
+      told,
+      top_low c.requires.with_ends c.args.p.words c.requires.words_value c.requires.words_value_2 (there),
+    ) in
+    omega (arith, low)
+
+pub bounds-first-h-in-loop-i : goal.bounds-first-h-in-loop-i
+bounds-first-h-in-loop-i c =
+    let there : c.loop-i.i - 1 < c.args.nest.many = omega (arith, c.loop-i.invariant.within, c.requires.with_ends.counted.many_is) in
+    let told : let a = c.args in
+    let n = nest_in a.t1 in
+    c.highest-h.result ≡ top_at n.points n.deps (gaps_in a.p.words) (c.loop-i.i - 1) = top_told c.requires.with_ends c.args.p.words c.requires.words_value c.requires.words_value_2 (there) c.latest_of-latest.result
+    c.highest-h.result c.latest_of-latest.ensures c.highest-h.ensures in
+    let low : c.highest-h.result < POINTS = omega (
+      arith,
+      told,
+      top_low c.requires.with_ends c.args.p.words c.requires.words_value c.requires.words_value_2 (there),
+    ) in
+    omega (arith, low)
+
+pub loop-i-preserved : goal.loop-i-preserved
+loop-i-preserved c =
+    let there : c.loop-i.i - 1 < c.args.nest.many = omega (arith, c.loop-i.invariant.within, c.requires.with_ends.counted.many_is) in
+    let told : let a = c.args in
+    let n = nest_in a.t1 in
+    c.highest-h.result ≡ top_at n.points n.deps (gaps_in a.p.words) (c.loop-i.i - 1) = top_told c.requires.with_ends c.args.p.words c.requires.words_value c.requires.words_value_2 (there) c.latest_of-latest.result
+    c.highest-h.result c.latest_of-latest.ensures c.highest-h.ensures in
+    let low : c.highest-h.result < POINTS = omega (
+      arith,
+      told,
+      top_low c.requires.with_ends c.args.p.words c.requires.words_value c.requires.words_value_2 (there),
+    ) in
+    let w = c.requires.with_ends in
+    let few : length (nest_in c.args.nest).deps ≤ DEPENDENCES =
+    omega (arith, w.counted.many_is, w.counted.many_fits) in
+    rw (told) (chain_on c.loop-i.invariant c.loop-i-test.true few (rw (told) at (low)))
+
+pub returns : goal.returns
+returns c =
+    record { placement_is = refl; calls_are = refl; chained = chain_done c.loop-i.invariant c.loop-i-test.false }

@@ -1,0 +1,166 @@
+use mathlib.Core.Path.{◌≡◌, sym, ap, subst}
+use mathlib.Core.List.{List}
+use Prim.Native.Nat.{ℕ, ◌+◌, ◌-◌, ◌^◌, ◌<◌}
+use native.Mathlib.Omega.{arith}
+use mir.Syntax.{w64}
+use mir.Val.{Fits}
+use borrow.Author.Rules.{rules}
+use Rattle.paper_nests.specs.declared.Nest as DN
+use Rattle.paper_nests.specs.Stored.{nest_in}
+use Rattle.paper_nests.proofs.Stored.{counted_points}
+use Rattle.paper_placements.specs.declared.Placement as DP
+use Rattle.paper_placements.specs.Words.{gaps_in}
+use Rattle.paper_gaps.specs.Lies.{WithEnds}
+use Rattle.run_count.specs.Times.{HasTimes}
+use Rattle.call_improve.specs.declared.Current as DU
+use Rattle.call_improve.specs.Steps.{SearchAsks}
+use Rattle.call_improve.proofs.RoundTurns.{with_ends, some_points, turns_asked, few_times, calls_fit}
+use Rattle.call_improve.proofs.RoundTurns.{Searching, search_start, search_asks, try_sound, search_taken}
+use Rattle.call_improve.proofs.RoundTurns.{search_kept, search_budget, search_round}
+use Rattle.call_improve.proofs.improve_key.Goals as goal
+
+-- what stands at the head of the loop
+module _ (c : tie.At-loop invariant-loop decreases-loop) where
+  abbrev started : tie.Start invariant-loop decreases-loop
+  started = planned c.before.before
+
+  abbrev nest : DN.Nest
+  nest = started.args.nest
+
+  abbrev turns : List ℕ
+  turns = started.args.turns.now
+
+  abbrev key : DP.Placement
+  key = started.args.key
+
+  abbrev budget : ℕ
+  budget = started.args.budget
+
+  abbrev times : List ℕ
+  times = c.before.before.before.before.before.before.before.before.before.before.before.times-of.result
+
+  asks : SearchAsks nest key turns
+  asks = started.pre
+
+  has : HasTimes (nest_in nest).points turns times
+  has = c.before.before.before.before.before.before.before.before.before.before.before.times-of.ensures
+
+  ended : WithEnds nest c.before.before.before.before.before.before.before.before.before.ends_of.result
+  ended =
+      let ends = c.before.before.before.before.before.before.before.before.before.ends_of in
+      with_ends asks ends.result ends.ensures
+
+  -- the loop's invariant names the key as it was placed at the start
+  placed : gaps_in c.before.before.current-of.result.placement.words ≡ gaps_in key.words
+  placed = ap (λ (q : DP.Placement). gaps_in q.words) c.before.before.current-of.ensures.placement_is
+
+  held : Searching nest turns (gaps_in key.words) budget c.loop.current c.loop.tries c.loop.g
+  held =
+      subst
+      (λ (x : List ℕ). Searching nest turns x budget c.loop.current c.loop.tries c.loop.g)
+      placed
+      c.loop.invariant
+
+  from_start
+      : (current : DU.Current) (tries g : ℕ)
+      → Searching nest turns (gaps_in key.words) budget current tries g
+      → Searching nest turns (gaps_in c.before.before.current-of.result.placement.words) budget current tries g
+  from_start current tries g s =
+      subst (λ (x : List ℕ). Searching nest turns x budget current tries g) (sym placed) s
+
+pub slice_bounds-points-end : goal.slice_bounds-points-end
+slice_bounds-points-end c = counted_points c.args.nest c.requires.counted
+
+pub slice_bounds-times_of-end : goal.slice_bounds-times_of-end
+slice_bounds-times_of-end c = c.requires.counted.count_is
+
+pub times_of-times-requires : goal.times_of-times-requires
+times_of-times-requires c = turns_asked c.requires
+
+pub slice_bounds-points-end-2 : goal.slice_bounds-points-end-2
+slice_bounds-points-end-2 c = counted_points c.args.nest c.requires.counted
+
+pub slice_bounds-ends_of-end : goal.slice_bounds-ends_of-end
+slice_bounds-ends_of-end c = c.requires.counted.count_is
+
+pub ends_of-ends-requires : goal.ends_of-ends-requires
+ends_of-ends-requires c =
+    let p = c.requires.counted in
+    omega (arith, p.count_is, p.count_fits)
+
+pub floor_of-floor-requires : goal.floor_of-floor-requires
+floor_of-floor-requires c =
+    let p = c.requires in record { with_ends = with_ends p c.ends_of-ends.result c.ends_of-ends.ensures; few_times = few_times p c.times_of-times.result c.times_of-times.ensures }
+
+pub sum_at-calls-requires : goal.sum_at-calls-requires
+sum_at-calls-requires c =
+    calls_fit c.requires c.times_of-times.result c.times_of-times.ensures (gaps_in c.args.key.words)
+    (rw c.requires.counted.count_is c.requires.gaps_fit)
+
+pub current_of-current-requires : goal.current_of-current-requires
+current_of-current-requires c =
+    let p = c.requires in record { with_ends = with_ends p c.ends_of-ends.result c.ends_of-ends.ensures; words_value = p.gaps_fit; words_value_2 = p.all_cut }
+
+pub free_from-g-requires : goal.free_from-g-requires
+free_from-g-requires c =
+    let p = c.requires in
+    (some_points p, p.counted.count_fits)
+
+pub loop-g-init : goal.loop-g-init
+loop-g-init c =
+    subst
+    (λ (x : List ℕ).
+    Searching c.args.nest c.args.turns.now x c.args.budget c.current_of-current.result 0 c.free_from-g.result)
+    (sym (ap (λ (q : DP.Placement). gaps_in q.words) c.current_of-current.ensures.placement_is))
+    (search_start c.requires c.times_of-times.result c.times_of-times.ensures c.args.budget c.current_of-current.result c.sum_at-calls.result
+    c.free_from-g.result c.sum_at-calls.ensures c.current_of-current.ensures c.free_from-g.ensures)
+
+pub returns-then-tries-budget : goal.returns-then-tries-budget
+returns-then-tries-budget c =
+    search_budget (asks ⟪place⟫) (times ⟪place⟫) (has ⟪place⟫) (budget ⟪place⟫) (held ⟪place⟫) c.loop-g-test.true c.floor_of-floor.result
+    c.outcome_of.result c.if-tries-budget.true c.floor_of-floor.ensures c.outcome_of.ensures
+
+pub try_at-tried-requires : goal.try_at-tried-requires
+try_at-tried-requires c =
+    record { with_ends = ended ⟪place⟫; try_asks = search_asks (asks ⟪place⟫) (times ⟪place⟫) (has ⟪place⟫) (budget ⟪place⟫) (held ⟪place⟫) c.loop-g-test.true }
+
+pub overflow_add-tries : goal.overflow_add-tries
+overflow_add-tries c =
+    let budget-fits : c.args.budget < 2 ^ 64 = let f : Fits w64 c.args.budget = search rules in
+    f.fits in
+    omega (arith, (held ⟪place⟫).used, c.if-tries-budget.false, budget-fits (started ⟪place⟫))
+
+pub current_of-current-requires-then-found-before : goal.current_of-current-requires-then-found-before
+current_of-current-requires-then-found-before c = (
+  ended ⟪place⟫,
+  try_sound (asks ⟪place⟫) (times ⟪place⟫) (has ⟪place⟫) (budget ⟪place⟫) (held ⟪place⟫) c.loop-g-test.true c.try_at-tried.result c.try_at-tried.ensures,
+)
+
+pub free_from-g-requires-then-found-before : goal.free_from-g-requires-then-found-before
+free_from-g-requires-then-found-before _ =
+    let p = asks ⟪place⟫ in
+    (some_points p, p.counted.count_fits)
+
+pub loop-g-preserved-then-found-before : goal.loop-g-preserved-then-found-before
+loop-g-preserved-then-found-before c =
+    from_start ⟪place⟫ c.current_of-current-then-found-before.result (c.loop-g.tries + 1) c.free_from-g-then-found-before.result
+    (search_taken (asks ⟪place⟫) (times ⟪place⟫) (has ⟪place⟫) (budget ⟪place⟫) (held ⟪place⟫) c.loop-g-test.true c.try_at-tried.result c.try_at-tried.ensures
+    c.current_of-current-then-found-before.result c.free_from-g-then-found-before.result c.if-tries-budget.false (omega (arith, c.if-found-before.true)) c.current_of-current-then-found-before.ensures
+    c.free_from-g-then-found-before.ensures)
+
+pub overflow_add-g : goal.overflow_add-g
+overflow_add-g c = omega (arith, c.loop-g-test.true, (asks ⟪place⟫).counted.count_fits)
+
+pub free_from-g-requires-else-found-before : goal.free_from-g-requires-else-found-before
+free_from-g-requires-else-found-before c = (omega (arith, c.loop-g-test.true), (asks ⟪place⟫).counted.count_fits)
+
+pub loop-g-preserved : goal.loop-g-preserved
+loop-g-preserved c =
+    from_start ⟪place⟫ c.loop-g.current (c.loop-g.tries + 1) c.free_from-g-else-found-before.result
+    (search_kept (asks ⟪place⟫) (times ⟪place⟫) (has ⟪place⟫) (budget ⟪place⟫) (held ⟪place⟫) c.loop-g-test.true c.try_at-tried.result c.try_at-tried.ensures
+    c.free_from-g-else-found-before.result c.if-tries-budget.false (omega (arith, c.if-found-before.false)) c.free_from-g-else-found-before.ensures)
+
+pub returns : goal.returns
+returns c =
+    search_round (asks ⟪place⟫) (times ⟪place⟫) (has ⟪place⟫) (budget ⟪place⟫) (held ⟪place⟫) c.floor_of-floor.result c.outcome_of-2.result
+    c.loop-g-test.false c.floor_of-floor.ensures c.outcome_of-2.ensures

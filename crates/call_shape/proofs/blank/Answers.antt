@@ -1,0 +1,15 @@
+-- `blank` meets its contract: each table has one value, 0.
+use mathlib.Core.Path.{refl}
+use Rattle.laws.proofs.Copies.{copies, copies_at}
+use Rattle.call_shape.proofs.blank.Goals as goal
+
+pub returns : goal.returns
+unfolding copies
+returns _ =
+    record {
+      number_is = refl;
+      line_is = refl;
+      no_owners = copies_at 256 0;
+      no_ends = copies_at 256 0;
+      no_depths = copies_at 256 0;
+    }

@@ -1,0 +1,18 @@
+-- `longest` meets its contract. The invariant: the best so far is the longest of the processors below p.
+use mathlib.Core.Path.{◌≡◌, refl, ◌∙◌}
+use mathlib.Core.Bool.{true}
+use Prim.Native.Nat.{◌+◌, ◌-◌, ◌≤◌}
+use native.Mathlib.Omega.{arith}
+use lib.ListN.{get_or}
+use borrow.Author.Rules.{rules}
+use Rattle.call_sheet.specs.Sheets.{anyone, latest}
+use Rattle.call_sheet.specs.Says.{LONGEST, longest_from}
+use Rattle.call_sheet.proofs.Passing.{latest_more}
+use Rattle.call_sheet.proofs.longest.Given as goal
+
+abbrev pub invariant-loop-p : goal.invariant-loop-p
+invariant-loop-p l =
+    (l.p ≤ l.processors) × (l.best ≡ longest_from l.durations l.from l.p) × (l.best ≤ LONGEST)
+
+abbrev pub decreases-loop-p : goal.decreases-loop-p
+decreases-loop-p l = l.processors - l.p

@@ -1,0 +1,18 @@
+-- `blank` meets its contract: no gap, and each table has one value, 0.
+use mathlib.Core.Path.{refl}
+use borrow.Author.Rules.{rules}
+use Rattle.laws.proofs.Copies.{copies, copies_at}
+use Rattle.paper_placements.proofs.Words.{gaps_none}
+use Rattle.call_standing.proofs.blank.Goals as goal
+
+pub returns : goal.returns
+unfolding copies
+returns c =
+    record {
+      number_is = refl;
+      line_is = refl;
+      no_gaps = gaps_none _ (λ i l. c.empty.ensures i);
+      no_counts = copies_at 256 0;
+      no_cuts = copies_at 512 0;
+      none_uncut = refl;
+    }

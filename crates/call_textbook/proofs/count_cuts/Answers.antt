@@ -1,0 +1,21 @@
+use Prim.Native.Nat.{◌+◌, ◌-◌}
+use native.Mathlib.Omega.{arith}
+use Rattle.laws.specs.Entries.{at}
+use Rattle.call_textbook.proofs.Cutting.{Counting, counting_start, counting_cut, counting_pass, counting_done}
+use Rattle.call_textbook.proofs.count_cuts.Goals as goal
+
+pub loop-p-init : goal.loop-p-init
+loop-p-init c =
+    let a = c.args in counting_start (at a.latest.now) a.m a.g c.requires.g_nonzero.0 c.requires.g_nonzero.1
+
+pub overflow_add-cuts : goal.overflow_add-cuts
+overflow_add-cuts c = omega (arith, c.loop-p.invariant.few)
+
+pub loop-p-preserved-then-last-latest : goal.loop-p-preserved-then-last-latest
+loop-p-preserved-then-last-latest c = counting_cut c.loop-p.invariant (omega arith) (omega arith)
+
+pub loop-p-preserved : goal.loop-p-preserved
+loop-p-preserved c = counting_pass c.loop-p.invariant (omega arith) (omega arith)
+
+pub returns : goal.returns
+returns c = counting_done c.loop-p.invariant (omega arith)

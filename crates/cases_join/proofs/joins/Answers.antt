@@ -1,0 +1,8 @@
+-- `joins` is safe: the written part lies within the buffer, by the test.
+use native.Mathlib.Omega.{arith}
+use lib.ListN.{length-take}
+use borrow.Author.Rules.{rules}
+use Rattle.cases_join.proofs.joins.Goals as goal
+
+pub slice_bounds-same-end : goal.slice_bounds-same-end
+slice_bounds-same-end c = simp length-take (omega arith)

@@ -1,0 +1,9 @@
+-- `after_load` meets its contract: its desk is made by calls (`made_load`).
+use borrow.Author.Rules.{rules}
+use Rattle.desk.proofs.Made.{made_load}
+use Rattle.cases_replies.proofs.after_load.Goals as goal
+
+pub returns : goal.returns
+returns c =
+    let a = c.args in
+    made_load a.desk a.text.now c.load_nest-reply.result c.requires c.load_nest-reply.ensures

@@ -1,0 +1,9 @@
+-- `reset` meets its contract: the desk that it returns is a new one.
+use borrow.Author.Rules.{rules}
+use Rattle.desk.specs.Says.{EmptySays}
+use Rattle.desk.proofs.reset.Goals as goal
+
+pub returns : goal.returns
+returns c =
+    let new : EmptySays c.empty-blank.result = c.empty-blank.ensures in
+    new

@@ -1,0 +1,16 @@
+-- Each turn takes four bytes as one record (proofs/Bytes); what is left over is one of no kind.
+use Prim.Native.Nat.{◌-◌}
+use native.Mathlib.Omega.{arith}
+use lib.ListN.{length}
+use Rattle.desk.specs.Desks.{desk_in}
+use Rattle.host.specs.Records.{records_of}
+use Rattle.call_list.proofs.Steps.{steps_say}
+use Rattle.host.proofs.Bytes.{Taken, taken_none, taken_one, taken_left, taken_all}
+use borrow.Author.Rules.{rules}
+use Rattle.host.proofs.desk_list.Given as goal
+
+abbrev pub invariant-loop-at : goal.invariant-loop-at
+invariant-loop-at l = Taken (desk_in l.desk) l.list l.i l.at l.found
+
+abbrev pub decreases-loop-at : goal.decreases-loop-at
+decreases-loop-at l = length l.list - l.at

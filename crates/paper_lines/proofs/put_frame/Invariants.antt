@@ -1,0 +1,16 @@
+-- After i bytes the buffer holds their digits over what it held.
+use mathlib.Core.Path.{◌≡◌, refl}
+use Prim.Native.Nat.{◌-◌, ◌≤◌}
+use native.Mathlib.Omega.{arith}
+use lib.ListN.{length, take, length-set}
+use Rattle.paper_lines.specs.Lines.{digits_of}
+use Rattle.paper_lines.specs.Writing.{over}
+use Rattle.paper_lines.proofs.Writing.{text-length, byte_on, feed_on}
+use Rattle.paper_lines.proofs.put_frame.Given as goal
+
+abbrev pub invariant-loop-i : goal.invariant-loop-i
+invariant-loop-i l =
+    (l.i ≤ length l.frame) × (length l.out ≡ length l.initial.out) × (l.out ≡ over (digits_of (take l.i l.frame)) l.initial.out)
+
+abbrev pub decreases-loop-i : goal.decreases-loop-i
+decreases-loop-i l = length l.frame - l.i

@@ -1,0 +1,121 @@
+use mathlib.Core.Path.{◌≡◌, sym, ◌∙◌}
+use mathlib.Core.Bool.{true}
+use Prim.Native.Nat.{◌-◌}
+use native.Mathlib.Omega.{arith}
+use lib.ListN.{length, get_or}
+use borrow.Author.Tests.{eq-eqb}
+use Rattle.paper_nests.specs.Nests.{Nest}
+use Rattle.paper_nests.specs.Loops.{is_end}
+use Rattle.paper_nests.proofs.Levels.{end_not_first}
+use Rattle.paper_nests.proofs.Loops.{end_has_do, owner_is_do}
+use Rattle.paper_placements.specs.Placements.{loop_count}
+use Rattle.paper_placements.specs.Words.{gaps_in}
+use Rattle.paper_placements.proofs.Masked.{count_masked}
+use Rattle.paper_placements.proofs.Comparing.{Compares, compare_start, compare_other, compare_done}
+use Rattle.paper_placements.proofs.Comparing.{compare_same, compare_differ}
+use Rattle.paper_placements.proofs.compare.Goals as goal
+
+pub loop-e-init : goal.loop-e-init
+loop-e-init c =
+    let a = c.args in
+    compare_start a.points.now (gaps_in a.key.words) (gaps_in a.other.words)
+
+pub loop_of-d-requires : goal.loop_of-d-requires
+loop_of-d-requires c =
+    let ends : is_end c.args.points.now c.loop-e.e ≡ true = eq-eqb (get_or c.args.points.now c.loop-e.e 0) 2 c.if-points-e-eq-ENDDO.true in
+    let ps = c.args.points.now in
+    let s = c.requires.points_value.0 in record { points_value = s; g_nonzero = (end_not_first ps s c.loop-e.e (ends), c.loop-e-test.true) }
+
+pub loop_mask-mask-requires : goal.loop_mask-mask-requires
+loop_mask-mask-requires c =
+    let ends : is_end c.args.points.now c.loop-e.e ≡ true = eq-eqb (get_or c.args.points.now c.loop-e.e 0) 2 c.if-points-e-eq-ENDDO.true in
+    let ps = c.args.points.now in
+    let s = c.requires.points_value.0 in
+    let e = c.loop-e.e in
+    let f = end_not_first ps s e (ends) in
+    let o = c.loop_of-d.ensures in record { points_value = c.requires.points_value; d_value = (rw o (owner_is_do ps s e f c.loop-e-test.true), rw o (sym (end_has_do ps s e (ends)))) }
+
+pub returns-then-ours-theirs : goal.returns-then-ours-theirs
+returns-then-ours-theirs c =
+    let ours : (n : Nest) → let a = c.args in
+    n.points ≡ a.points.now →
+    c.loop_count-ours.result ≡ loop_count n (gaps_in a.key.words) c.loop_of-d.result = λ n same. let a = c.args in
+    c.loop_count-ours.ensures ∙
+    count_masked n a.key.words c.loop_mask-mask.result.words c.loop_of-d.result
+    (rw same c.requires.words_value) (rw same c.loop_mask-mask.ensures) in
+    let theirs : (n : Nest) → let a = c.args in
+    n.points ≡ a.points.now →
+    c.loop_count-theirs.result ≡ loop_count n (gaps_in a.other.words) c.loop_of-d.result = λ n same. let a = c.args in
+    c.loop_count-theirs.ensures ∙
+    count_masked n a.other.words c.loop_mask-mask.result.words c.loop_of-d.result
+    (rw same c.requires.words_value_2) (rw same c.loop_mask-mask.ensures) in
+    let a = c.args in
+    λ n same.
+    compare_differ
+    a.points.now
+    (gaps_in a.key.words)
+    (gaps_in a.other.words)
+    c.loop-e.e
+    c.loop-e.invariant
+    c.loop-e-test.true
+    c.if-points-e-eq-ENDDO.true
+    c.loop_of-d.result
+    c.loop_of-d.ensures
+    n
+    c.loop_count-ours.result
+    c.loop_count-theirs.result
+    same
+    (ours n same)
+    (theirs n same)
+    c.if-ours-theirs.true
+
+pub overflow_add-e : goal.overflow_add-e
+overflow_add-e c = omega (arith, c.loop-e-test.true)
+
+pub loop-e-smaller-then-points-e-eq-ENDDO : goal.loop-e-smaller-then-points-e-eq-ENDDO
+loop-e-smaller-then-points-e-eq-ENDDO c = omega (arith, c.loop-e-test.true)
+
+pub loop-e-preserved-then-points-e-eq-ENDDO : goal.loop-e-preserved-then-points-e-eq-ENDDO
+loop-e-preserved-then-points-e-eq-ENDDO c =
+    let ours : (n : Nest) → let a = c.args in
+    n.points ≡ a.points.now →
+    c.loop_count-ours.result ≡ loop_count n (gaps_in a.key.words) c.loop_of-d.result = λ n same. let a = c.args in
+    c.loop_count-ours.ensures ∙
+    count_masked n a.key.words c.loop_mask-mask.result.words c.loop_of-d.result
+    (rw same c.requires.words_value) (rw same c.loop_mask-mask.ensures) in
+    let theirs : (n : Nest) → let a = c.args in
+    n.points ≡ a.points.now →
+    c.loop_count-theirs.result ≡ loop_count n (gaps_in a.other.words) c.loop_of-d.result = λ n same. let a = c.args in
+    c.loop_count-theirs.ensures ∙
+    count_masked n a.other.words c.loop_mask-mask.result.words c.loop_of-d.result
+    (rw same c.requires.words_value_2) (rw same c.loop_mask-mask.ensures) in
+    let a = c.args in
+    compare_same
+    a.points.now
+    (gaps_in a.key.words)
+    (gaps_in a.other.words)
+    c.loop-e.e
+    c.loop-e.invariant
+    c.loop-e-test.true
+    c.if-points-e-eq-ENDDO.true
+    c.loop_of-d.result
+    c.loop_of-d.ensures
+    (λ n same. sym (ours n same) ∙ c.if-ours-theirs.false ∙ theirs n same)
+
+pub loop-e-preserved : goal.loop-e-preserved
+loop-e-preserved c =
+    let a = c.args in
+    compare_other
+    a.points.now
+    (gaps_in a.key.words)
+    (gaps_in a.other.words)
+    c.loop-e.e
+    c.loop-e.invariant
+    c.loop-e-test.true
+    c.if-points-e-eq-ENDDO.false
+
+pub returns : goal.returns
+returns c =
+    let a = c.args in
+    compare_done a.points.now (gaps_in a.key.words) (gaps_in a.other.words) c.loop-e.e c.loop-e.invariant
+    c.loop-e-test.false

@@ -1,0 +1,12 @@
+-- `set_of` meets its contract: from the last number to the first, each is put into the set (`SetFrom`).
+use Prim.Native.Nat.{◌-◌}
+use native.Mathlib.Omega.{arith}
+use borrow.Author.Rules.{rules}
+use Rattle.paper_placements.proofs.Sets.{SetFrom, set_none, set_on, set_done}
+use Rattle.paper_placements.proofs.set_of.Given as goal
+
+abbrev pub invariant-loop-i : goal.invariant-loop-i
+invariant-loop-i l = SetFrom l.all l.count l.i l.set.words
+
+abbrev pub decreases-loop-i : goal.decreases-loop-i
+decreases-loop-i l = l.i

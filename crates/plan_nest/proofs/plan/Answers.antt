@@ -1,0 +1,153 @@
+-- `plan` meets its contract: the tables are what settling and laying ask, and what loop 0 lays is the key (Planning).
+use Prim.Native.Nat.{◌≤◌, ◌<◌}
+use native.Mathlib.Omega.{arith}
+use lib.ListN.{length}
+use Rattle.laws.proofs.Copies.{copies}
+use Rattle.paper_nests.specs.Kinds.{POINTS}
+use Rattle.paper_nests.specs.Stored.{nest_in}
+use Rattle.paper_nests.proofs.Levels.{starts_with_do}
+use Rattle.paper_nests.proofs.Loops.{end-after, outermost}
+use Rattle.plan_tables.proofs.Preparing.{count_there, unowned_filled, blank_filled, points_of, fits_of}
+use Rattle.plan_nest.proofs.Planning.{charts, choices, key, top_height, unset_top}
+use borrow.Author.Rules.{rules}
+use Rattle.plan_nest.proofs.plan.Goals as goal
+
+pub overflow_cast-high : goal.overflow_cast-high
+overflow_cast-high c =
+    let n = c.args.nest in
+    omega (arith, c.requires.counted.count_is, (points_of (nest_in n) c.requires.nest_value).few)
+
+pub prepare-requires : goal.prepare-requires
+unfolding copies
+prepare-requires c =
+    let n = c.args.nest in record { counted = c.requires.counted; points = points_of (nest_in n) c.requires.nest_value; all_fit = fits_of (nest_in n) c.requires.nest_value; chart_room = record { own_room = omega arith; ends_room = omega arith; heights_room = omega arith }; lines_room = record { reach_room = omega arith; limit_room = omega arith; has_room = omega arith }; unowned = unowned_filled; blank = blank_filled n.count (length (nest_in n).points) c.requires.counted.count_is }
+
+pub overflow_sub-n : goal.overflow_sub-n
+overflow_sub-n c =
+    let there : (1 < c.args.nest.count) × (c.args.nest.count ≤ POINTS) = let n = nest_in c.args.nest in
+    let w = points_of n c.requires.nest_value in
+    let l = end-after n.points w.shape 0 (starts_with_do n.points w.shape) in
+    (omega (arith, c.requires.counted.count_is, outermost n.points w.shape), omega (arith, c.requires.counted.count_is, w.few)) in
+    let s = there in
+    omega arith
+
+pub clear_rows-requires : goal.clear_rows-requires
+clear_rows-requires c =
+    let there : (1 < c.args.nest.count) × (c.args.nest.count ≤ POINTS) = let n = nest_in c.args.nest in
+    let w = points_of n c.requires.nest_value in
+    let l = end-after n.points w.shape 0 (starts_with_do n.points w.shape) in
+    (omega (arith, c.requires.counted.count_is, outermost n.points w.shape), omega (arith, c.requires.counted.count_is, w.few)) in
+    let s = there in
+    search rules
+
+pub overflow_sub-n-2 : goal.overflow_sub-n-2
+overflow_sub-n-2 c =
+    let there : (1 < c.args.nest.count) × (c.args.nest.count ≤ POINTS) = let n = nest_in c.args.nest in
+    let w = points_of n c.requires.nest_value in
+    let l = end-after n.points w.shape 0 (starts_with_do n.points w.shape) in
+    (omega (arith, c.requires.counted.count_is, outermost n.points w.shape), omega (arith, c.requires.counted.count_is, w.few)) in
+    let s = there in omega arith
+
+pub clear_rows-requires-2 : goal.clear_rows-requires-2
+clear_rows-requires-2 c =
+    let there : (1 < c.args.nest.count) × (c.args.nest.count ≤ POINTS) = let n = nest_in c.args.nest in
+    let w = points_of n c.requires.nest_value in
+    let l = end-after n.points w.shape 0 (starts_with_do n.points w.shape) in
+    (omega (arith, c.requires.counted.count_is, outermost n.points w.shape), omega (arith, c.requires.counted.count_is, w.few)) in
+    let s = there in search rules
+
+pub slice_bounds-points-end : goal.slice_bounds-points-end
+slice_bounds-points-end c = count_there c.args.nest.count c.args.nest.points c.requires.counted.count_is
+
+pub settle-requires : goal.settle-requires
+settle-requires c =
+    let n = c.args.nest in
+    let ps = (nest_in n).points in
+    let ds = (nest_in n).deps in
+    let w = points_of (nest_in n) c.requires.nest_value in
+    let own = c.prepare.last.1.0 in
+    let ends = c.prepare.last.1.1.0 in
+    let heights = c.prepare.last.1.1.1.0 in
+    let reach = c.prepare.last.1.1.1.1.0 in
+    let limit = c.prepare.last.1.1.1.1.1.0 in
+    let has = c.prepare.last.1.1.1.1.1.1.0 in record {
+      lists_room = record { need_room = omega arith; cs_room = omega arith; fs_room = omega arith; link_room = omega arith };
+      charts = charts ps ds own ends heights reach limit has w c.prepare.ensures (omega (arith, c.prepare.kept.1.0))
+          (omega (arith, c.prepare.kept.1.1.0));
+      room = record {
+        reach_room = omega (arith, c.prepare.kept.1.1.1.1.0);
+        limit_room = omega (arith, c.prepare.kept.1.1.1.1.1.0);
+        has_room = omega (arith, c.prepare.kept.1.1.1.1.1.1.0);
+        left_room = omega (arith, c.clear_rows.kept.0);
+        choice_room = omega (arith, c.clear_rows-2.auto.xs);
+      };
+      d_value = starts_with_do ps w.shape;
+      has_height = top_height ps;
+      unset = unset_top ps w.shape c.requires.counted.count_is c.clear_rows.ensures;
+      unset_2 = unset_top ps w.shape c.requires.counted.count_is c.clear_rows-2.ensures;
+    }
+
+pub slice_bounds-points-end-2 : goal.slice_bounds-points-end-2
+slice_bounds-points-end-2 c = count_there c.args.nest.count c.args.nest.points c.requires.counted.count_is
+
+pub slice_bounds-lay-end : goal.slice_bounds-lay-end
+slice_bounds-lay-end c = c.requires.counted.count_is
+
+pub slice_bounds-lay-end-2 : goal.slice_bounds-lay-end-2
+slice_bounds-lay-end-2 c = omega (arith, c.prepare.kept.1.0)
+
+pub slice_bounds-lay-end-3 : goal.slice_bounds-lay-end-3
+slice_bounds-lay-end-3 c = omega (arith, c.prepare.kept.1.1.0)
+
+pub slice_bounds-lay-end-4 : goal.slice_bounds-lay-end-4
+slice_bounds-lay-end-4 c = omega (arith, c.prepare.kept.1.1.1.1.0)
+
+pub slice_bounds-lay-end-5 : goal.slice_bounds-lay-end-5
+slice_bounds-lay-end-5 c = omega (arith, c.prepare.kept.1.1.1.1.1.0)
+
+pub lay-requires : goal.lay-requires
+lay-requires c =
+    let n = c.args.nest in
+    let ps = (nest_in n).points in
+    let ds = (nest_in n).deps in
+    let w = points_of (nest_in n) c.requires.nest_value in
+    let own = c.prepare.last.1.0 in
+    let ends = c.prepare.last.1.1.0 in
+    let heights = c.prepare.last.1.1.1.0 in
+    let reach = c.prepare.last.1.1.1.1.0 in
+    let limit = c.prepare.last.1.1.1.1.1.0 in
+    let has = c.prepare.last.1.1.1.1.1.1.0 in
+    let left = c.settle.new.left in
+    let choice = c.settle.new.choice in record {
+      in_bounds = omega (arith, c.settle.auto.need);
+      charts = charts ps ds own ends heights reach limit has w c.prepare.ensures (omega (arith, c.prepare.kept.1.0))
+          (omega (arith, c.prepare.kept.1.1.0));
+      lay_room = record {
+        reach_room = omega (arith, c.prepare.kept.1.1.1.1.0);
+        limit_room = omega (arith, c.prepare.kept.1.1.1.1.1.0);
+        left_room = omega (arith, c.settle.auto.left, c.clear_rows.kept.0);
+        choice_room = omega (arith, c.settle.auto.choice, c.clear_rows-2.kept.0);
+      };
+      d_value = starts_with_do ps w.shape;
+      has_height = top_height ps;
+      d_lt_q = omega arith;
+      q_bound = end-after ps w.shape 0 (starts_with_do ps w.shape);
+      choices = choices ps ds own ends heights reach limit has w c.prepare.ensures left choice c.settle.ensures.rows;
+    }
+
+pub returns : goal.returns
+returns c =
+    let n = c.args.nest in
+    let ps = (nest_in n).points in
+    let ds = (nest_in n).deps in
+    let w = points_of (nest_in n) c.requires.nest_value in
+    let own = c.prepare.last.1.0 in
+    let ends = c.prepare.last.1.1.0 in
+    let heights = c.prepare.last.1.1.1.0 in
+    let reach = c.prepare.last.1.1.1.1.0 in
+    let limit = c.prepare.last.1.1.1.1.1.0 in
+    let has = c.prepare.last.1.1.1.1.1.1.0 in
+    let left = c.settle.last.1.1.1.1.1.1.0 in
+    let choice = c.settle.last.1.1.1.1.1.1.1.0 in
+    key ps ds own ends heights reach limit has w c.prepare.ensures left choice c.settle.ensures.rows
+    c.empty-none.result.words c.lay.result.words c.empty-none.ensures c.lay.ensures.lay_says

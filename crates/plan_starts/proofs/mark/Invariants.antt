@@ -1,0 +1,12 @@
+-- `mark` meets its contract. The invariant: the gaps up to p are marked (`Marking`).
+use Prim.Native.Nat.{◌+◌, ◌-◌}
+use native.Mathlib.Omega.{arith}
+use borrow.Author.Rules.{rules}
+use Rattle.plan_starts.proofs.Marking.{Marking, marking_none, marking_do, marking_other, marking_all}
+use Rattle.plan_starts.proofs.mark.Given as goal
+
+abbrev pub invariant-loop-p : goal.invariant-loop-p
+invariant-loop-p l = Marking l.points l.own l.reach l.base l.left l.kids l.d l.e l.initial.need l.need l.p
+
+abbrev pub decreases-loop-p : goal.decreases-loop-p
+decreases-loop-p l = l.e - l.p

@@ -1,0 +1,16 @@
+-- `chart` meets its contract: each turn notes the loop of one more gap, and what the point there says (`Charting`).
+use mathlib.Core.Path.{◌≡◌, refl}
+use Prim.Native.Nat.{◌-◌}
+use native.Mathlib.Omega.{arith}
+use borrow.Author.Rules.{rules}
+use lib.ListN.{length, length-set}
+use Rattle.plan_tables.proofs.Charting.{Charting, chart_start, chart_done, on_do, on_end, on_plain, height_there}
+use Rattle.plan_tables.proofs.chart.Given as goal
+
+abbrev pub invariant-loop-i : goal.invariant-loop-i
+invariant-loop-i l =
+    Charting l.points l.i l.o l.h l.own l.ends l.heights ×
+    ((length l.own ≡ length l.initial.own) × ((length l.ends ≡ length l.initial.ends) × (length l.heights ≡ length l.initial.heights)))
+
+abbrev pub decreases-loop-i : goal.decreases-loop-i
+decreases-loop-i l = length l.points - l.i

@@ -1,0 +1,22 @@
+use borrow.Author.Rules.{rules}
+use Rattle.paper_nests.specs.Stored.{nest_in}
+use Rattle.plan_tables.proofs.Collecting.{Collecting, collect_start, fits_here, collect_on, collect_done}
+use Rattle.plan_tables.proofs.collect.Goals as goal
+
+pub loop-i-init : goal.loop-i-init
+loop-i-init c =
+    collect_start c.requires.counted (record { points = c.requires.points; heights_are = c.requires.charted.heights_are }) c.requires.lines_room
+    c.requires.blank
+
+pub enter-requires : goal.enter-requires
+enter-requires c =
+    let p = c.loop-i.invariant in record { points = c.requires.points; charted = c.requires.charted; chart_room = c.requires.chart_room; lines_room = p.room; fits = fits_here c.requires.counted p c.loop-i-test.true c.requires.all_fit }
+
+pub loop-i-preserved : goal.loop-i-preserved
+loop-i-preserved c =
+    let k = c.enter.auto.1.1.1.1 in
+    collect_on c.requires.counted c.loop-i.invariant c.loop-i-test.true k.0 k.1.0 k.1.1.0
+    c.enter.ensures
+
+pub returns : goal.returns
+returns c = collect_done c.requires.counted c.loop-i.invariant c.loop-i-test.false

@@ -1,0 +1,13 @@
+-- `collect` meets its contract: from the last dependence to the first, each is entered in front of those after it
+-- (`Collecting`).
+use borrow.Author.Rules.{rules}
+use Rattle.paper_nests.specs.Stored.{nest_in}
+use Rattle.plan_tables.proofs.Collecting.{Collecting, collect_start, fits_here, collect_on, collect_done}
+use Rattle.plan_tables.proofs.collect.Given as goal
+
+abbrev pub invariant-loop-i : goal.invariant-loop-i
+invariant-loop-i l =
+    Collecting l.points (nest_in l.nest).deps l.heights l.initial.reach l.initial.back l.initial.has l.i l.reach l.back l.has
+
+abbrev pub decreases-loop-i : goal.decreases-loop-i
+decreases-loop-i l = l.i
