@@ -14,9 +14,7 @@ overflow_sub-d c = omega (arith, c.loop-d-test.true)
 
 pub has_low-requires : goal.has_low-requires
 has_low-requires c =
-    (
-  omega (arith, c.loop-d.invariant.below, c.loop-d-test.true, c.requires.0),
-  c.requires.1,
+    record { d_bound = omega (arith, c.loop-d.invariant.below, c.loop-d-test.true, c.requires.0); counts_len = c.requires.1 }
 
 pub loop-d-smaller : goal.loop-d-smaller
 loop-d-smaller c = omega (arith, c.loop-d-test.true)

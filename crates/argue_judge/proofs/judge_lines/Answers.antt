@@ -81,7 +81,7 @@ close-requires c =
       striking_room w c.requires.text_value j o e c.loop-times.invariant.long.times_long c.loop-times.invariant.long.struck_long,
       closing_room w c.requires.text_value j o e,
     ) in
-    closing c.open_of-claim.result c.open_of-claim.ensures.value
+    record { striking_room = (closing c.open_of-claim.result c.open_of-claim.ensures.value).0; closing_room = (closing c.open_of-claim.result c.open_of-claim.ensures.value).1 }
 
 pub all_low-requires : goal.all_low-requires
 all_low-requires c =
@@ -134,7 +134,7 @@ close-requires-in-Claims c =
       striking_room w c.requires.text_value j o e c.loop-times.invariant.long.times_long c.loop-times.invariant.long.struck_long,
       closing_room w c.requires.text_value j o e,
     ) in
-    closing c.open_of-claim.result c.open_of-claim.ensures.value
+    record { striking_room = (closing c.open_of-claim.result c.open_of-claim.ensures.value).0; closing_room = (closing c.open_of-claim.result c.open_of-claim.ensures.value).1 }
 
 pub bounds-loops-known : goal.bounds-loops-known
 bounds-loops-known c =

@@ -5,15 +5,10 @@ use Rattle.plan_tables.proofs.Cells.{Tall}
 use Rattle.argue_sets.proofs.Numbering.{Numbering, next_fits, number_start, number_on, number_done}
 use Rattle.argue_sets.proofs.number_lines.Goals as goal
 
-abbrev Start : Type 0
-Start = tie.Start invariant-loop decreases-loop
-
--- the points and the heights
-tall : (c : Start) → Tall c.args.points.now c.args.heights.now
-tall c = record { points = c.requires.1.0; heights_are = c.requires.1.1.1.0.heights_are }
-
 pub loop-i-init : goal.loop-i-init
-loop-i-init c = number_start c.requires.counted (tall ⟪place⟫) c.requires.in_bounds.1 c.requires.unnumbered
+loop-i-init c =
+    let tall : Tall c.args.points.now c.args.heights.now = record { points = c.requires.points; heights_are = c.requires.charted.heights_are } in
+    number_start c.requires.counted (tall) c.requires.in_bounds.1 c.requires.unnumbered
 
 pub offset_bounds-nest-i : goal.offset_bounds-nest-i
 offset_bounds-nest-i c = omega (arith, c.loop-i.invariant.here, c.requires.counted.many_is, c.requires.counted.many_fits)
@@ -36,11 +31,14 @@ loop-i-smaller c = omega (arith, c.loop-i-test.true)
 
 pub loop-i-preserved : goal.loop-i-preserved
 loop-i-preserved c =
-    number_on c.requires.counted (tall ⟪place⟫) c.loop-i.invariant c.loop-i-test.true c.requires.rows
+    let tall : Tall c.args.points.now c.args.heights.now = record { points = c.requires.points; heights_are = c.requires.charted.heights_are } in
+    number_on c.requires.counted (tall) c.loop-i.invariant c.loop-i-test.true c.requires.rows
     c.number_line.ensures c.number_line.auto.sets
 
 pub shape_of-sets : goal.shape_of-sets
 shape_of-sets c = c.loop-i.invariant.size
 
 pub returns : goal.returns
-returns c = number_done c.requires.counted (tall ⟪place⟫) c.loop-i.invariant c.loop-i-test.false
+returns c =
+    let tall : Tall c.args.points.now c.args.heights.now = record { points = c.requires.points; heights_are = c.requires.charted.heights_are } in
+    number_done c.requires.counted (tall) c.loop-i.invariant c.loop-i-test.false

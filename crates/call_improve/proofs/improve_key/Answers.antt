@@ -75,7 +75,7 @@ pub slice_bounds-times_of-end : goal.slice_bounds-times_of-end
 slice_bounds-times_of-end c = c.requires.counted.count_is
 
 pub times_of-times-requires : goal.times_of-times-requires
-times_of-times-requires c = turns_asked c.requires
+times_of-times-requires c = record { points_value = (turns_asked c.requires).0; turns_value = (turns_asked c.requires).1 }
 
 pub slice_bounds-points-end-2 : goal.slice_bounds-points-end-2
 slice_bounds-points-end-2 c = counted_points c.args.nest c.requires.counted

@@ -38,5 +38,9 @@ overflow_add-result c =
 pub returns : goal.returns
 returns c =
     let ready : Ready (nest_in c.args.nest) (gaps_in c.args.key.words) c.args.out.now = record { few = (valid_is (nest_in c.args.nest) c.requires.nest_value).few_points; gaps = c.requires.words_value; room = c.requires.in_bounds } in
-    both_written _ _ _ (ready) c.write_text-at.new.out c.write_text-at.result c.write_text-at.ensures.value c.write_text-at.ensures.out_after c.write_counts.new.out
-    c.write_counts.result c.write_counts.ensures
+    record {
+      value = (both_written _ _ _ (ready) c.write_text-at.new.out c.write_text-at.result c.write_text-at.ensures.value c.write_text-at.ensures.out_after c.write_counts.new.out
+          c.write_counts.result c.write_counts.ensures).0;
+      out_after = (both_written _ _ _ (ready) c.write_text-at.new.out c.write_text-at.result c.write_text-at.ensures.value c.write_text-at.ensures.out_after c.write_counts.new.out
+          c.write_counts.result c.write_counts.ensures).1;
+    }

@@ -62,7 +62,7 @@ byte_at-requires c =
       front_hex a.text.now a.at (a.at + c.digits_in.result) c.if-at-text.false (ends),
       c.requires,
     ) in
-    of-digits
+    record { line_value = of-digits.0; are_values = of-digits.1 }
 
 pub byte_at-requires-then-is_whole : goal.byte_at-requires-then-is_whole
 byte_at-requires-then-is_whole c =
@@ -74,7 +74,7 @@ byte_at-requires-then-is_whole c =
       front_hex a.text.now a.at (a.at + c.digits_in.result) c.if-at-text.false (ends),
       c.requires,
     ) in
-    of-digits
+    record { line_value = of-digits.0; are_values = of-digits.1 }
 
 pub byte_at-requires-then-is_whole-2 : goal.byte_at-requires-then-is_whole-2
 byte_at-requires-then-is_whole-2 c =
@@ -86,7 +86,7 @@ byte_at-requires-then-is_whole-2 c =
       front_hex a.text.now a.at (a.at + c.digits_in.result) c.if-at-text.false (ends),
       c.requires,
     ) in
-    of-digits
+    record { line_value = of-digits.0; are_values = of-digits.1 }
 
 pub byte_at-requires-then-is_whole-3 : goal.byte_at-requires-then-is_whole-3
 byte_at-requires-then-is_whole-3 c =
@@ -98,7 +98,7 @@ byte_at-requires-then-is_whole-3 c =
       front_hex a.text.now a.at (a.at + c.digits_in.result) c.if-at-text.false (ends),
       c.requires,
     ) in
-    of-digits
+    record { line_value = of-digits.0; are_values = of-digits.1 }
 
 pub returns-then-is_whole : goal.returns-then-is_whole
 returns-then-is_whole c =

@@ -4,6 +4,7 @@ use native.Mathlib.Omega.{arith}
 use lib.ListN.{length}
 use Rattle.paper_nests.proofs.Scan.{Scanned, scan_start, scan_found, scan_on, scan_done}
 use Rattle.paper_nests.proofs.end_of.Goals as goal
+use Rattle.paper_nests.proofs.end_of.Goals.{then-p-eq-ENDDO+else-depth-eq1, else-p-eq-ENDDO}
 
 pub loop-i-init : goal.loop-i-init
 loop-i-init c = scan_start c.args.points.now c.args.d
@@ -19,7 +20,7 @@ loop-i-preserved c =
     rw
     c.deeper-depth.ensures
     (scan_on a.points.now a.d c.loop-i.depth c.loop-i.i c.loop-i.invariant (omega arith)
-    (⊎_elim (λ w. inr w.1.left) (λ w. inl w.left) c.if-p-eq-ENDDO.branch))
+    (elim c.if-p-eq-ENDDO.branch [ then-p-eq-ENDDO+else-depth-eq1 w ↦ inr w.if-depth-eq1.false | else-p-eq-ENDDO w ↦ inl w.if-p-eq-ENDDO.false ]))
 
 pub returns : goal.returns
 returns c =

@@ -61,4 +61,4 @@ shape_of-out c =
 pub returns : goal.returns
 returns c =
     let i = c.args in
-    write_done i.p.words i.out.now c.loop-g.out c.loop-g.at c.loop-g.g c.loop-g-test.false c.loop-g.invariant
+    record { value = (write_done i.p.words i.out.now c.loop-g.out c.loop-g.at c.loop-g.g c.loop-g-test.false c.loop-g.invariant).0; out_after = (write_done i.p.words i.out.now c.loop-g.out c.loop-g.at c.loop-g.g c.loop-g-test.false c.loop-g.invariant).1 }

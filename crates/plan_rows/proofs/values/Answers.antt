@@ -46,4 +46,4 @@ shape_of-fs c = c.loop-p-2.invariant.fs_length ∙ c.loop-p.invariant.valuing.fs
 
 pub returns : goal.returns
 returns c =
-    late_all c.loop-p-2.invariant c.requires c.loop-p.invariant.valuing (omega (arith, c.loop-p-2-test))
+    record { closed_says = (late_all c.loop-p-2.invariant c.requires c.loop-p.invariant.valuing (omega (arith, c.loop-p-2-test))).0; fronts_in = (late_all c.loop-p-2.invariant c.requires c.loop-p.invariant.valuing (omega (arith, c.loop-p-2-test))).1 }
