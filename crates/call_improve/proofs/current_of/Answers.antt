@@ -30,7 +30,7 @@ pub offset_bounds-first-h : goal.offset_bounds-first-h
 offset_bounds-first-h c =
     let there : c.loop-i.i - 1 < c.args.nest.many = omega (arith, c.loop-i.invariant.within, c.requires.with_ends.counted.many_is) in
     let told : let a = c.args in
-    let n = nest_in a.t1 in
+    let n = nest_in a.nest in
     c.highest-h.result ≡ top_at n.points n.deps (gaps_in a.p.words) (c.loop-i.i - 1) = top_told c.requires.with_ends c.args.p.words c.requires.words_value c.requires.words_value_2 (there) c.latest_of-latest.result
     c.highest-h.result c.latest_of-latest.ensures c.highest-h.ensures in
     let low : c.highest-h.result < POINTS = omega (
@@ -44,7 +44,7 @@ pub bounds-first-h : goal.bounds-first-h
 bounds-first-h c =
     let there : c.loop-i.i - 1 < c.args.nest.many = omega (arith, c.loop-i.invariant.within, c.requires.with_ends.counted.many_is) in
     let told : let a = c.args in
-    let n = nest_in a.t1 in
+    let n = nest_in a.nest in
     c.highest-h.result ≡ top_at n.points n.deps (gaps_in a.p.words) (c.loop-i.i - 1) = top_told c.requires.with_ends c.args.p.words c.requires.words_value c.requires.words_value_2 (there) c.latest_of-latest.result
     c.highest-h.result c.latest_of-latest.ensures c.highest-h.ensures in
     let low : c.highest-h.result < POINTS = omega (
@@ -58,7 +58,7 @@ pub offset_bounds-first-h-in-loop-i : goal.offset_bounds-first-h-in-loop-i
 offset_bounds-first-h-in-loop-i c =
     let there : c.loop-i.i - 1 < c.args.nest.many = omega (arith, c.loop-i.invariant.within, c.requires.with_ends.counted.many_is) in
     let told : let a = c.args in
-    let n = nest_in a.t1 in
+    let n = nest_in a.nest in
     c.highest-h.result ≡ top_at n.points n.deps (gaps_in a.p.words) (c.loop-i.i - 1) = top_told c.requires.with_ends c.args.p.words c.requires.words_value c.requires.words_value_2 (there) c.latest_of-latest.result
     c.highest-h.result c.latest_of-latest.ensures c.highest-h.ensures in
     let low : c.highest-h.result < POINTS = omega (
@@ -72,7 +72,7 @@ pub bounds-first-h-in-loop-i : goal.bounds-first-h-in-loop-i
 bounds-first-h-in-loop-i c =
     let there : c.loop-i.i - 1 < c.args.nest.many = omega (arith, c.loop-i.invariant.within, c.requires.with_ends.counted.many_is) in
     let told : let a = c.args in
-    let n = nest_in a.t1 in
+    let n = nest_in a.nest in
     c.highest-h.result ≡ top_at n.points n.deps (gaps_in a.p.words) (c.loop-i.i - 1) = top_told c.requires.with_ends c.args.p.words c.requires.words_value c.requires.words_value_2 (there) c.latest_of-latest.result
     c.highest-h.result c.latest_of-latest.ensures c.highest-h.ensures in
     let low : c.highest-h.result < POINTS = omega (
@@ -86,7 +86,7 @@ pub loop-i-preserved : goal.loop-i-preserved
 loop-i-preserved c =
     let there : c.loop-i.i - 1 < c.args.nest.many = omega (arith, c.loop-i.invariant.within, c.requires.with_ends.counted.many_is) in
     let told : let a = c.args in
-    let n = nest_in a.t1 in
+    let n = nest_in a.nest in
     c.highest-h.result ≡ top_at n.points n.deps (gaps_in a.p.words) (c.loop-i.i - 1) = top_told c.requires.with_ends c.args.p.words c.requires.words_value c.requires.words_value_2 (there) c.latest_of-latest.result
     c.highest-h.result c.latest_of-latest.ensures c.highest-h.ensures in
     let low : c.highest-h.result < POINTS = omega (

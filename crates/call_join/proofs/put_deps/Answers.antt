@@ -20,7 +20,7 @@ use Rattle.call_join.proofs.put_deps.Goals as goal
 pub loop-i-init : goal.loop-i-init
 loop-i-init c =
     let a = c.args in
-    piece_begin (dep_pieces (moved_deps a.by (nest_in a.t1).deps)) a.out.now
+    piece_begin (dep_pieces (moved_deps a.by (nest_in a.nest).deps)) a.out.now
 
 pub offset_bounds-nest-i : goal.offset_bounds-nest-i
 offset_bounds-nest-i c = omega (arith, c.requires.counted.many_fits)

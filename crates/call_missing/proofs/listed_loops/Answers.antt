@@ -38,7 +38,7 @@ bounds-nest-i c =
 pub list_by-listed-requires : goal.list_by-listed-requires
 list_by-listed-requires c =
     let a = c.args in
-    let n = nest_in a.t1 in
+    let n = nest_in a.nest in
     let v = valid_is n c.requires.nest_value in record {
       in_bounds = search rules;
       are_loops = are_loops n.points c.ends_of-ends.result a.flagged.words a.key.words c.with_barrier-loops.result.words v.shape
@@ -58,7 +58,7 @@ loop-i-preserved c =
 pub returns : goal.returns
 returns c =
     let a = c.args in
-    let n = nest_in a.t1 in
+    let n = nest_in a.nest in
     let v = valid_is n c.requires.nest_value in
     gather_done a.flagged.words c.loop-i-test.false c.loop-i.invariant v.few_points
     (barriered n.points c.ends_of-ends.result a.flagged.words a.key.words c.with_barrier-loops.result.words v.shape

@@ -26,7 +26,7 @@ ends_of-ends-requires c = omega (arith, c.requires.counted.count_is, c.requires.
 pub loop-i-init : goal.loop-i-init
 loop-i-init c =
     let a = c.args in
-    cut_start (nest_in a.t1) (gaps_in a.placement.words) a.out.now
+    cut_start (nest_in a.nest) (gaps_in a.placement.words) a.out.now
 
 pub offset_bounds-nest-i : goal.offset_bounds-nest-i
 offset_bounds-nest-i c = omega (arith, c.requires.counted.many_fits)
@@ -38,7 +38,7 @@ pub slice_bounds-put_frame-count : goal.slice_bounds-put_frame-count
 slice_bounds-put_frame-count c =
     let inside : let o = c.args.out.now in
     (length c.loop-i.out ≡ length o) × (c.loop-i.at ≤ length o) = let a = c.args in
-    cut_inside (nest_in a.t1) (gaps_in a.placement.words) c.requires.nest_value c.requires.words_value a.out.now c.loop-i.out c.loop-i.at c.loop-i.i
+    cut_inside (nest_in a.nest) (gaps_in a.placement.words) c.requires.nest_value c.requires.words_value a.out.now c.loop-i.out c.loop-i.at c.loop-i.i
     c.loop-i.invariant c.requires.words_in_bounds in
     let z = inside in
     omega arith
@@ -47,7 +47,7 @@ pub put_frame-at-requires : goal.put_frame-at-requires
 put_frame-at-requires c =
     let inside : let o = c.args.out.now in
     (length c.loop-i.out ≡ length o) × (c.loop-i.at ≤ length o) = let a = c.args in
-    cut_inside (nest_in a.t1) (gaps_in a.placement.words) c.requires.nest_value c.requires.words_value a.out.now c.loop-i.out c.loop-i.at c.loop-i.i
+    cut_inside (nest_in a.nest) (gaps_in a.placement.words) c.requires.nest_value c.requires.words_value a.out.now c.loop-i.out c.loop-i.at c.loop-i.i
     c.loop-i.invariant c.requires.words_in_bounds in
     let tried : Dep = dep_in (get_or c.args.nest.deps c.loop-i.i (record { kind = 0; d = 0; s = 0; t = 0 })) in
     let here : let i = c.loop-i.i in
@@ -57,7 +57,7 @@ put_frame-at-requires c =
     c.loop-i-test.true
     (counted_many n c.requires.counted) in
     let room : c.loop-i.at + 5 ≤ length c.args.out.now = let a = c.args in
-    cut_room (nest_in a.t1) (gaps_in a.placement.words) c.requires.nest_value c.requires.words_value a.out.now c.loop-i.out c.loop-i.at c.loop-i.i
+    cut_room (nest_in a.nest) (gaps_in a.placement.words) c.requires.nest_value c.requires.words_value a.out.now c.loop-i.out c.loop-i.at c.loop-i.i
     c.loop-i.invariant c.requires.words_in_bounds (tried) (here) in
     simp (length-take, length-drop) (omega (arith, (inside).0, room))
 
@@ -71,7 +71,7 @@ overflow_add-at c =
     c.loop-i-test.true
     (counted_many n c.requires.counted) in
     let room : c.loop-i.at + 5 ≤ length c.args.out.now = let a = c.args in
-    cut_room (nest_in a.t1) (gaps_in a.placement.words) c.requires.nest_value c.requires.words_value a.out.now c.loop-i.out c.loop-i.at c.loop-i.i
+    cut_room (nest_in a.nest) (gaps_in a.placement.words) c.requires.nest_value c.requires.words_value a.out.now c.loop-i.out c.loop-i.at c.loop-i.i
     c.loop-i.invariant c.requires.words_in_bounds (tried) (here) in
     let y : c.put_frame-at.result ≡ 5 = c.put_frame-at.ensures.value in
     omega (arith, room)
@@ -92,7 +92,7 @@ loop-i-preserved c =
     c.loop-i-test.true
     (counted_many n c.requires.counted) in
     let told : let a = c.args in
-    CutSays (nest_in a.t1).points (tried) (gaps_in a.placement.words) c.cut_in.result = let n = nest_in c.args.nest in
+    CutSays (nest_in a.nest).points (tried) (gaps_in a.placement.words) c.cut_in.result = let n = nest_in c.args.nest in
     c.cut_in.ensures
     n.points
     (λ k.
@@ -108,7 +108,7 @@ loop-i-preserved c =
     (here)
     k)) in
     let a = c.args in
-    cut_Line (nest_in a.t1) (gaps_in a.placement.words) c.requires.nest_value c.requires.words_value a.out.now c.loop-i.out c.loop-i.at c.loop-i.i
+    cut_Line (nest_in a.nest) (gaps_in a.placement.words) c.requires.nest_value c.requires.words_value a.out.now c.loop-i.out c.loop-i.at c.loop-i.i
     c.loop-i.invariant c.requires.words_in_bounds (tried) (here) c.gap_of-gap.result c.put_frame-at.new.out c.put_frame-at.result
     (c.gap_of-gap.ensures ∙ (told).by_gap) c.put_frame-at.ensures.value c.put_frame-at.ensures.out_after
 
@@ -116,13 +116,13 @@ pub shape_of-out : goal.shape_of-out
 shape_of-out c =
     let inside : let o = c.args.out.now in
     (length c.loop-i.out ≡ length o) × (c.loop-i.at ≤ length o) = let a = c.args in
-    cut_inside (nest_in a.t1) (gaps_in a.placement.words) c.requires.nest_value c.requires.words_value a.out.now c.loop-i.out c.loop-i.at c.loop-i.i
+    cut_inside (nest_in a.nest) (gaps_in a.placement.words) c.requires.nest_value c.requires.words_value a.out.now c.loop-i.out c.loop-i.at c.loop-i.i
     c.loop-i.invariant c.requires.words_in_bounds in
     (inside).0
 
 pub returns : goal.returns
 returns c =
     let a = c.args in
-    cut_done (nest_in a.t1) (gaps_in a.placement.words) c.requires.nest_value c.requires.words_value a.out.now c.loop-i.out c.loop-i.at
+    cut_done (nest_in a.nest) (gaps_in a.placement.words) c.requires.nest_value c.requires.words_value a.out.now c.loop-i.out c.loop-i.at
     c.loop-i.i c.loop-i.invariant c.requires.words_in_bounds
     (omega (arith, c.loop-i-test.false, c.requires.counted.many_is))

@@ -35,7 +35,7 @@ pub loop-i-init : goal.loop-i-init
 loop-i-init c =
     let a = c.args in
     let p = c.requires.ready in
-    Move-start (nest_in a.t1) (barriers a.s) (after_move a.put a.g (barriers a.s)) a.t1.many
+    Move-start (nest_in a.nest) (barriers a.s) (after_move a.put a.g (barriers a.s)) a.nest.many
     a.s.counts a.s.uncut p.counted.many_is (search rules) p.kept.counts_are p.kept.uncut_is
 
 pub offset_bounds-nest-i : goal.offset_bounds-nest-i
@@ -58,13 +58,13 @@ overflow_add-counts c =
     let after : List ℕ = let a = c.args in after_move a.put a.g (barriers a.s) in
     let tried : Dep = dep_in (dep_at c.args.nest (c.loop-i.i - 1)) in
     let turn : let a = c.args in
-    Turn (nest_in a.t1) (barriers a.s) (after) c.loop-i.i c.loop-i.counts c.loop-i.uncut (tried) = turn_of c.requires.ready c.loop-i-test.true c.loop-i.invariant in
+    Turn (nest_in a.nest) (barriers a.s) (after) c.loop-i.i c.loop-i.counts c.loop-i.uncut (tried) = turn_of c.requires.ready c.loop-i-test.true c.loop-i.invariant in
     let told : let a = c.args in
-    c.has_gap.result ≡ has_gap (nest_in a.t1).points (tried) a.g = gap_told c.requires.ready c.loop-i-test.true c.loop-i.invariant c.loops_around-around.result c.has_gap.result
+    c.has_gap.result ≡ has_gap (nest_in a.nest).points (tried) a.g = gap_told c.requires.ready c.loop-i-test.true c.loop-i.invariant c.loops_around-around.result c.has_gap.result
     c.loops_around-around.ensures c.has_gap.ensures in
     let more : c.has_gap.result ≡ true → c.args.put ≡ true
     → let a = c.args in
-    let ps = (nest_in a.t1).points in
+    let ps = (nest_in a.nest).points in
     cut_count ps (tried) (after) ≡ cut_count ps (tried) (barriers a.s) + 1 = λ y z. moved_up c.requires.ready c.args.put (tried) c.requires.g_value z (sym (told) ∙ y) in
     omega (
       arith,
@@ -82,13 +82,13 @@ overflow_sub-uncut c =
     let after : List ℕ = let a = c.args in after_move a.put a.g (barriers a.s) in
     let tried : Dep = dep_in (dep_at c.args.nest (c.loop-i.i - 1)) in
     let turn : let a = c.args in
-    Turn (nest_in a.t1) (barriers a.s) (after) c.loop-i.i c.loop-i.counts c.loop-i.uncut (tried) = turn_of c.requires.ready c.loop-i-test.true c.loop-i.invariant in
+    Turn (nest_in a.nest) (barriers a.s) (after) c.loop-i.i c.loop-i.counts c.loop-i.uncut (tried) = turn_of c.requires.ready c.loop-i-test.true c.loop-i.invariant in
     let told : let a = c.args in
-    c.has_gap.result ≡ has_gap (nest_in a.t1).points (tried) a.g = gap_told c.requires.ready c.loop-i-test.true c.loop-i.invariant c.loops_around-around.result c.has_gap.result
+    c.has_gap.result ≡ has_gap (nest_in a.nest).points (tried) a.g = gap_told c.requires.ready c.loop-i-test.true c.loop-i.invariant c.loops_around-around.result c.has_gap.result
     c.loops_around-around.ensures c.has_gap.ensures in
     let more : c.has_gap.result ≡ true → c.args.put ≡ true
     → let a = c.args in
-    let ps = (nest_in a.t1).points in
+    let ps = (nest_in a.nest).points in
     cut_count ps (tried) (after) ≡ cut_count ps (tried) (barriers a.s) + 1 = λ y z. moved_up c.requires.ready c.args.put (tried) c.requires.g_value z (sym (told) ∙ y) in
     rise_uncut (turn) (more c.if-has_gap.true c.if-put.true) c.if-c-eq0.true
 
@@ -97,13 +97,13 @@ loop-i-preserved-then-c-eq0 c =
     let after : List ℕ = let a = c.args in after_move a.put a.g (barriers a.s) in
     let tried : Dep = dep_in (dep_at c.args.nest (c.loop-i.i - 1)) in
     let turn : let a = c.args in
-    Turn (nest_in a.t1) (barriers a.s) (after) c.loop-i.i c.loop-i.counts c.loop-i.uncut (tried) = turn_of c.requires.ready c.loop-i-test.true c.loop-i.invariant in
+    Turn (nest_in a.nest) (barriers a.s) (after) c.loop-i.i c.loop-i.counts c.loop-i.uncut (tried) = turn_of c.requires.ready c.loop-i-test.true c.loop-i.invariant in
     let told : let a = c.args in
-    c.has_gap.result ≡ has_gap (nest_in a.t1).points (tried) a.g = gap_told c.requires.ready c.loop-i-test.true c.loop-i.invariant c.loops_around-around.result c.has_gap.result
+    c.has_gap.result ≡ has_gap (nest_in a.nest).points (tried) a.g = gap_told c.requires.ready c.loop-i-test.true c.loop-i.invariant c.loops_around-around.result c.has_gap.result
     c.loops_around-around.ensures c.has_gap.ensures in
     let more : c.has_gap.result ≡ true → c.args.put ≡ true
     → let a = c.args in
-    let ps = (nest_in a.t1).points in
+    let ps = (nest_in a.nest).points in
     cut_count ps (tried) (after) ≡ cut_count ps (tried) (barriers a.s) + 1 = λ y z. moved_up c.requires.ready c.args.put (tried) c.requires.g_value z (sym (told) ∙ y) in
     rise_first (turn) (more c.if-has_gap.true c.if-put.true) c.if-c-eq0.true
 
@@ -112,13 +112,13 @@ loop-i-preserved-else-c-eq0 c =
     let after : List ℕ = let a = c.args in after_move a.put a.g (barriers a.s) in
     let tried : Dep = dep_in (dep_at c.args.nest (c.loop-i.i - 1)) in
     let turn : let a = c.args in
-    Turn (nest_in a.t1) (barriers a.s) (after) c.loop-i.i c.loop-i.counts c.loop-i.uncut (tried) = turn_of c.requires.ready c.loop-i-test.true c.loop-i.invariant in
+    Turn (nest_in a.nest) (barriers a.s) (after) c.loop-i.i c.loop-i.counts c.loop-i.uncut (tried) = turn_of c.requires.ready c.loop-i-test.true c.loop-i.invariant in
     let told : let a = c.args in
-    c.has_gap.result ≡ has_gap (nest_in a.t1).points (tried) a.g = gap_told c.requires.ready c.loop-i-test.true c.loop-i.invariant c.loops_around-around.result c.has_gap.result
+    c.has_gap.result ≡ has_gap (nest_in a.nest).points (tried) a.g = gap_told c.requires.ready c.loop-i-test.true c.loop-i.invariant c.loops_around-around.result c.has_gap.result
     c.loops_around-around.ensures c.has_gap.ensures in
     let more : c.has_gap.result ≡ true → c.args.put ≡ true
     → let a = c.args in
-    let ps = (nest_in a.t1).points in
+    let ps = (nest_in a.nest).points in
     cut_count ps (tried) (after) ≡ cut_count ps (tried) (barriers a.s) + 1 = λ y z. moved_up c.requires.ready c.args.put (tried) c.requires.g_value z (sym (told) ∙ y) in
     rise_more (turn) (more c.if-has_gap.true c.if-put.true) c.if-c-eq0.false
 
@@ -127,13 +127,13 @@ overflow_sub-counts c =
     let after : List ℕ = let a = c.args in after_move a.put a.g (barriers a.s) in
     let tried : Dep = dep_in (dep_at c.args.nest (c.loop-i.i - 1)) in
     let turn : let a = c.args in
-    Turn (nest_in a.t1) (barriers a.s) (after) c.loop-i.i c.loop-i.counts c.loop-i.uncut (tried) = turn_of c.requires.ready c.loop-i-test.true c.loop-i.invariant in
+    Turn (nest_in a.nest) (barriers a.s) (after) c.loop-i.i c.loop-i.counts c.loop-i.uncut (tried) = turn_of c.requires.ready c.loop-i-test.true c.loop-i.invariant in
     let told : let a = c.args in
-    c.has_gap.result ≡ has_gap (nest_in a.t1).points (tried) a.g = gap_told c.requires.ready c.loop-i-test.true c.loop-i.invariant c.loops_around-around.result c.has_gap.result
+    c.has_gap.result ≡ has_gap (nest_in a.nest).points (tried) a.g = gap_told c.requires.ready c.loop-i-test.true c.loop-i.invariant c.loops_around-around.result c.has_gap.result
     c.loops_around-around.ensures c.has_gap.ensures in
     let less : c.has_gap.result ≡ true → c.args.put ≡ false
     → let a = c.args in
-    let ps = (nest_in a.t1).points in
+    let ps = (nest_in a.nest).points in
     cut_count ps (tried) (barriers a.s) ≡ cut_count ps (tried) (after) + 1 = λ y z. moved_down c.requires.ready c.args.put (tried) c.requires.g_value z (sym (told) ∙ y) in
     fall_fits (turn) (less c.if-has_gap.true c.if-put.false)
 
@@ -147,13 +147,13 @@ overflow_add-uncut c =
     let after : List ℕ = let a = c.args in after_move a.put a.g (barriers a.s) in
     let tried : Dep = dep_in (dep_at c.args.nest (c.loop-i.i - 1)) in
     let turn : let a = c.args in
-    Turn (nest_in a.t1) (barriers a.s) (after) c.loop-i.i c.loop-i.counts c.loop-i.uncut (tried) = turn_of c.requires.ready c.loop-i-test.true c.loop-i.invariant in
+    Turn (nest_in a.nest) (barriers a.s) (after) c.loop-i.i c.loop-i.counts c.loop-i.uncut (tried) = turn_of c.requires.ready c.loop-i-test.true c.loop-i.invariant in
     let told : let a = c.args in
-    c.has_gap.result ≡ has_gap (nest_in a.t1).points (tried) a.g = gap_told c.requires.ready c.loop-i-test.true c.loop-i.invariant c.loops_around-around.result c.has_gap.result
+    c.has_gap.result ≡ has_gap (nest_in a.nest).points (tried) a.g = gap_told c.requires.ready c.loop-i-test.true c.loop-i.invariant c.loops_around-around.result c.has_gap.result
     c.loops_around-around.ensures c.has_gap.ensures in
     let less : c.has_gap.result ≡ true → c.args.put ≡ false
     → let a = c.args in
-    let ps = (nest_in a.t1).points in
+    let ps = (nest_in a.nest).points in
     cut_count ps (tried) (barriers a.s) ≡ cut_count ps (tried) (after) + 1 = λ y z. moved_down c.requires.ready c.args.put (tried) c.requires.g_value z (sym (told) ∙ y) in
     omega (arith, fall_uncut (turn) (less c.if-has_gap.true c.if-put.false))
 
@@ -162,13 +162,13 @@ loop-i-preserved-then-c-eq1 c =
     let after : List ℕ = let a = c.args in after_move a.put a.g (barriers a.s) in
     let tried : Dep = dep_in (dep_at c.args.nest (c.loop-i.i - 1)) in
     let turn : let a = c.args in
-    Turn (nest_in a.t1) (barriers a.s) (after) c.loop-i.i c.loop-i.counts c.loop-i.uncut (tried) = turn_of c.requires.ready c.loop-i-test.true c.loop-i.invariant in
+    Turn (nest_in a.nest) (barriers a.s) (after) c.loop-i.i c.loop-i.counts c.loop-i.uncut (tried) = turn_of c.requires.ready c.loop-i-test.true c.loop-i.invariant in
     let told : let a = c.args in
-    c.has_gap.result ≡ has_gap (nest_in a.t1).points (tried) a.g = gap_told c.requires.ready c.loop-i-test.true c.loop-i.invariant c.loops_around-around.result c.has_gap.result
+    c.has_gap.result ≡ has_gap (nest_in a.nest).points (tried) a.g = gap_told c.requires.ready c.loop-i-test.true c.loop-i.invariant c.loops_around-around.result c.has_gap.result
     c.loops_around-around.ensures c.has_gap.ensures in
     let less : c.has_gap.result ≡ true → c.args.put ≡ false
     → let a = c.args in
-    let ps = (nest_in a.t1).points in
+    let ps = (nest_in a.nest).points in
     cut_count ps (tried) (barriers a.s) ≡ cut_count ps (tried) (after) + 1 = λ y z. moved_down c.requires.ready c.args.put (tried) c.requires.g_value z (sym (told) ∙ y) in
     fall_last (turn) (less c.if-has_gap.true c.if-put.false) c.if-c-eq1.true
 
@@ -177,13 +177,13 @@ loop-i-preserved-else-c-eq1 c =
     let after : List ℕ = let a = c.args in after_move a.put a.g (barriers a.s) in
     let tried : Dep = dep_in (dep_at c.args.nest (c.loop-i.i - 1)) in
     let turn : let a = c.args in
-    Turn (nest_in a.t1) (barriers a.s) (after) c.loop-i.i c.loop-i.counts c.loop-i.uncut (tried) = turn_of c.requires.ready c.loop-i-test.true c.loop-i.invariant in
+    Turn (nest_in a.nest) (barriers a.s) (after) c.loop-i.i c.loop-i.counts c.loop-i.uncut (tried) = turn_of c.requires.ready c.loop-i-test.true c.loop-i.invariant in
     let told : let a = c.args in
-    c.has_gap.result ≡ has_gap (nest_in a.t1).points (tried) a.g = gap_told c.requires.ready c.loop-i-test.true c.loop-i.invariant c.loops_around-around.result c.has_gap.result
+    c.has_gap.result ≡ has_gap (nest_in a.nest).points (tried) a.g = gap_told c.requires.ready c.loop-i-test.true c.loop-i.invariant c.loops_around-around.result c.has_gap.result
     c.loops_around-around.ensures c.has_gap.ensures in
     let less : c.has_gap.result ≡ true → c.args.put ≡ false
     → let a = c.args in
-    let ps = (nest_in a.t1).points in
+    let ps = (nest_in a.nest).points in
     cut_count ps (tried) (barriers a.s) ≡ cut_count ps (tried) (after) + 1 = λ y z. moved_down c.requires.ready c.args.put (tried) c.requires.g_value z (sym (told) ∙ y) in
     fall_more (turn) (less c.if-has_gap.true c.if-put.false) c.if-c-eq1.false
 
@@ -192,9 +192,9 @@ loop-i-preserved c =
     let after : List ℕ = let a = c.args in after_move a.put a.g (barriers a.s) in
     let tried : Dep = dep_in (dep_at c.args.nest (c.loop-i.i - 1)) in
     let turn : let a = c.args in
-    Turn (nest_in a.t1) (barriers a.s) (after) c.loop-i.i c.loop-i.counts c.loop-i.uncut (tried) = turn_of c.requires.ready c.loop-i-test.true c.loop-i.invariant in
+    Turn (nest_in a.nest) (barriers a.s) (after) c.loop-i.i c.loop-i.counts c.loop-i.uncut (tried) = turn_of c.requires.ready c.loop-i-test.true c.loop-i.invariant in
     let told : let a = c.args in
-    c.has_gap.result ≡ has_gap (nest_in a.t1).points (tried) a.g = gap_told c.requires.ready c.loop-i-test.true c.loop-i.invariant c.loops_around-around.result c.has_gap.result
+    c.has_gap.result ≡ has_gap (nest_in a.nest).points (tried) a.g = gap_told c.requires.ready c.loop-i-test.true c.loop-i.invariant c.loops_around-around.result c.has_gap.result
     c.loops_around-around.ensures c.has_gap.ensures in
     move_past (turn)
     (moved_past c.requires.ready c.args.put (tried) c.requires.g_value (sym (told) ∙ c.if-has_gap.false))
@@ -203,7 +203,7 @@ pub returns : goal.returns
 returns c =
     let a = c.args in
     let f =
-    move_done (nest_in a.t1) (barriers a.s) (after_move a.put a.g (barriers a.s)) c.loop-i.i c.loop-i.counts
+    move_done (nest_in a.nest) (barriers a.s) (after_move a.put a.g (barriers a.s)) c.loop-i.i c.loop-i.counts
     c.loop-i.uncut c.loop-i-test.false c.loop-i.invariant
     in
     record { counts_are = f.0; uncut_is = f.1 }

@@ -45,7 +45,7 @@ returns-in-Uncut c =
     deps_in_at n.many n.deps c.loop-i.i (record { kind = 0; d = 0; s = 0; t = 0 }) c.loop-i-test.true
     (counted_many n c.requires.counted) in
     let told : let a = c.args in
-    CutSays (nest_in a.t1).points (tried) (gaps_in a.p.words) c.cut_in-cut.result = let n = nest_in c.args.nest in
+    CutSays (nest_in a.nest).points (tried) (gaps_in a.p.words) c.cut_in-cut.result = let n = nest_in c.args.nest in
     c.cut_in-cut.ensures
     n.points
     (λ k.
@@ -85,7 +85,7 @@ loop-i-preserved c =
     deps_in_at n.many n.deps c.loop-i.i (record { kind = 0; d = 0; s = 0; t = 0 }) c.loop-i-test.true
     (counted_many n c.requires.counted) in
     let told : let a = c.args in
-    CutSays (nest_in a.t1).points (tried) (gaps_in a.p.words) c.cut_in-cut.result = let n = nest_in c.args.nest in
+    CutSays (nest_in a.nest).points (tried) (gaps_in a.p.words) c.cut_in-cut.result = let n = nest_in c.args.nest in
     c.cut_in-cut.ensures
     n.points
     (λ k.
