@@ -1,6 +1,6 @@
 -- Placements that avoid barred gaps, renumbered and back: rising lists of unbarred gaps are the rising lists of ranks.
 -- Main statements: `ranks_length`, `ranks_rising`, `unranked_rising`, `unranked_avoids`, `ranks_unranked`.
-use mathlib.Core.Path.{◌≡◌, refl, sym, ap, ◌∙◌}
+use mathlib.Core.Path.{◌≡◌, refl, sym, ap, subst, ◌∙◌}
 use mathlib.Core.Bool.{Bool, true, ◌&&◌}
 use mathlib.Core.List.{List, [], ◌∷◌}
 use mathlib.Core.Logic.{⊎_elim}
@@ -59,7 +59,8 @@ module _ (bs : List ℕ) where
   gap_in : (gs : List ℕ) (g : ℕ) → is_in g gs ≡ true → is_in (rank bs g) (ranks bs gs) ≡ true
   gap_in [] g h = never h
   gap_in (x ∷ gs) g h = ⊎_elim
-      (λ (z : g ≡ x). rw z (in_here (rank bs x) (ranks bs gs)))
+      (λ (z : g ≡ x). let P : ℕ → Type 0 = λ n. is_in (rank bs n) (rank bs x ∷ ranks bs gs) ≡ true in
+      subst P (sym z) (in_here (rank bs x) (ranks bs gs)))
       (λ (z : is_in g gs ≡ true). in_later (rank bs g) (rank bs x) (ranks bs gs) (gap_in gs g z))
       (in_cons g x gs h)
 

@@ -28,7 +28,7 @@ pub record Cut (ps : List ℕ) (e : Dep) (x : ℕ → Bool) : Type 0 where
 -- every loop of a nest is the outermost one or lies inside it
 pub in_outermost : (ps : List ℕ) → is_shape ps ≡ true → (d : ℕ) → is_do ps d ≡ true → Inside (loops_in ps) 0 d
 in_outermost ps w d h =
-    let l : d < end_of ps 0 = omega (arith, L.end_after ps w d h, L.end_in_outermost ps w d h) in
+    let l : d < end_of ps 0 = omega (arith, L.end-after ps w d h, L.end_in_outermost ps w d h) in
     record { is-do = h; from = omega arith; below = l }
 
 module _ (ps : List ℕ) (ds : List Dep) (x : ℕ → Bool) where

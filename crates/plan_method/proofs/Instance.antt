@@ -162,7 +162,7 @@ home-of ps ds d e a (inr b) h =
 pub loop_laws : (ps : List ℕ) → is_shape ps ≡ true → LoopLaws (loops_in ps)
 loop_laws ps w =
     record {
-      long = L.end_after ps w;
+      long = L.end-after ps w;
       own_stop = L.owner_of_end ps w;
       own_below = λ g. L.owner_from_below ps g (suc g);
       owner = owner;

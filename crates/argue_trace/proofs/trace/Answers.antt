@@ -22,7 +22,7 @@ pub offset_bounds-own-before : goal.offset_bounds-own-before
 offset_bounds-own-before c = omega (arith, c.loop-p.invariant.high, c.requires.e_bound.0)
 
 pub bounds-own-before : goal.bounds-own-before
-bounds-own-before c = omega (arith, c.loop-p.invariant.high, c.requires.sweep_room.Own-room)
+bounds-own-before c = omega (arith, c.loop-p.invariant.high, c.requires.sweep_room.own_room)
 
 pub last_need-b-requires : goal.last_need-b-requires
 last_need-b-requires c = omega (arith, c.loop-p.invariant.high, c.requires.sweep_room.need_room)

@@ -11,7 +11,7 @@ use Rattle.call_missing.proofs.Listing.{front_bare, rear_bare, back_listed}
 use Rattle.call_missing.proofs.list_by.Goals as goal
 
 pub returns-then-is_covered : goal.returns-then-is_covered
-returns-then-is_covered c =
+returns-then-is_covered c ps fs b w =
     let a = c.args in
     let e = dep_in a.e in
     line_listed b e (is-line ps e w c.if-e-eq-INDEPENDENT.true) c.is_covered.ensures
@@ -19,14 +19,14 @@ returns-then-is_covered c =
     a.listed.words c.list_range.result.words c.list_range.ensures
 
 pub returns-then-e-eq-INDEPENDENT : goal.returns-then-e-eq-INDEPENDENT
-returns-then-e-eq-INDEPENDENT c =
+returns-then-e-eq-INDEPENDENT c ps fs b w d l =
     let a = c.args in
     let e = dep_in a.e in
     line_bare b e (is-line ps e w c.if-e-eq-INDEPENDENT.true) c.is_covered.ensures c.if-is_covered.false
     a.listed.words d
 
 pub returns-then-is_covered-3 : goal.returns-then-is_covered-3
-returns-then-is_covered-3 c =
+returns-then-is_covered-3 c ps fs b w =
     let rear-told : let a = c.args in
     let e = dep_in a.e in
     CoverSays a.ends.now a.loops.words a.key.words e.s e.t (e.s + 1) (at a.ends.now e.d)
@@ -43,7 +43,7 @@ returns-then-is_covered-3 c =
     c.list_range-then-is_covered-3.ensures
 
 pub returns-else-is_covered-3 : goal.returns-else-is_covered-3
-returns-else-is_covered-3 c =
+returns-else-is_covered-3 c ps fs b w d l =
     let rear-told : let a = c.args in
     let e = dep_in a.e in
     CoverSays a.ends.now a.loops.words a.key.words e.s e.t (e.s + 1) (at a.ends.now e.d)
@@ -56,7 +56,7 @@ returns-else-is_covered-3 c =
     (rear-told) c.if-is_covered-3.false a.listed.words d
 
 pub returns-else-is_covered-2 : goal.returns-else-is_covered-2
-returns-else-is_covered-2 c =
+returns-else-is_covered-2 c ps fs b w d l =
     let a = c.args in
     let e = dep_in a.e in
     front_bare b e (is-back ps e w c.if-e-eq-INDEPENDENT.false) c.is_covered-2.ensures

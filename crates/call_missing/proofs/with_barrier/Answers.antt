@@ -42,4 +42,4 @@ loop-d-preserved c =
     (no_barrier d (at c.args.ends.now d) (looked) (omega arith))
 
 pub returns : goal.returns
-returns c = pass_done c.loop-d-test.false c.loop-d.invariant d h ∙ rw (c.empty-loops.ensures d)
+returns c d h = pass_done c.loop-d-test.false c.loop-d.invariant d h ∙ rw (c.empty-loops.ensures d)

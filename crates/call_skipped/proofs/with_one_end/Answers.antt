@@ -42,4 +42,4 @@ loop-d-preserved c =
     c.loop-d.invariant (next_from c.lowest_from-d-in-loop-d.ensures) z
 
 pub returns : goal.returns
-returns c = pass_done c.loop-d-test.false c.loop-d.invariant d h ∙ rw (c.empty-split.ensures d)
+returns c d h = pass_done c.loop-d-test.false c.loop-d.invariant d h ∙ rw (c.empty-split.ensures d)

@@ -11,7 +11,7 @@ use borrow.Author.Rules.{rules}
 use Rattle.paper_texts.proofs.barred_fault.Goals as goal
 
 pub returns-then-bars-ge-BARS : goal.returns-then-bars-ge-BARS
-returns-then-bars-ge-BARS c =
+returns-then-bars-ge-BARS c n many p h =
     let tested : let a = c.args in
     c.is_closed.result ≡ closed_by (length (take a.count a.all.now)) a.depth = let long = length-take-le c.args.count c.args.all.now c.requires.count_in_bounds in
     c.is_closed.ensures ∙ ap (λ (k : ℕ). closed_by k c.args.depth) (sym long) in
@@ -31,7 +31,7 @@ bar_fault-requires c =
     c.requires.knows_one (closed_deep (length (take c.args.count c.args.all.now)) c.args.depth closed)
 
 pub returns-then-is_closed : goal.returns-then-is_closed
-returns-then-is_closed c =
+returns-then-is_closed c n many p h =
     let tested : let a = c.args in
     c.is_closed.result ≡ closed_by (length (take a.count a.all.now)) a.depth = let long = length-take-le c.args.count c.args.all.now c.requires.count_in_bounds in
     c.is_closed.ensures ∙ ap (λ (k : ℕ). closed_by k c.args.depth) (sym long) in
@@ -42,7 +42,7 @@ returns-then-is_closed c =
     ∙ barred_own n _ many a.bars a.depth h a.g closed c.if-bars-ge-BARS.false
 
 pub returns : goal.returns
-returns c =
+returns c n many p h =
     let tested : let a = c.args in
     c.is_closed.result ≡ closed_by (length (take a.count a.all.now)) a.depth = let long = length-take-le c.args.count c.args.all.now c.requires.count_in_bounds in
     c.is_closed.ensures ∙ ap (λ (k : ℕ). closed_by k c.args.depth) (sym long) in

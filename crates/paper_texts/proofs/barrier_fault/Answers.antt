@@ -9,17 +9,17 @@ use borrow.Author.Rules.{rules}
 use Rattle.paper_texts.proofs.barrier_fault.Goals as goal
 
 pub returns-then-g-last : goal.returns-then-g-last
-returns-then-g-last c =
+returns-then-g-last c l i =
     let a = c.args in
     barrier_low a.last a.points (gaps_in a.barred.words) a.f l i c.in-33.is c.if-f-eq2.true (omega arith)
 
 pub returns-then-points-g : goal.returns-then-points-g
-returns-then-points-g c =
+returns-then-points-g c l i =
     let a = c.args in
     barrier_high a.last a.points (gaps_in a.barred.words) a.f l i c.in-33.is c.if-f-eq2.true (omega arith)
 
 pub returns-then-holds : goal.returns-then-holds
-returns-then-holds c =
+returns-then-holds c l i =
     let a = c.args in
     let g = a.f.a in
     barrier_barred a.last a.points (gaps_in a.barred.words) a.f l i c.in-33.is c.if-f-eq2.true
@@ -27,7 +27,7 @@ returns-then-holds c =
     (in_gaps a.barred.words g (search rules) ∙ sym c.holds.ensures ∙ c.if-holds.true)
 
 pub returns-then-f-eq2 : goal.returns-then-f-eq2
-returns-then-f-eq2 c =
+returns-then-f-eq2 c l i =
     let a = c.args in
     let g = a.f.a in
     barrier_good a.last a.points (gaps_in a.barred.words) a.f l i c.in-33.is c.if-f-eq2.true
@@ -35,11 +35,11 @@ returns-then-f-eq2 c =
     (in_gaps a.barred.words g (search rules) ∙ sym c.holds.ensures ∙ c.if-holds.false)
 
 pub returns-else-f-eq2 : goal.returns-else-f-eq2
-returns-else-f-eq2 c =
+returns-else-f-eq2 c l i =
     let a = c.args in
     barrier_length a.last a.points (gaps_in a.barred.words) a.f l i c.if-f-eq2.false
 
 pub returns-in_default : goal.returns-in_default
-returns-in_default c =
+returns-in_default c l i =
     let a = c.args in
     barrier_kind a.last a.points (gaps_in a.barred.words) a.f l i c.in_default.rest.1

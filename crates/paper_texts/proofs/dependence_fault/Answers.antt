@@ -13,7 +13,7 @@ use borrow.Author.Rules.{rules}
 use Rattle.paper_texts.proofs.dependence_fault.Goals as goal
 
 pub returns-then-many-ge-DEPENDENCES : goal.returns-then-many-ge-DEPENDENCES
-returns-then-many-ge-DEPENDENCES c =
+returns-then-many-ge-DEPENDENCES c n bars p h =
     let tested : let a = c.args in
     c.is_closed.result ≡ closed_by (length (take a.count a.all.now)) a.depth = let long = length-take-le c.args.count c.args.all.now c.requires.count_in_bounds in
     c.is_closed.ensures ∙ ap (λ (k : ℕ). closed_by k c.args.depth) (sym long) in
@@ -30,7 +30,7 @@ bounds-ends-e c =
     omega (arith, small, c.requires.knows_ends.long)
 
 pub dep_fault-requires : goal.dep_fault-requires
-dep_fault-requires c =
+dep_fault-requires c carried starts =
     let tested : let a = c.args in
     c.is_closed.result ≡ closed_by (length (take a.count a.all.now)) a.depth = let long = length-take-le c.args.count c.args.all.now c.requires.count_in_bounds in
     c.is_closed.ensures ∙ ap (λ (k : ℕ). closed_by k c.args.depth) (sym long) in
@@ -39,7 +39,7 @@ dep_fault-requires c =
     c.requires.knows_ends.has_ends (closed_deep (length ps) c.args.depth closed) c.args.e.d starts
 
 pub returns-then-is_closed : goal.returns-then-is_closed
-returns-then-is_closed c =
+returns-then-is_closed c n bars p h =
     let tested : let a = c.args in
     c.is_closed.result ≡ closed_by (length (take a.count a.all.now)) a.depth = let long = length-take-le c.args.count c.args.all.now c.requires.count_in_bounds in
     c.is_closed.ensures ∙ ap (λ (k : ℕ). closed_by k c.args.depth) (sym long) in
@@ -50,7 +50,7 @@ returns-then-is_closed c =
     ∙ dependence_own n _ a.many bars a.depth h (dep_in a.e) closed c.if-many-ge-DEPENDENCES.false
 
 pub returns : goal.returns
-returns c =
+returns c n bars p h =
     let tested : let a = c.args in
     c.is_closed.result ≡ closed_by (length (take a.count a.all.now)) a.depth = let long = length-take-le c.args.count c.args.all.now c.requires.count_in_bounds in
     c.is_closed.ensures ∙ ap (λ (k : ℕ). closed_by k c.args.depth) (sym long) in

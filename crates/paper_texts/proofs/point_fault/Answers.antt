@@ -7,12 +7,12 @@ use borrow.Author.Rules.{rules}
 use Rattle.paper_texts.proofs.point_fault.Goals as goal
 
 pub returns-then-many-ge1 : goal.returns-then-many-ge1
-returns-then-many-ge1 c =
+returns-then-many-ge1 c n h =
     let a = c.args in
     rw (point_is n a.count a.many a.bars a.depth h a.kind, le-leb 1 a.many (omega arith))
 
 pub returns-then-bars-ge1 : goal.returns-then-bars-ge1
-returns-then-bars-ge1 c =
+returns-then-bars-ge1 c n h =
     let a = c.args in
     rw (
       point_is n a.count a.many a.bars a.depth h a.kind,
@@ -21,7 +21,7 @@ returns-then-bars-ge1 c =
     )
 
 pub returns-then-is_misplaced : goal.returns-then-is_misplaced
-returns-then-is_misplaced c =
+returns-then-is_misplaced c n h =
     let a = c.args in
     rw (
       point_is n a.count a.many a.bars a.depth h a.kind,
@@ -31,7 +31,7 @@ returns-then-is_misplaced c =
     )
 
 pub returns-then-is_too_many : goal.returns-then-is_too_many
-returns-then-is_too_many c =
+returns-then-is_too_many c n h =
     let a = c.args in
     rw (
       point_is n a.count a.many a.bars a.depth h a.kind,
@@ -42,7 +42,7 @@ returns-then-is_too_many c =
     )
 
 pub returns : goal.returns
-returns c =
+returns c n h =
     let a = c.args in
     rw (
       point_is n a.count a.many a.bars a.depth h a.kind,

@@ -72,13 +72,13 @@ settle-requires c =
     let limit = c.prepare.last.1.1.1.1.1.0 in
     let has = c.prepare.last.1.1.1.1.1.1.0 in record {
       lists_room = record { need_room = omega arith; cs_room = omega arith; fs_room = omega arith; link_room = omega arith };
-      charts = charts ps ds own ends heights reach limit has w c.prepare.ensures (omega (arith, c.prepare.kept.1.0))
-          (omega (arith, c.prepare.kept.1.1.0));
+      charts = charts ps ds own ends heights reach limit has w c.prepare.ensures (omega (arith, c.prepare.auto.own))
+          (omega (arith, c.prepare.auto.ends));
       room = record {
-        reach_room = omega (arith, c.prepare.kept.1.1.1.1.0);
-        limit_room = omega (arith, c.prepare.kept.1.1.1.1.1.0);
-        has_room = omega (arith, c.prepare.kept.1.1.1.1.1.1.0);
-        left_room = omega (arith, c.clear_rows.kept.0);
+        reach_room = omega (arith, c.prepare.auto.reach);
+        limit_room = omega (arith, c.prepare.auto.limit);
+        has_room = omega (arith, c.prepare.auto.has);
+        left_room = omega (arith, c.clear_rows.auto.xs);
         choice_room = omega (arith, c.clear_rows-2.auto.xs);
       };
       d_value = starts_with_do ps w.shape;
@@ -94,16 +94,16 @@ pub slice_bounds-lay-end : goal.slice_bounds-lay-end
 slice_bounds-lay-end c = c.requires.counted.count_is
 
 pub slice_bounds-lay-end-2 : goal.slice_bounds-lay-end-2
-slice_bounds-lay-end-2 c = omega (arith, c.prepare.kept.1.0)
+slice_bounds-lay-end-2 c = omega (arith, c.prepare.auto.own)
 
 pub slice_bounds-lay-end-3 : goal.slice_bounds-lay-end-3
-slice_bounds-lay-end-3 c = omega (arith, c.prepare.kept.1.1.0)
+slice_bounds-lay-end-3 c = omega (arith, c.prepare.auto.ends)
 
 pub slice_bounds-lay-end-4 : goal.slice_bounds-lay-end-4
-slice_bounds-lay-end-4 c = omega (arith, c.prepare.kept.1.1.1.1.0)
+slice_bounds-lay-end-4 c = omega (arith, c.prepare.auto.reach)
 
 pub slice_bounds-lay-end-5 : goal.slice_bounds-lay-end-5
-slice_bounds-lay-end-5 c = omega (arith, c.prepare.kept.1.1.1.1.1.0)
+slice_bounds-lay-end-5 c = omega (arith, c.prepare.auto.limit)
 
 pub lay-requires : goal.lay-requires
 lay-requires c =
@@ -120,13 +120,13 @@ lay-requires c =
     let left = c.settle.new.left in
     let choice = c.settle.new.choice in record {
       in_bounds = omega (arith, c.settle.auto.need);
-      charts = charts ps ds own ends heights reach limit has w c.prepare.ensures (omega (arith, c.prepare.kept.1.0))
-          (omega (arith, c.prepare.kept.1.1.0));
+      charts = charts ps ds own ends heights reach limit has w c.prepare.ensures (omega (arith, c.prepare.auto.own))
+          (omega (arith, c.prepare.auto.ends));
       lay_room = record {
-        reach_room = omega (arith, c.prepare.kept.1.1.1.1.0);
-        limit_room = omega (arith, c.prepare.kept.1.1.1.1.1.0);
-        left_room = omega (arith, c.settle.auto.left, c.clear_rows.kept.0);
-        choice_room = omega (arith, c.settle.auto.choice, c.clear_rows-2.kept.0);
+        reach_room = omega (arith, c.prepare.auto.reach);
+        limit_room = omega (arith, c.prepare.auto.limit);
+        left_room = omega (arith, c.settle.auto.left, c.clear_rows.auto.xs);
+        choice_room = omega (arith, c.settle.auto.choice, c.clear_rows-2.auto.xs);
       };
       d_value = starts_with_do ps w.shape;
       has_height = top_height ps;

@@ -24,7 +24,7 @@ values-m-requires c =
 
 pub choose-requires : goal.choose-requires
 choose-requires c =
-    record { e_in_bounds = omega (arith, c.requires.row_room.short, c.requires.lists_room.cs_room, c.values-m.auto, c.follow_all-first.kept); e_in_bounds_2 = omega (arith, c.requires.row_room.short, c.requires.lists_room.fs_room, c.values-m.auto, c.follow_all-first.kept); e_in_bounds_3 = c.requires.row_room.left_room; e_in_bounds_4 = c.requires.row_room.choice_room; d_lt_e = c.requires.row_room.long; e_bound = c.requires.row_room.short }
+    record { e_in_bounds = omega (arith, c.requires.row_room.short, c.requires.lists_room.cs_room, c.values-m.auto, c.follow_all-first.auto); e_in_bounds_2 = omega (arith, c.requires.row_room.short, c.requires.lists_room.fs_room, c.values-m.auto, c.follow_all-first.auto); e_in_bounds_3 = c.requires.row_room.left_room; e_in_bounds_4 = c.requires.row_room.choice_room; d_lt_e = c.requires.row_room.long; e_bound = c.requires.row_room.short }
 
 pub returns : goal.returns
 returns c =

@@ -7,7 +7,7 @@ use Rattle.plan_starts.proofs.Happenings.{cost_inner, or_inner, cost_outer, or_o
 use Rattle.plan_starts.proofs.event.Goals as goal
 
 pub returns-then-g-gt0 : goal.returns-then-g-gt0
-returns-then-g-gt0 c =
+returns-then-g-gt0 c p h =
     let i = c.args in
     let left = row i.left.now i.kids in (
       sym (cost_inner left 0 p i.x h (omega arith)),
@@ -15,7 +15,7 @@ returns-then-g-gt0 c =
     )
 
 pub returns : goal.returns
-returns c =
+returns c p h =
     let i = c.args in
     let left = row i.left.now i.kids in (
       sym (cost_outer left 0 p i.x (λ _. omega arith)),

@@ -14,8 +14,7 @@ enter-requires c =
 
 pub loop-i-preserved : goal.loop-i-preserved
 loop-i-preserved c =
-    let k = c.enter.auto.1.1.1.1 in
-    collect_on c.requires.counted c.loop-i.invariant c.loop-i-test.true k.0 k.1.0 k.1.1.0
+    collect_on c.requires.counted c.loop-i.invariant c.loop-i-test.true c.enter.auto.reach c.enter.auto.back c.enter.auto.has
     c.enter.ensures
 
 pub returns : goal.returns

@@ -14,7 +14,7 @@ use Rattle.plan_tables.proofs.enter.Goals as goal
 pub home_of-home-requires : goal.home_of-home-requires
 home_of-home-requires c =
     let line_at : let a = c.args in Line a.points.now (dep_in a.e) = is-line c.args.points.now (dep_in c.args.e) c.requires.fits c.if-e-eq-INDEPENDENT.true in
-    let f = line_at in record { points = c.requires.points; own_is = c.requires.charted.own_is; ends_are = c.requires.charted.ends_are; in_bounds = c.requires.chart_room.Own-room; in_bounds_2 = c.requires.chart_room.ends_room; s_lt_t = f.forward; t_in_bounds = f.target_there }
+    let f = line_at in record { points = c.requires.points; own_is = c.requires.charted.own_is; ends_are = c.requires.charted.ends_are; in_bounds = c.requires.chart_room.own_room; in_bounds_2 = c.requires.chart_room.ends_room; s_lt_t = f.forward; t_in_bounds = f.target_there }
 
 pub offset_bounds-heights-home : goal.offset_bounds-heights-home
 offset_bounds-heights-home c =

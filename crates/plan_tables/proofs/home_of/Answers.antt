@@ -3,15 +3,16 @@ use borrow.Author.Rules.{rules}
 use Rattle.plan_tables.proofs.Climbing.{Call, Climbing, climb_from_do, climb_from_owner, climb_falls}
 use Rattle.plan_tables.proofs.Climbing.{climb_on, climb_done}
 use Rattle.plan_tables.proofs.home_of.Goals as goal
+use Rattle.plan_tables.proofs.home_of.Goals.{then-points-s-eq-DO, else-points-s-eq-DO}
 
 pub loop-l-init : goal.loop-l-init
 loop-l-init c =
     let call : let a = c.args in Call a.points.now a.own.now a.ends.now a.s a.t = record { points = c.requires.points; owners = c.requires.own_is; stops = c.requires.ends_are; forward = c.requires.s_lt_t; there = c.requires.t_in_bounds } in
     let a = call in
-    ⊎_elim
-    (λ x. rw x.1 (climb_from_do a x.0.taken))
-    (λ x. rw x.1 (climb_from_owner a x.0.left))
-    c.if-points-s-eq-DO.branch
+    elim c.if-points-s-eq-DO.branch [
+      then-points-s-eq-DO w ↦ rw w.l-is (climb_from_do a w.if-points-s-eq-DO.true)
+    | else-points-s-eq-DO w ↦ rw w.l-is (climb_from_owner a w.if-points-s-eq-DO.false)
+    ]
 
 pub loop-l-smaller : goal.loop-l-smaller
 loop-l-smaller c =

@@ -6,6 +6,7 @@ use lib.ListN.{length}
 use Rattle.plan_tables.proofs.Limits.{Ended, LimitingAll, row_there, limits_start, limits_on, limits_skip}
 use Rattle.plan_tables.proofs.Limits.{limits_done}
 use Rattle.plan_tables.proofs.narrow.Goals as goal
+use Rattle.plan_tables.proofs.narrow.Goals.{then-points-d-eq-DO, else-points-d-eq-DO}
 
 pub loop-d-init : goal.loop-d-init
 loop-d-init _ = limits_start
@@ -25,10 +26,10 @@ pub loop-d-preserved : goal.loop-d-preserved
 loop-d-preserved c =
     let ended : Ended c.args.points.now c.args.ends.now c.args.heights.now = record { tall = record { points = c.requires.points; heights_are = c.requires.heights_are }; stops = c.requires.ends_are } in
     let w = ended in
-    ⊎_elim
-    (λ x. rw x.7 (limits_on w c.loop-d.invariant x.0.taken x.4.kept.0 x.4.ensures))
-    (λ x. rw x.1 (limits_skip w c.loop-d.invariant x.0.left))
-    c.if-points-d-eq-DO.branch
+    elim c.if-points-d-eq-DO.branch [
+      then-points-d-eq-DO x ↦ rw x.limit-is (limits_on w c.loop-d.invariant x.if-points-d-eq-DO.true x.narrow_row.auto.xs x.narrow_row.ensures)
+    | else-points-d-eq-DO x ↦ rw x.limit-is (limits_skip w c.loop-d.invariant x.if-points-d-eq-DO.false)
+    ]
 
 pub returns : goal.returns
 returns c =

@@ -31,7 +31,7 @@ slice_bounds-points-end-3 c = count_there c.args.nest.count c.args.nest.points c
 
 pub narrow-requires : goal.narrow-requires
 narrow-requires c =
-    record { points = c.requires.points; ends_are = c.chart.ensures.ends_are; heights_are = c.chart.ensures.heights_are; in_bounds = omega (arith, c.chart.kept.1.1.0, c.requires.chart_room.ends_room); in_bounds_2 = omega (arith, c.chart.kept.1.1.1.0, c.requires.chart_room.heights_room); in_bounds_3 = omega (arith, c.collect.auto.back, c.requires.lines_room.limit_room) }
+    record { points = c.requires.points; ends_are = c.chart.ensures.ends_are; heights_are = c.chart.ensures.heights_are; in_bounds = omega (arith, c.chart.auto.ends, c.requires.chart_room.ends_room); in_bounds_2 = omega (arith, c.chart.auto.heights, c.requires.chart_room.heights_room); in_bounds_3 = omega (arith, c.collect.auto.back, c.requires.lines_room.limit_room) }
 
 pub returns : goal.returns
 returns c =

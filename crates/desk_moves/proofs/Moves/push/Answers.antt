@@ -10,7 +10,7 @@ use Rattle.desk_moves.proofs.Moves.push.Goals as goal
 
 pub returns-then-r-lt-KEPT : goal.returns-then-r-lt-KEPT
 returns-then-r-lt-KEPT c =
-    let long : length c.args.self.ring ≡ KEPT = sym (length-map c.args.self.ring _) ∙ c.well_formed.0.1.1.0.1.0.1 in
+    let long : length c.args.self.ring ≡ KEPT = search rules in
     let a = c.args in
     let s = a.self in
     record {
@@ -22,7 +22,7 @@ returns-then-r-lt-KEPT c =
 
 pub returns-else-r-lt-KEPT : goal.returns-else-r-lt-KEPT
 returns-else-r-lt-KEPT c =
-    let long : length c.args.self.ring ≡ KEPT = sym (length-map c.args.self.ring _) ∙ c.well_formed.0.1.1.0.1.0.1 in
+    let long : length c.args.self.ring ≡ KEPT = search rules in
     let a = c.args in
     let s = a.self in
     record {
