@@ -180,7 +180,7 @@ pub overflow_add-line : goal.overflow_add-line
 overflow_add-line c =
     let lines_fit : c.loop-times.line + 1 < 2 ^ 64 = let w = c.requires.judgeable in
     let k = (c.loop-times.invariant.judges w.key w.tables).walk in
-    omega (arith, k.inside, k.lines, c.good) in
+    omega (arith, k.inside, k.lines, c.well_formed) in
     omega (arith, lines_fit)
 
 pub loop-times-smaller-then-is_do : goal.loop-times-smaller-then-is_do
@@ -239,7 +239,7 @@ pub overflow_add-line-in-By : goal.overflow_add-line-in-By
 overflow_add-line-in-By c =
     let lines_fit : c.loop-times.line + 1 < 2 ^ 64 = let w = c.requires.judgeable in
     let k = (c.loop-times.invariant.judges w.key w.tables).walk in
-    omega (arith, k.inside, k.lines, c.good) in
+    omega (arith, k.inside, k.lines, c.well_formed) in
     omega (arith, lines_fit)
 
 pub loop-times-smaller-in-By : goal.loop-times-smaller-in-By
@@ -305,7 +305,7 @@ pub overflow_add-line-then-fine : goal.overflow_add-line-then-fine
 overflow_add-line-then-fine c =
     let lines_fit : c.loop-times.line + 1 < 2 ^ 64 = let w = c.requires.judgeable in
     let k = (c.loop-times.invariant.judges w.key w.tables).walk in
-    omega (arith, k.inside, k.lines, c.good) in
+    omega (arith, k.inside, k.lines, c.well_formed) in
     omega (arith, lines_fit)
 
 pub loop-times-smaller : goal.loop-times-smaller

@@ -24,13 +24,13 @@ returns-in-End c =
 pub returns-in-Refused : goal.returns-in-Refused
 returns-in-Refused c =
     let text_of : List ℕ = c.args.text.now in
-    let e = sym c.read_line-next.ensures ∙ c.next-1.given.1 in
-    record { fault_is = walk_bad (text_of) (progress_in c.loop-number.sofar) c.loop-number.at c.loop-number.line c.loop-number.invariant c.next-1.given.0.0 e }
+    let e = sym c.read_line-next.ensures ∙ c.in-Refused.is in
+    record { fault_is = walk_bad (text_of) (progress_in c.loop-number.sofar) c.loop-number.at c.loop-number.line c.loop-number.invariant c.in-Refused.number e }
 
 pub returns-then-number-ne0 : goal.returns-then-number-ne0
 returns-then-number-ne0 c =
     let text_of : List ℕ = c.args.text.now in
-    let e = sym c.read_line-next.ensures ∙ c.next-in-Frame-1.given.1 in
+    let e = sym c.read_line-next.ensures ∙ c.in-Frame.is in
     record {
       fault_is =
           walk_fault
@@ -39,7 +39,7 @@ returns-then-number-ne0 c =
           c.loop-number.at
           c.loop-number.line
           c.loop-number.invariant
-          c.next-in-Frame-1.given.0.0
+          c.in-Frame.f
           e
           c.part_of-part.result
           c.part_of-part.ensures
@@ -57,14 +57,14 @@ overflow_add-line c = omega (arith, c.loop-number.invariant.inside, c.loop-numbe
 pub loop-number-smaller : goal.loop-number-smaller
 loop-number-smaller c =
     let text_of : List ℕ = c.args.text.now in
-    let e = sym c.read_line-next.ensures ∙ c.next-in-Frame-1.given.1 in
+    let e = sym c.read_line-next.ensures ∙ c.in-Frame.is in
     let n = next_inside
     (text_of)
     (progress_in c.loop-number.sofar)
     c.loop-number.at
     c.loop-number.line
     c.loop-number.invariant
-    c.next-in-Frame-1.given.0.0
+    c.in-Frame.f
     e
     c.part_of-part.result
     c.part_of-part.ensures in
@@ -73,16 +73,16 @@ loop-number-smaller c =
 pub loop-number-preserved : goal.loop-number-preserved
 loop-number-preserved c =
     let text_of : List ℕ = c.args.text.now in
-    let e = sym c.read_line-next.ensures ∙ c.next-in-Frame-1.given.1 in
+    let e = sym c.read_line-next.ensures ∙ c.in-Frame.is in
     let on = walk_on
     (text_of)
     (progress_in c.loop-number.sofar)
     c.loop-number.at
     c.loop-number.line
     c.loop-number.invariant
-    c.next-in-Frame-1.given.0.0
+    c.in-Frame.f
     e
     c.part_of-part.result
     c.part_of-part.ensures
     (sym c.part_fault-number.ensures ∙ c.if-number-ne0.false) in
-    subst (λ (x : Progress). Walk (text_of) x c.next-in-Frame-1.given.0.0.next (c.loop-number.line + 1)) (sym c.after-sofar.ensures) on
+    subst (λ (x : Progress). Walk (text_of) x c.in-Frame.f.next (c.loop-number.line + 1)) (sym c.after-sofar.ensures) on

@@ -14,12 +14,12 @@ returns-then-f-eq4 c l i =
 pub returns-then-f-eq3 : goal.returns-then-f-eq3
 returns-then-f-eq3 c l i =
     let x = c.args.f in
-    tells_by x.kind x.len x.a x.b x.c c.in-50.keys2 c.if-f-eq3.true ∙ told_is x l i
+    tells_by x.kind x.len x.a x.b x.c c.in-50.is c.if-f-eq3.true ∙ told_is x l i
 
 pub returns-then-f-eq3-2 : goal.returns-then-f-eq3-2
 returns-then-f-eq3-2 c l i =
     let x = c.args.f in
-    tells_dependence x.kind x.len x.a x.b x.c c.in-51.keys3 c.if-f-eq3-2.true
+    tells_dependence x.kind x.len x.a x.b x.c c.in-51.is c.if-f-eq3-2.true
     ∙ told_is x l i
 
 pub returns-then-f-eq1 : goal.returns-then-f-eq1

@@ -70,8 +70,8 @@ exceeds-requires c =
       first_none = c.if-number-ne0.false;
       second_none = c.if-second-ne0.false;
     } in
-    let unbarred : BothUnbarred c.args.a.now c.args.b.now (first) (second) = record { both= both; first_open = c.if-n-ne0.false; second_open = c.if-m-ne0.false } in
-    let r = unbarred in record { counted = r.both.one.counted; counted_2 = r.both.two.counted; papers = accepted_papers r; }
+    let unbarred : BothUnbarred c.args.a.now c.args.b.now (first) (second) = record { both = both; first_open = c.if-n-ne0.false; second_open = c.if-m-ne0.false } in
+    let r = unbarred in record { counted = r.both.one.counted; counted_2 = r.both.two.counted; papers = accepted_papers r }
 
 pub returns-then-exceeds : goal.returns-then-exceeds
 returns-then-exceeds c =
@@ -83,7 +83,7 @@ returns-then-exceeds c =
       first_none = c.if-number-ne0.false;
       second_none = c.if-second-ne0.false;
     } in
-    let unbarred : BothUnbarred c.args.a.now c.args.b.now (first) (second) = record { both= both; first_open = c.if-n-ne0.false; second_open = c.if-m-ne0.false } in
+    let unbarred : BothUnbarred c.args.a.now c.args.b.now (first) (second) = record { both = both; first_open = c.if-n-ne0.false; second_open = c.if-m-ne0.false } in
     let o = c.args.out.now in
     let h = sym c.exceeds.ensures ∙ c.if-exceeds.true in
     rw c.refused-then-exceeds.ensures (Refused-Says (limit_fault (unbarred) o h) (λ z. omega arith))
@@ -98,7 +98,7 @@ text_length-requires c =
       first_none = c.if-number-ne0.false;
       second_none = c.if-second-ne0.false;
     } in
-    let r = both in record { counted = r.one.counted; counted_2 = r.two.counted; }
+    let r = both in record { counted = r.one.counted; counted_2 = r.two.counted }
 
 pub returns-then-out-text_length : goal.returns-then-out-text_length
 returns-then-out-text_length c =
@@ -110,7 +110,7 @@ returns-then-out-text_length c =
       first_none = c.if-number-ne0.false;
       second_none = c.if-second-ne0.false;
     } in
-    let unbarred : BothUnbarred c.args.a.now c.args.b.now (first) (second) = record { both= both; first_open = c.if-n-ne0.false; second_open = c.if-m-ne0.false } in
+    let unbarred : BothUnbarred c.args.a.now c.args.b.now (first) (second) = record { both = both; first_open = c.if-n-ne0.false; second_open = c.if-m-ne0.false } in
     let within : exceeds (nest_in (first).nest) (nest_in (second).nest) ≡ false = sym c.exceeds.ensures ∙ c.if-exceeds.false in
     let o = c.args.out.now in
     let l = c.text_length.ensures in
@@ -127,11 +127,11 @@ write_joined-requires c =
       first_none = c.if-number-ne0.false;
       second_none = c.if-second-ne0.false;
     } in
-    let unbarred : BothUnbarred c.args.a.now c.args.b.now (first) (second) = record { both= both; first_open = c.if-n-ne0.false; second_open = c.if-m-ne0.false } in
+    let unbarred : BothUnbarred c.args.a.now c.args.b.now (first) (second) = record { both = both; first_open = c.if-n-ne0.false; second_open = c.if-m-ne0.false } in
     let within : exceeds (nest_in (first).nest) (nest_in (second).nest) ≡ false = sym c.exceeds.ensures ∙ c.if-exceeds.false in
     let room : length (nest_text (joined (nest_in (first).nest) (nest_in (second).nest))) ≤ length c.args.out.now = omega (arith, c.text_length.ensures, c.if-out-text_length.false) in
     let u = unbarred in
-    let r = u.both in record { counted = r.one.counted; counted_2 = r.two.counted; papers = accepted_papers u; m_value = within; m_in_bounds = room; }
+    let r = u.both in record { counted = r.one.counted; counted_2 = r.two.counted; papers = accepted_papers u; m_value = within; m_in_bounds = room }
 
 pub returns : goal.returns
 returns c =
@@ -143,7 +143,7 @@ returns c =
       first_none = c.if-number-ne0.false;
       second_none = c.if-second-ne0.false;
     } in
-    let unbarred : BothUnbarred c.args.a.now c.args.b.now (first) (second) = record { both= both; first_open = c.if-n-ne0.false; second_open = c.if-m-ne0.false } in
+    let unbarred : BothUnbarred c.args.a.now c.args.b.now (first) (second) = record { both = both; first_open = c.if-n-ne0.false; second_open = c.if-m-ne0.false } in
     let within : exceeds (nest_in (first).nest) (nest_in (second).nest) ≡ false = sym c.exceeds.ensures ∙ c.if-exceeds.false in
     let room : length (nest_text (joined (nest_in (first).nest) (nest_in (second).nest))) ≤ length c.args.out.now = omega (arith, c.text_length.ensures, c.if-out-text_length.false) in
     let o = c.args.out.now in

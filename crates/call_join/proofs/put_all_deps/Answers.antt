@@ -48,6 +48,28 @@ slice_bounds-put_deps-count c =
     let begun : Begun (whole) (second (at_second)) c.args.out.now c.put_deps-at.new.out c.put_deps-at.result = begun_by (first) (parts) c.requires.m_in_bounds c.put_deps-at.ensures.0 c.put_deps-at.ensures.1 in
     rest_within (begun)
 
+pub slice_bounds-put_deps-start : goal.slice_bounds-put_deps-start
+slice_bounds-put_deps-start c =
+    let at_second : ℕ = second_at (nest_in c.args.n) in
+    let whole : List ℕ = deps_text (joint_in c.args.n c.args.m).deps in
+    let first : List ℕ = deps_text (moved_deps 1 (nest_in c.args.n).deps) in
+    let second : ℕ → List ℕ = λ k. deps_text (moved_deps k (nest_in c.args.m).deps) in
+    let parts : whole ≡ first ++ second (at_second) = joint_deps (moved_deps 1 (nest_in c.args.n).deps) (moved_deps (at_second) (nest_in c.args.m).deps) in
+    let begun : Begun (whole) (second (at_second)) c.args.out.now c.put_deps-at.new.out c.put_deps-at.result = begun_by (first) (parts) c.requires.m_in_bounds c.put_deps-at.ensures.0 c.put_deps-at.ensures.1 in
+    let z = rest_within (begun) in
+    search rules
+
+pub slice_bounds-put_deps-end : goal.slice_bounds-put_deps-end
+slice_bounds-put_deps-end c =
+    let at_second : ℕ = second_at (nest_in c.args.n) in
+    let whole : List ℕ = deps_text (joint_in c.args.n c.args.m).deps in
+    let first : List ℕ = deps_text (moved_deps 1 (nest_in c.args.n).deps) in
+    let second : ℕ → List ℕ = λ k. deps_text (moved_deps k (nest_in c.args.m).deps) in
+    let parts : whole ≡ first ++ second (at_second) = joint_deps (moved_deps 1 (nest_in c.args.n).deps) (moved_deps (at_second) (nest_in c.args.m).deps) in
+    let begun : Begun (whole) (second (at_second)) c.args.out.now c.put_deps-at.new.out c.put_deps-at.result = begun_by (first) (parts) c.requires.m_in_bounds c.put_deps-at.ensures.0 c.put_deps-at.ensures.1 in
+    let z = rest_within (begun) in
+    search rules
+
 pub put_deps-requires : goal.put_deps-requires
 put_deps-requires c =
     let at_second : ℕ = second_at (nest_in c.args.n) in

@@ -29,6 +29,26 @@ slice_bounds-put_inside-count c =
     c.put_frame-at.ensures.value c.put_frame-at.ensures.out_after in
     rest_within (begun)
 
+pub slice_bounds-put_inside-start : goal.slice_bounds-put_inside-start
+slice_bounds-put_inside-start c =
+    let begun : let a = c.args in
+    Begun (points_text (joint_in a.n a.m)) (inside_text (nest_in a.n) (nest_in a.m)) a.out.now
+    c.put_frame-at.new.out c.put_frame-at.result = let a = c.args in
+    begun_by (line_text (DO ∷ [])) (joint_points (nest_in a.n) (nest_in a.m) c.requires.papers) c.requires.m_in_bounds
+    c.put_frame-at.ensures.value c.put_frame-at.ensures.out_after in
+    let z = rest_within (begun) in
+    search rules
+
+pub slice_bounds-put_inside-end : goal.slice_bounds-put_inside-end
+slice_bounds-put_inside-end c =
+    let begun : let a = c.args in
+    Begun (points_text (joint_in a.n a.m)) (inside_text (nest_in a.n) (nest_in a.m)) a.out.now
+    c.put_frame-at.new.out c.put_frame-at.result = let a = c.args in
+    begun_by (line_text (DO ∷ [])) (joint_points (nest_in a.n) (nest_in a.m) c.requires.papers) c.requires.m_in_bounds
+    c.put_frame-at.ensures.value c.put_frame-at.ensures.out_after in
+    let z = rest_within (begun) in
+    search rules
+
 pub put_inside-requires : goal.put_inside-requires
 put_inside-requires c =
     let begun : let a = c.args in

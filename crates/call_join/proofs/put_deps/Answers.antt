@@ -44,6 +44,22 @@ slice_bounds-put_dep-count c =
     (piece_length p fits, piece_within p fits) in
     omega (arith, inside)
 
+pub slice_bounds-put_dep-start : goal.slice_bounds-put_dep-start
+slice_bounds-put_dep-start c =
+    let inside : let o = c.args.out.now in (length c.loop-i.out ≡ length o) × (c.loop-i.at ≤ length o) = let p = c.loop-i.invariant in
+    let fits = c.requires.nest_in_bounds in
+    (piece_length p fits, piece_within p fits) in
+    let z = inside in
+    search rules
+
+pub slice_bounds-put_dep-end : goal.slice_bounds-put_dep-end
+slice_bounds-put_dep-end c =
+    let inside : let o = c.args.out.now in (length c.loop-i.out ≡ length o) × (c.loop-i.at ≤ length o) = let p = c.loop-i.invariant in
+    let fits = c.requires.nest_in_bounds in
+    (piece_length p fits, piece_within p fits) in
+    let z = inside in
+    search rules
+
 pub put_dep-at-requires : goal.put_dep-at-requires
 put_dep-at-requires c =
     let deps : List Dep = (nest_in c.args.nest).deps in

@@ -21,6 +21,24 @@ slice_bounds-put_second-count c =
     begun_by (points_text n) refl c.requires.m_in_bounds c.put_points-at.ensures.0 c.put_points-at.ensures.1 in
     rest_within (begun)
 
+pub slice_bounds-put_second-start : goal.slice_bounds-put_second-start
+slice_bounds-put_second-start c =
+    let begun : let a = c.args in
+    Begun (inside_text (nest_in a.n) (nest_in a.m)) (second_text (nest_in a.m)) a.out.now c.put_points-at.new.out
+    c.put_points-at.result = let n = nest_in c.args.n in
+    begun_by (points_text n) refl c.requires.m_in_bounds c.put_points-at.ensures.0 c.put_points-at.ensures.1 in
+    let z = rest_within (begun) in
+    search rules
+
+pub slice_bounds-put_second-end : goal.slice_bounds-put_second-end
+slice_bounds-put_second-end c =
+    let begun : let a = c.args in
+    Begun (inside_text (nest_in a.n) (nest_in a.m)) (second_text (nest_in a.m)) a.out.now c.put_points-at.new.out
+    c.put_points-at.result = let n = nest_in c.args.n in
+    begun_by (points_text n) refl c.requires.m_in_bounds c.put_points-at.ensures.0 c.put_points-at.ensures.1 in
+    let z = rest_within (begun) in
+    search rules
+
 pub put_second-requires : goal.put_second-requires
 put_second-requires c =
     let begun : let a = c.args in

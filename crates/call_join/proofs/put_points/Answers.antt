@@ -35,6 +35,22 @@ slice_bounds-put_frame-count c =
     (piece_length p fits, piece_within p fits) in
     omega (arith, inside)
 
+pub slice_bounds-put_frame-start : goal.slice_bounds-put_frame-start
+slice_bounds-put_frame-start c =
+    let inside : let o = c.args.out.now in (length c.loop-i.out ≡ length o) × (c.loop-i.at ≤ length o) = let p = c.loop-i.invariant in
+    let fits = c.requires.nest_in_bounds in
+    (piece_length p fits, piece_within p fits) in
+    let z = inside in
+    search rules
+
+pub slice_bounds-put_frame-end : goal.slice_bounds-put_frame-end
+slice_bounds-put_frame-end c =
+    let inside : let o = c.args.out.now in (length c.loop-i.out ≡ length o) × (c.loop-i.at ≤ length o) = let p = c.loop-i.invariant in
+    let fits = c.requires.nest_in_bounds in
+    (piece_length p fits, piece_within p fits) in
+    let z = inside in
+    search rules
+
 pub put_frame-at-requires : goal.put_frame-at-requires
 put_frame-at-requires c =
     let nest : Nest = nest_in c.args.nest in
@@ -88,6 +104,22 @@ slice_bounds-put_frame-count-else-is_next c =
     let fits = c.requires.nest_in_bounds in
     (piece_length p fits, piece_within p fits) in
     omega (arith, inside)
+
+pub slice_bounds-put_frame-start-else-is_next : goal.slice_bounds-put_frame-start-else-is_next
+slice_bounds-put_frame-start-else-is_next c =
+    let inside : let o = c.args.out.now in (length c.loop-i.out ≡ length o) × (c.loop-i.at ≤ length o) = let p = c.loop-i.invariant in
+    let fits = c.requires.nest_in_bounds in
+    (piece_length p fits, piece_within p fits) in
+    let z = inside in
+    search rules
+
+pub slice_bounds-put_frame-end-else-is_next : goal.slice_bounds-put_frame-end-else-is_next
+slice_bounds-put_frame-end-else-is_next c =
+    let inside : let o = c.args.out.now in (length c.loop-i.out ≡ length o) × (c.loop-i.at ≤ length o) = let p = c.loop-i.invariant in
+    let fits = c.requires.nest_in_bounds in
+    (piece_length p fits, piece_within p fits) in
+    let z = inside in
+    search rules
 
 pub put_frame-at-requires-else-is_next : goal.put_frame-at-requires-else-is_next
 put_frame-at-requires-else-is_next c =

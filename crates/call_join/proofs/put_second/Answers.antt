@@ -21,6 +21,20 @@ slice_bounds-put_frame-count c =
     Begun (second_text (nest_in a.m)) (line_text (ENDDO ∷ [])) a.out.now c.put_points-at.new.out c.put_points-at.result = begun_by (points_text (nest_in c.args.m)) refl c.requires.m_in_bounds c.put_points-at.ensures.0 c.put_points-at.ensures.1 in
     rest_within (begun)
 
+pub slice_bounds-put_frame-start : goal.slice_bounds-put_frame-start
+slice_bounds-put_frame-start c =
+    let begun : let a = c.args in
+    Begun (second_text (nest_in a.m)) (line_text (ENDDO ∷ [])) a.out.now c.put_points-at.new.out c.put_points-at.result = begun_by (points_text (nest_in c.args.m)) refl c.requires.m_in_bounds c.put_points-at.ensures.0 c.put_points-at.ensures.1 in
+    let z = rest_within (begun) in
+    search rules
+
+pub slice_bounds-put_frame-end : goal.slice_bounds-put_frame-end
+slice_bounds-put_frame-end c =
+    let begun : let a = c.args in
+    Begun (second_text (nest_in a.m)) (line_text (ENDDO ∷ [])) a.out.now c.put_points-at.new.out c.put_points-at.result = begun_by (points_text (nest_in c.args.m)) refl c.requires.m_in_bounds c.put_points-at.ensures.0 c.put_points-at.ensures.1 in
+    let z = rest_within (begun) in
+    search rules
+
 pub put_frame-requires : goal.put_frame-requires
 put_frame-requires c =
     let begun : let a = c.args in

@@ -24,6 +24,22 @@ slice_bounds-put_all_deps-count c =
     begun_by (points_text j) (nest-text j refl) c.requires.m_in_bounds c.put_all_points-at.ensures.0 c.put_all_points-at.ensures.1 in
     rest_within (begun)
 
+pub slice_bounds-put_all_deps-start : goal.slice_bounds-put_all_deps-start
+slice_bounds-put_all_deps-start c =
+    let joint : Nest = joint_in c.args.n c.args.m in
+    let begun : Begun (nest_text (joint)) (deps_text (joint).deps) c.args.out.now c.put_all_points-at.new.out c.put_all_points-at.result = let j = joint in
+    begun_by (points_text j) (nest-text j refl) c.requires.m_in_bounds c.put_all_points-at.ensures.0 c.put_all_points-at.ensures.1 in
+    let z = rest_within (begun) in
+    search rules
+
+pub slice_bounds-put_all_deps-end : goal.slice_bounds-put_all_deps-end
+slice_bounds-put_all_deps-end c =
+    let joint : Nest = joint_in c.args.n c.args.m in
+    let begun : Begun (nest_text (joint)) (deps_text (joint).deps) c.args.out.now c.put_all_points-at.new.out c.put_all_points-at.result = let j = joint in
+    begun_by (points_text j) (nest-text j refl) c.requires.m_in_bounds c.put_all_points-at.ensures.0 c.put_all_points-at.ensures.1 in
+    let z = rest_within (begun) in
+    search rules
+
 pub put_all_deps-requires : goal.put_all_deps-requires
 put_all_deps-requires c =
     let joint : Nest = joint_in c.args.n c.args.m in

@@ -43,6 +43,24 @@ slice_bounds-put_frame-count c =
     let z = inside in
     omega arith
 
+pub slice_bounds-put_frame-start : goal.slice_bounds-put_frame-start
+slice_bounds-put_frame-start c =
+    let inside : let o = c.args.out.now in
+    (length c.loop-i.out ≡ length o) × (c.loop-i.at ≤ length o) = let a = c.args in
+    cut_inside (nest_in a.nest) (gaps_in a.placement.words) c.requires.nest_value c.requires.words_value a.out.now c.loop-i.out c.loop-i.at c.loop-i.i
+    c.loop-i.invariant c.requires.words_in_bounds in
+    let z = inside in
+    search rules
+
+pub slice_bounds-put_frame-end : goal.slice_bounds-put_frame-end
+slice_bounds-put_frame-end c =
+    let inside : let o = c.args.out.now in
+    (length c.loop-i.out ≡ length o) × (c.loop-i.at ≤ length o) = let a = c.args in
+    cut_inside (nest_in a.nest) (gaps_in a.placement.words) c.requires.nest_value c.requires.words_value a.out.now c.loop-i.out c.loop-i.at c.loop-i.i
+    c.loop-i.invariant c.requires.words_in_bounds in
+    let z = inside in
+    search rules
+
 pub put_frame-at-requires : goal.put_frame-at-requires
 put_frame-at-requires c =
     let inside : let o = c.args.out.now in

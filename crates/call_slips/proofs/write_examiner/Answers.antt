@@ -41,6 +41,11 @@ slice_bounds-write_verdict-count c =
     c.write_slip-at.result = first_part _ _ _ _ _ c.write_slip-at.ensures in
     part_within _ _ _ _ _ (begun) (fits)
 
+pub slice_bounds-write_verdict-start : goal.slice_bounds-write_verdict-start
+slice_bounds-write_verdict-start c =
+    let z = sub-write-verdict ⟪place⟫ in
+    search rules
+
 pub write_verdict-requires : goal.write_verdict-requires
 write_verdict-requires c =
     let fits : let a = c.args in
@@ -135,6 +140,11 @@ slice_bounds-write_cuts-count c =
     c.judge-verdict.ensures
     c.write_verdict.ensures) in
     part_within _ _ _ _ _ (onward) (fits)
+
+pub slice_bounds-write_cuts-start : goal.slice_bounds-write_cuts-start
+slice_bounds-write_cuts-start c =
+    let z = sub-write-cuts ⟪place⟫ in
+    search rules
 
 pub write_cuts-requires : goal.write_cuts-requires
 write_cuts-requires c =

@@ -47,6 +47,23 @@ slice_bounds-write_counts-count c =
     let within : c.write_first-at.result ≤ length c.write_first-at.new.out = part_within _ _ _ _ _ (begun) c.requires.words_in_bounds in
     within
 
+pub slice_bounds-write_counts-start : goal.slice_bounds-write_counts-start
+slice_bounds-write_counts-start c =
+    let begun : let a = c.args in
+    let n = nest_in a.nest in
+    let gs = gaps_in a.placement.words in
+    Partly (slip_text n gs) (counts_text n gs) a.out.now c.write_first-at.new.out c.write_first-at.result = let a = c.args in
+    let n = nest_in a.nest in
+    let gs = gaps_in a.placement.words in
+    first_part (first_text (uncut n gs)) (counts_text n gs) a.out.now c.write_first-at.new.out c.write_first-at.result
+    (subst
+    (λ (u : ℕ). Wrote (first_text u) a.out.now c.write_first-at.new.out c.write_first-at.result)
+    c.uncut-first.ensures
+    c.write_first-at.ensures) in
+    let within : c.write_first-at.result ≤ length c.write_first-at.new.out = part_within _ _ _ _ _ (begun) c.requires.words_in_bounds in
+    let z = within in
+    search rules
+
 pub write_counts-requires : goal.write_counts-requires
 write_counts-requires c =
     let begun : let a = c.args in

@@ -21,6 +21,12 @@ slice_bounds-write_counts-count c =
     let ready : Ready (nest_in c.args.nest) (gaps_in c.args.key.words) c.args.out.now = record { few = (valid_is (nest_in c.args.nest) c.requires.nest_value).few_points; gaps = c.requires.words_value; room = c.requires.in_bounds } in
     at_within _ _ _ (ready) c.write_text-at.new.out c.write_text-at.result c.write_text-at.ensures.value c.write_text-at.ensures.out_after
 
+pub slice_bounds-write_counts-start : goal.slice_bounds-write_counts-start
+slice_bounds-write_counts-start c =
+    let ready : Ready (nest_in c.args.nest) (gaps_in c.args.key.words) c.args.out.now = record { few = (valid_is (nest_in c.args.nest) c.requires.nest_value).few_points; gaps = c.requires.words_value; room = c.requires.in_bounds } in
+    let z = at_within _ _ _ (ready) c.write_text-at.new.out c.write_text-at.result c.write_text-at.ensures.value c.write_text-at.ensures.out_after in
+    search rules
+
 pub write_counts-requires : goal.write_counts-requires
 write_counts-requires c =
     let ready : Ready (nest_in c.args.nest) (gaps_in c.args.key.words) c.args.out.now = record { few = (valid_is (nest_in c.args.nest) c.requires.nest_value).few_points; gaps = c.requires.words_value; room = c.requires.in_bounds } in

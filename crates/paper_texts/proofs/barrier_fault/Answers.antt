@@ -42,4 +42,4 @@ returns-else-f-eq2 c l i =
 pub returns-in_default : goal.returns-in_default
 returns-in_default c l i =
     let a = c.args in
-    barrier_kind a.last a.points (gaps_in a.barred.words) a.f l i c.in_default.rest.1
+    barrier_kind a.last a.points (gaps_in a.barred.words) a.f l i (λ z. omega arith)

@@ -1,4 +1,5 @@
 -- The kind and the length decide what a frame tells.
+use native.Mathlib.Omega.{arith}
 use mathlib.Core.Path.{◌∙◌}
 use mathlib.Core.Logic.{inl, inr}
 use Rattle.paper_texts.proofs.Frames.{told_is, tells_point, long_point, tells_independent, long_independent}
@@ -33,8 +34,7 @@ returns-then-f-eq1 c l i =
 pub returns-then-f-eq1-2 : goal.returns-then-f-eq1-2
 returns-then-f-eq1-2 c l i =
     let x = c.args.f in
-    let low = c.if-kind-lt1.false in
-    tells_point x.kind x.len x.a x.b x.c low c.if-kind-lt4.true c.if-f-eq1-2.true
+    tells_point x.kind x.len x.a x.b x.c (omega arith) (omega arith) c.if-f-eq1-2.true
     ∙ told_is x l i
 
 pub returns-else-f-eq3 : goal.returns-else-f-eq3
@@ -64,20 +64,17 @@ returns-else-f-eq1 c l i =
 pub returns-else-f-eq1-2 : goal.returns-else-f-eq1-2
 returns-else-f-eq1-2 c l i =
     let x = c.args.f in
-    let low = c.if-kind-lt1.false in
-    long_point x.kind x.len x.a x.b x.c low c.if-kind-lt4.true c.if-f-eq1-2.false
+    long_point x.kind x.len x.a x.b x.c (omega arith) (omega arith) c.if-f-eq1-2.false
     ∙ told_is x l i
 
 pub returns-in_default : goal.returns-in_default
 returns-in_default c l i =
     let x = c.args.f in
-    let r = c.in_default-1.rest in
-    no_kind x.kind x.len x.a x.b x.c (inl c.if-kind-lt1.true) r.0.0.0.1 r.0.0.1 r.0.1 r.1
+    no_kind x.kind x.len x.a x.b x.c (inl (omega arith)) (λ z. omega arith) (λ z. omega arith) (λ z. omega arith) (λ z. omega arith)
     ∙ told_is x l i
 
 pub returns-in_default-2 : goal.returns-in_default-2
 returns-in_default-2 c l i =
     let x = c.args.f in
-    let r = c.in_default-1.rest in
-    no_kind x.kind x.len x.a x.b x.c (inr c.if-kind-lt4.false) r.0.0.0.1 r.0.0.1 r.0.1 r.1
+    no_kind x.kind x.len x.a x.b x.c (inr (omega arith)) (λ z. omega arith) (λ z. omega arith) (λ z. omega arith) (λ z. omega arith)
     ∙ told_is x l i

@@ -49,9 +49,9 @@ returns-in-Refused c =
     c.loop-nest.at
     c.loop-nest.line
     c.loop-nest.invariant
-    c.next-1.given.0.0
+    c.in-Refused.number
     c.refused.result
-    (sym c.read_line-next.ensures ∙ c.next-1.given.1)
+    (sym c.read_line-next.ensures ∙ c.in-Refused.is)
     c.refused.ensures
 
 pub overflow_add-line : goal.overflow_add-line

@@ -42,9 +42,9 @@ returns-in-Refused c =
     c.loop-number.at
     c.loop-number.line
     c.loop-number.invariant
-    c.next-1.given.0.0
+    c.in-Refused.number
     c.unplaced.result
-    (sym c.read_line-next.ensures ∙ c.next-1.given.1)
+    (sym c.read_line-next.ensures ∙ c.in-Refused.is)
     c.unplaced.ensures
 
 pub returns-then-number-ne0 : goal.returns-then-number-ne0
@@ -58,8 +58,8 @@ returns-then-number-ne0 c =
     c.loop-number.at
     c.loop-number.line
     c.loop-number.invariant
-    c.next-in-Frame-1.given.0.0
-    (sym c.read_line-next.ensures ∙ c.next-in-Frame-1.given.1)
+    c.in-Frame.f
+    (sym c.read_line-next.ensures ∙ c.in-Frame.is)
     c.barrier_fault-number.result
     c.barrier_fault-number.ensures
     c.unplaced-then-number-ne0.result
@@ -67,7 +67,7 @@ returns-then-number-ne0 c =
     c.unplaced-then-number-ne0.ensures
 
 pub overflow_add-line : goal.overflow_add-line
-overflow_add-line c = omega (arith, c.loop-number.invariant.inside, c.loop-number.invariant.lines, c.good)
+overflow_add-line c = omega (arith, c.loop-number.invariant.inside, c.loop-number.invariant.lines, c.well_formed)
 
 pub loop-number-smaller : goal.loop-number-smaller
 loop-number-smaller c =
@@ -80,8 +80,8 @@ loop-number-smaller c =
     c.loop-number.at
     c.loop-number.line
     c.loop-number.invariant
-    c.next-in-Frame-1.given.0.0
-    (sym c.read_line-next.ensures ∙ c.next-in-Frame-1.given.1)
+    c.in-Frame.f
+    (sym c.read_line-next.ensures ∙ c.in-Frame.is)
     c.barrier_fault-number.result
     c.barrier_fault-number.ensures in
     omega (arith, n.0, n.1)
@@ -97,8 +97,8 @@ loop-number-preserved c =
     c.loop-number.at
     c.loop-number.line
     c.loop-number.invariant
-    c.next-in-Frame-1.given.0.0
-    (sym c.read_line-next.ensures ∙ c.next-in-Frame-1.given.1)
+    c.in-Frame.f
+    (sym c.read_line-next.ensures ∙ c.in-Frame.is)
     c.barrier_fault-number.result
     c.barrier_fault-number.ensures
     c.put-placement.result.words

@@ -9,7 +9,7 @@ use Rattle.paper_texts.proofs.Counting.{count_room, count_skip, count_on, count_
 use Rattle.paper_texts.proofs.write_counts.Goals as goal
 
 pub counts_of-counts-requires : goal.counts_of-counts-requires
-counts_of-counts-requires c = record { points_value = c.requires.points_value; words_value = c.requires.words_value; }
+counts_of-counts-requires c = record { points_value = c.requires.points_value; words_value = c.requires.words_value }
 
 pub loop-d-init : goal.loop-d-init
 loop-d-init c =
@@ -19,22 +19,45 @@ loop-d-init c =
 pub slice_bounds-put_frame-count : goal.slice_bounds-put_frame-count
 slice_bounds-put_frame-count c =
     let given : let a = c.args in
-    Given a.points.now (gaps_in a.key.words) c.counts_of-counts.result a.out.now = record { few = c.requires.points_value.1; gaps = c.requires.words_value; counts_are = c.counts_of-counts.ensures; room= c.requires.counts_fit } in
+    Given a.points.now (gaps_in a.key.words) c.counts_of-counts.result a.out.now = record { few = c.requires.points_value.1; gaps = c.requires.words_value; counts_are = c.counts_of-counts.ensures; room = c.requires.counts_fit } in
     let inside : let o = c.args.out.now in (length c.loop-d.out ≡ length o) × (c.loop-d.at ≤ length o) = let a = c.args in
     let t = c.counts_of-counts.result in
     let gs = gaps_in a.key.words in (
       count_length a.points.now t a.out.now c.loop-d.out c.loop-d.at c.loop-d.d c.loop-d.invariant gs (given),
       count_within a.points.now t a.out.now c.loop-d.out c.loop-d.at c.loop-d.d c.loop-d.invariant gs (given),
     ) in
-    let room : c.loop-d.at + 7 ≤ length c.args.out.now = let a = c.args in
-    count_room a.points.now c.counts_of-counts.result a.out.now c.loop-d.out c.loop-d.at c.loop-d.d c.loop-d.invariant
-    (gaps_in a.key.words) (given) c.loop-d-test.true c.if-points-d-eq-DO.true in
     omega (arith, (inside).0, (inside).1)
+
+pub slice_bounds-put_frame-start : goal.slice_bounds-put_frame-start
+slice_bounds-put_frame-start c =
+    let given : let a = c.args in
+    Given a.points.now (gaps_in a.key.words) c.counts_of-counts.result a.out.now = record { few = c.requires.points_value.1; gaps = c.requires.words_value; counts_are = c.counts_of-counts.ensures; room = c.requires.counts_fit } in
+    let inside : let o = c.args.out.now in (length c.loop-d.out ≡ length o) × (c.loop-d.at ≤ length o) = let a = c.args in
+    let t = c.counts_of-counts.result in
+    let gs = gaps_in a.key.words in (
+      count_length a.points.now t a.out.now c.loop-d.out c.loop-d.at c.loop-d.d c.loop-d.invariant gs (given),
+      count_within a.points.now t a.out.now c.loop-d.out c.loop-d.at c.loop-d.d c.loop-d.invariant gs (given),
+    ) in
+    let z = inside in
+    search rules
+
+pub slice_bounds-put_frame-end : goal.slice_bounds-put_frame-end
+slice_bounds-put_frame-end c =
+    let given : let a = c.args in
+    Given a.points.now (gaps_in a.key.words) c.counts_of-counts.result a.out.now = record { few = c.requires.points_value.1; gaps = c.requires.words_value; counts_are = c.counts_of-counts.ensures; room = c.requires.counts_fit } in
+    let inside : let o = c.args.out.now in (length c.loop-d.out ≡ length o) × (c.loop-d.at ≤ length o) = let a = c.args in
+    let t = c.counts_of-counts.result in
+    let gs = gaps_in a.key.words in (
+      count_length a.points.now t a.out.now c.loop-d.out c.loop-d.at c.loop-d.d c.loop-d.invariant gs (given),
+      count_within a.points.now t a.out.now c.loop-d.out c.loop-d.at c.loop-d.d c.loop-d.invariant gs (given),
+    ) in
+    let z = inside in
+    search rules
 
 pub put_frame-at-requires : goal.put_frame-at-requires
 put_frame-at-requires c =
     let given : let a = c.args in
-    Given a.points.now (gaps_in a.key.words) c.counts_of-counts.result a.out.now = record { few = c.requires.points_value.1; gaps = c.requires.words_value; counts_are = c.counts_of-counts.ensures; room= c.requires.counts_fit } in
+    Given a.points.now (gaps_in a.key.words) c.counts_of-counts.result a.out.now = record { few = c.requires.points_value.1; gaps = c.requires.words_value; counts_are = c.counts_of-counts.ensures; room = c.requires.counts_fit } in
     let inside : let o = c.args.out.now in (length c.loop-d.out ≡ length o) × (c.loop-d.at ≤ length o) = let a = c.args in
     let t = c.counts_of-counts.result in
     let gs = gaps_in a.key.words in (
@@ -49,7 +72,7 @@ put_frame-at-requires c =
 pub overflow_add-at : goal.overflow_add-at
 overflow_add-at c =
     let given : let a = c.args in
-    Given a.points.now (gaps_in a.key.words) c.counts_of-counts.result a.out.now = record { few = c.requires.points_value.1; gaps = c.requires.words_value; counts_are = c.counts_of-counts.ensures; room= c.requires.counts_fit } in
+    Given a.points.now (gaps_in a.key.words) c.counts_of-counts.result a.out.now = record { few = c.requires.points_value.1; gaps = c.requires.words_value; counts_are = c.counts_of-counts.ensures; room = c.requires.counts_fit } in
     let room : c.loop-d.at + 7 ≤ length c.args.out.now = let a = c.args in
     count_room a.points.now c.counts_of-counts.result a.out.now c.loop-d.out c.loop-d.at c.loop-d.d c.loop-d.invariant
     (gaps_in a.key.words) (given) c.loop-d-test.true c.if-points-d-eq-DO.true in
@@ -83,25 +106,19 @@ loop-d-preserved c =
 pub shape_of-out : goal.shape_of-out
 shape_of-out c =
     let given : let a = c.args in
-    Given a.points.now (gaps_in a.key.words) c.counts_of-counts.result a.out.now = record { few = c.requires.points_value.1; gaps = c.requires.words_value; counts_are = c.counts_of-counts.ensures; room= c.requires.counts_fit } in
+    Given a.points.now (gaps_in a.key.words) c.counts_of-counts.result a.out.now = record { few = c.requires.points_value.1; gaps = c.requires.words_value; counts_are = c.counts_of-counts.ensures; room = c.requires.counts_fit } in
     let inside : let o = c.args.out.now in (length c.loop-d.out ≡ length o) × (c.loop-d.at ≤ length o) = let a = c.args in
     let t = c.counts_of-counts.result in
     let gs = gaps_in a.key.words in (
       count_length a.points.now t a.out.now c.loop-d.out c.loop-d.at c.loop-d.d c.loop-d.invariant gs (given),
       count_within a.points.now t a.out.now c.loop-d.out c.loop-d.at c.loop-d.d c.loop-d.invariant gs (given),
     ) in
-    let room : c.loop-d.at + 7 ≤ length c.args.out.now = let a = c.args in
-    count_room a.points.now c.counts_of-counts.result a.out.now c.loop-d.out c.loop-d.at c.loop-d.d c.loop-d.invariant
-    (gaps_in a.key.words) (given) c.loop-d-test.true c.if-points-d-eq-DO.true in
     (inside).0
 
 pub returns : goal.returns
 returns c =
     let given : let a = c.args in
-    Given a.points.now (gaps_in a.key.words) c.counts_of-counts.result a.out.now = record { few = c.requires.points_value.1; gaps = c.requires.words_value; counts_are = c.counts_of-counts.ensures; room= c.requires.counts_fit } in
-    let room : c.loop-d.at + 7 ≤ length c.args.out.now = let a = c.args in
-    count_room a.points.now c.counts_of-counts.result a.out.now c.loop-d.out c.loop-d.at c.loop-d.d c.loop-d.invariant
-    (gaps_in a.key.words) (given) c.loop-d-test.true c.if-points-d-eq-DO.true in
+    Given a.points.now (gaps_in a.key.words) c.counts_of-counts.result a.out.now = record { few = c.requires.points_value.1; gaps = c.requires.words_value; counts_are = c.counts_of-counts.ensures; room = c.requires.counts_fit } in
     let a = c.args in
     count_done a.points.now c.counts_of-counts.result a.out.now c.loop-d.out c.loop-d.at c.loop-d.d c.loop-d.invariant
     (gaps_in a.key.words) (given) c.loop-d-test.false

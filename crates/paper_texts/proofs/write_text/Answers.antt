@@ -19,6 +19,20 @@ slice_bounds-put_frame-count c =
     let z = inside in
     omega arith
 
+pub slice_bounds-put_frame-start : goal.slice_bounds-put_frame-start
+slice_bounds-put_frame-start c =
+    let inside : let o = c.args.out.now in
+    (length c.loop-g.out ≡ length o) × (c.loop-g.at ≤ length o) = write_in c.args.p.words c.args.out.now c.loop-g.out c.loop-g.at c.loop-g.g c.requires c.loop-g.invariant in
+    let z = inside in
+    search rules
+
+pub slice_bounds-put_frame-end : goal.slice_bounds-put_frame-end
+slice_bounds-put_frame-end c =
+    let inside : let o = c.args.out.now in
+    (length c.loop-g.out ≡ length o) × (c.loop-g.at ≤ length o) = write_in c.args.p.words c.args.out.now c.loop-g.out c.loop-g.at c.loop-g.g c.requires c.loop-g.invariant in
+    let z = inside in
+    search rules
+
 pub put_frame-at-requires : goal.put_frame-at-requires
 put_frame-at-requires c =
     let inside : let o = c.args.out.now in

@@ -10,8 +10,8 @@ loop-l-init c =
     let call : let a = c.args in Call a.points.now a.own.now a.ends.now a.s a.t = record { points = c.requires.points; owners = c.requires.own_is; stops = c.requires.ends_are; forward = c.requires.s_lt_t; there = c.requires.t_in_bounds } in
     let a = call in
     elim c.if-points-s-eq-DO.branch [
-      then-points-s-eq-DO w ↦ rw w.l-is (climb_from_do a w.if-points-s-eq-DO.true)
-    | else-points-s-eq-DO w ↦ rw w.l-is (climb_from_owner a w.if-points-s-eq-DO.false)
+      | then-points-s-eq-DO w ↦ rw w.l-is (climb_from_do a w.if-points-s-eq-DO.true)
+      | else-points-s-eq-DO w ↦ rw w.l-is (climb_from_owner a w.if-points-s-eq-DO.false)
     ]
 
 pub loop-l-smaller : goal.loop-l-smaller

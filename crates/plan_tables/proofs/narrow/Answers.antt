@@ -27,8 +27,8 @@ loop-d-preserved c =
     let ended : Ended c.args.points.now c.args.ends.now c.args.heights.now = record { tall = record { points = c.requires.points; heights_are = c.requires.heights_are }; stops = c.requires.ends_are } in
     let w = ended in
     elim c.if-points-d-eq-DO.branch [
-      then-points-d-eq-DO x ↦ rw x.limit-is (limits_on w c.loop-d.invariant x.if-points-d-eq-DO.true x.narrow_row.auto.xs x.narrow_row.ensures)
-    | else-points-d-eq-DO x ↦ rw x.limit-is (limits_skip w c.loop-d.invariant x.if-points-d-eq-DO.false)
+      | then-points-d-eq-DO x ↦ rw x.limit-is (limits_on w c.loop-d.invariant x.if-points-d-eq-DO.true x.narrow_row.auto.xs x.narrow_row.ensures)
+      | else-points-d-eq-DO x ↦ rw x.limit-is (limits_skip w c.loop-d.invariant x.if-points-d-eq-DO.false)
     ]
 
 pub returns : goal.returns
