@@ -39,7 +39,7 @@ use Rattle.plan_theorem.proofs.FirstSmallest.{first_smallest}
 use Rattle.plan_theorem.proofs.PlainKey.{plain_is_first}
 use Rattle.plan_theorem.proofs.BarredKey.{barred_first_smallest}
 use Rattle.argue_claims.specs.Arguments.{Step, Claim, Known, claim}
-use Rattle.argue_claims.specs.Arguments.{run, ended, begun, has_low, all_low, all_hold, holds}
+use Rattle.argue_claims.specs.Arguments.{run, ended, begun, known_of, has_low, all_low, all_hold, holds}
 use Rattle.argue_key.specs.Laps.{Head, head, side_heads, loop_heads, heads_from, made, claim_for, plain_argument}
 use Rattle.argue_key.proofs.Plain.{plain_argued}
 use Rattle.argue_key.proofs.BarredClaims.{claim_kept}
@@ -198,7 +198,8 @@ module _ (n : Nest) (valid : is_valid n ≡ true) (one : one_loop n.points ≡ t
             (ended ring' (plain_key ring') (claim 0 0 0 ss) (run ring' (plain_key ring') (claim 0 0 0 ss) [] ss begun) &&
             true) ≡ true
         first ss h = and_intro (and_true (ended ring' (plain_key ring') (claim 0 0 0 ss)
-            (run ring' (plain_key ring') (claim 0 0 0 ss) [] ss begun)) _ h).0 refl
+            (run ring' (plain_key ring') (claim 0 0 0 ss) [] ss begun))
+            (all_low ring' (plain_key ring') ([] ++ (known_of ring' (plain_key ring') (claim 0 0 0 ss) (run ring' (plain_key ring') (claim 0 0 0 ss) [] ss begun) ∷ [])) (length ring'.points)) h).0 refl
 
     pub barred_argued : holds n (barred_key n) (plain_argument ring'.points ring'.deps) ≡ true
     barred_argued = and_intro correct

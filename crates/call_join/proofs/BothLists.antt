@@ -1,6 +1,6 @@
 -- Two lists, one after the other: whose members are whose; and dependences moved along.
 -- Main statements: `in_both`, `in-front`, `in_back`; `among_both`; `among_moved`, `moved_among`.
-use mathlib.Core.Path.{◌≡◌, refl, ap}
+use mathlib.Core.Path.{◌≡◌, refl, ap, sym, subst}
 use mathlib.Core.Bool.{true}
 use mathlib.Core.List.{List, [], ◌∷◌, ◌++◌}
 use mathlib.Core.Logic.{◌⊎◌, inl, inr, ⊎_elim}
@@ -14,10 +14,13 @@ use Rattle.call_join.specs.JointNests.{moved_dep, moved_deps}
 
 -- ---- members of two lists, one after the other
 
+here_by : (x y : ℕ) (ys : List ℕ) → x ≡ y → is_in x (y ∷ ys) ≡ true
+here_by x y ys z = let P : ℕ → Type 0 = λ n. is_in n (y ∷ ys) ≡ true in subst P (sym z) (in_here y ys)
+
 pub in_both : (x : ℕ) (xs ys : List ℕ) → is_in x (xs ++ ys) ≡ true → (is_in x xs ≡ true) ⊎ (is_in x ys ≡ true)
 in_both x [] ys h = inr h
 in_both x (y ∷ xs) ys h = ⊎_elim
-    (λ (z : x ≡ y). inl (rw z (in_here y xs)))
+    (λ (z : x ≡ y). inl (here_by x y xs z))
     (λ (z : is_in x (xs ++ ys) ≡ true). ⊎_elim
     (λ (w : is_in x xs ≡ true). inl (in_later x y xs w))
     (λ (w : is_in x ys ≡ true). inr w)
@@ -27,7 +30,7 @@ in_both x (y ∷ xs) ys h = ⊎_elim
 pub in-front : (x : ℕ) (xs ys : List ℕ) → is_in x xs ≡ true → is_in x (xs ++ ys) ≡ true
 in-front x [] ys h = never h
 in-front x (y ∷ xs) ys h = ⊎_elim
-    (λ (z : x ≡ y). rw z (in_here y (xs ++ ys)))
+    (λ (z : x ≡ y). here_by x y (xs ++ ys) z)
     (λ (z : is_in x xs ≡ true). in_later x y (xs ++ ys) (in-front x xs ys z))
     (in_cons x y xs h)
 

@@ -17,7 +17,7 @@ put_frame-requires c =
 pub overflow_add-result : goal.overflow_add-result
 overflow_add-result c =
     let a = c.args in
-    omega (arith, c.put_frame.ensures.value, text-length a.frame.now, (c.requires.at_bound, c.requires.frame_len_bound))
+    omega (arith, c.put_frame.ensures.value, text-length a.frame.now, c.requires.at_bound, c.requires.frame_len_bound)
 
 pub returns : goal.returns
 returns c =

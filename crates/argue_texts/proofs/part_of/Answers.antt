@@ -1,4 +1,5 @@
 -- The kind and the length decide what a frame tells.
+use native.Mathlib.Omega.{arith}
 use mathlib.Core.Path.{◌∙◌}
 use Rattle.argue_texts.proofs.Frames.{told_is, tells_claim, tells_by, tells_dependence, tells_from, tells_upto}
 use Rattle.argue_texts.proofs.Frames.{long_claim, long_by, long_dependence, long_from, long_upto, no_kind}
@@ -67,6 +68,5 @@ returns-else-f-eq1-2 c l i =
 pub returns-in_default : goal.returns-in_default
 returns-in_default c l i =
     let x = c.args.f in
-    let r = c.in_default.rest in
-    no_kind x.kind x.len x.a x.b x.c r.0.0.0.0.1 r.0.0.0.1 r.0.0.1 r.0.1 r.1
+    no_kind x.kind x.len x.a x.b x.c (λ z. omega arith) (λ z. omega arith) (λ z. omega arith) (λ z. omega arith) (λ z. omega arith)
     ∙ told_is x l i

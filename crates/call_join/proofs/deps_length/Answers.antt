@@ -19,7 +19,7 @@ overflow_add-length c =
     let added : Summed (nest_in c.args.nest).deps (c.loop-i.length + c.dep_length-length.result) (c.loop-i.i + 1) = let n = c.args.nest in
     let p = c.requires in
     summed_on c.loop-i.invariant (omega (arith, p.many_is, c.loop-i-test.true))
-    (deps_in_at n.many n.deps c.loop-i.i (record { kind = 0; d = 0; s = 0; ⟪place⟫ = 0 }) c.loop-i-test.true
+    (deps_in_at n.many n.deps c.loop-i.i (record { kind = 0; d = 0; s = 0; t = 0 }) c.loop-i-test.true
     (counted_many n p))
     c.dep_length-length.ensures in
     let p = c.requires in
@@ -36,7 +36,7 @@ loop-i-preserved c =
     let added : Summed (nest_in c.args.nest).deps (c.loop-i.length + c.dep_length-length.result) (c.loop-i.i + 1) = let n = c.args.nest in
     let p = c.requires in
     summed_on c.loop-i.invariant (omega (arith, p.many_is, c.loop-i-test.true))
-    (deps_in_at n.many n.deps c.loop-i.i (record { kind = 0; d = 0; s = 0; ⟪place⟫ = 0 }) c.loop-i-test.true
+    (deps_in_at n.many n.deps c.loop-i.i (record { kind = 0; d = 0; s = 0; t = 0 }) c.loop-i-test.true
     (counted_many n p))
     c.dep_length-length.ensures in
     added

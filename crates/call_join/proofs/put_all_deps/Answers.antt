@@ -94,9 +94,9 @@ overflow_add-result c =
     let parts : whole ≡ first ++ second (at_second) = joint_deps (moved_deps 1 (nest_in c.args.n).deps) (moved_deps (at_second) (nest_in c.args.m).deps) in
     let begun : Begun (whole) (second (at_second)) c.args.out.now c.put_deps-at.new.out c.put_deps-at.result = begun_by (first) (parts) c.requires.m_in_bounds c.put_deps-at.ensures.0 c.put_deps-at.ensures.1 in
     let size : c.put_deps.result ≡ length (second (at_second)) = c.put_deps.ensures.0 ∙ ap (λ (k : ℕ). length (second k)) (begins) in
-    let written : let p = c.put_deps-at.last.1.1.0 in
+    let written : let p = c.put_deps-at.new.out in
     c.put_deps.new.out
-    ≡ over (second (at_second)) (mid_of c.put_deps-at.result (length p - c.put_deps-at.result) p) = let p = c.put_deps-at.last.1.1.0 in
+    ≡ over (second (at_second)) (mid_of c.put_deps-at.result (length p - c.put_deps-at.result) p) = let p = c.put_deps-at.new.out in
     c.put_deps.ensures.1 ∙
     ap (λ (k : ℕ). over (second k) (mid_of c.put_deps-at.result (length p - c.put_deps-at.result) p)) (begins) in
     omega (arith, last_within (begun) (size) (written))
@@ -111,9 +111,9 @@ shape_of-out c =
     let parts : whole ≡ first ++ second (at_second) = joint_deps (moved_deps 1 (nest_in c.args.n).deps) (moved_deps (at_second) (nest_in c.args.m).deps) in
     let begun : Begun (whole) (second (at_second)) c.args.out.now c.put_deps-at.new.out c.put_deps-at.result = begun_by (first) (parts) c.requires.m_in_bounds c.put_deps-at.ensures.0 c.put_deps-at.ensures.1 in
     let size : c.put_deps.result ≡ length (second (at_second)) = c.put_deps.ensures.0 ∙ ap (λ (k : ℕ). length (second k)) (begins) in
-    let written : let p = c.put_deps-at.last.1.1.0 in
+    let written : let p = c.put_deps-at.new.out in
     c.put_deps.new.out
-    ≡ over (second (at_second)) (mid_of c.put_deps-at.result (length p - c.put_deps-at.result) p) = let p = c.put_deps-at.last.1.1.0 in
+    ≡ over (second (at_second)) (mid_of c.put_deps-at.result (length p - c.put_deps-at.result) p) = let p = c.put_deps-at.new.out in
     c.put_deps.ensures.1 ∙
     ap (λ (k : ℕ). over (second k) (mid_of c.put_deps-at.result (length p - c.put_deps-at.result) p)) (begins) in
     last_length (begun) (size) (written)
@@ -128,9 +128,9 @@ returns c =
     let parts : whole ≡ first ++ second (at_second) = joint_deps (moved_deps 1 (nest_in c.args.n).deps) (moved_deps (at_second) (nest_in c.args.m).deps) in
     let begun : Begun (whole) (second (at_second)) c.args.out.now c.put_deps-at.new.out c.put_deps-at.result = begun_by (first) (parts) c.requires.m_in_bounds c.put_deps-at.ensures.0 c.put_deps-at.ensures.1 in
     let size : c.put_deps.result ≡ length (second (at_second)) = c.put_deps.ensures.0 ∙ ap (λ (k : ℕ). length (second k)) (begins) in
-    let written : let p = c.put_deps-at.last.1.1.0 in
+    let written : let p = c.put_deps-at.new.out in
     c.put_deps.new.out
-    ≡ over (second (at_second)) (mid_of c.put_deps-at.result (length p - c.put_deps-at.result) p) = let p = c.put_deps-at.last.1.1.0 in
+    ≡ over (second (at_second)) (mid_of c.put_deps-at.result (length p - c.put_deps-at.result) p) = let p = c.put_deps-at.new.out in
     c.put_deps.ensures.1 ∙
     ap (λ (k : ℕ). over (second k) (mid_of c.put_deps-at.result (length p - c.put_deps-at.result) p)) (begins) in
     last_written (begun) (size) (written)

@@ -31,9 +31,9 @@ bounds-nest-i c = omega (arith, c.requires.counted.many_fits)
 pub moved-e-requires : goal.moved-e-requires
 moved-e-requires c =
     let deps : List Dep = (nest_in c.args.nest).deps in
-    let here : Dep = dep_in (get_or c.args.nest.deps c.loop-i.i (record { kind = 0; d = 0; s = 0; ⟪place⟫ = 0 })) in
+    let here : Dep = dep_in (get_or c.args.nest.deps c.loop-i.i (record { kind = 0; d = 0; s = 0; t = 0 })) in
     let next : drop c.loop-i.i (deps) ≡ here ∷ drop (suc c.loop-i.i) (deps) = let n = c.args.nest in
-    deps_in_at n.many n.deps c.loop-i.i (record { kind = 0; d = 0; s = 0; ⟪place⟫ = 0 }) c.loop-i-test.true
+    deps_in_at n.many n.deps c.loop-i.i (record { kind = 0; d = 0; s = 0; t = 0 }) c.loop-i-test.true
     (counted_many n c.requires.counted) in
     c.requires.stay_bytes (here) (among_next (deps) c.loop-i.i (next))
 
@@ -66,9 +66,9 @@ put_dep-at-requires c =
     let inside : let o = c.args.out.now in (length c.loop-i.out ≡ length o) × (c.loop-i.at ≤ length o) = let p = c.loop-i.invariant in
     let fits = c.requires.nest_in_bounds in
     (piece_length p fits, piece_within p fits) in
-    let here : Dep = dep_in (get_or c.args.nest.deps c.loop-i.i (record { kind = 0; d = 0; s = 0; ⟪place⟫ = 0 })) in
+    let here : Dep = dep_in (get_or c.args.nest.deps c.loop-i.i (record { kind = 0; d = 0; s = 0; t = 0 })) in
     let next : drop c.loop-i.i (deps) ≡ here ∷ drop (suc c.loop-i.i) (deps) = let n = c.args.nest in
-    deps_in_at n.many n.deps c.loop-i.i (record { kind = 0; d = 0; s = 0; ⟪place⟫ = 0 }) c.loop-i-test.true
+    deps_in_at n.many n.deps c.loop-i.i (record { kind = 0; d = 0; s = 0; t = 0 }) c.loop-i-test.true
     (counted_many n c.requires.counted) in
     let moved_here : Dep = moved_dep c.args.by (here) in
     let next-piece : dep_pieces (moved_deps c.args.by (drop c.loop-i.i (deps)))
@@ -81,9 +81,9 @@ put_dep-at-requires c =
 pub overflow_add-at : goal.overflow_add-at
 overflow_add-at c =
     let deps : List Dep = (nest_in c.args.nest).deps in
-    let here : Dep = dep_in (get_or c.args.nest.deps c.loop-i.i (record { kind = 0; d = 0; s = 0; ⟪place⟫ = 0 })) in
+    let here : Dep = dep_in (get_or c.args.nest.deps c.loop-i.i (record { kind = 0; d = 0; s = 0; t = 0 })) in
     let next : drop c.loop-i.i (deps) ≡ here ∷ drop (suc c.loop-i.i) (deps) = let n = c.args.nest in
-    deps_in_at n.many n.deps c.loop-i.i (record { kind = 0; d = 0; s = 0; ⟪place⟫ = 0 }) c.loop-i-test.true
+    deps_in_at n.many n.deps c.loop-i.i (record { kind = 0; d = 0; s = 0; t = 0 }) c.loop-i-test.true
     (counted_many n c.requires.counted) in
     let moved_here : Dep = moved_dep c.args.by (here) in
     let next-piece : dep_pieces (moved_deps c.args.by (drop c.loop-i.i (deps)))
@@ -102,9 +102,9 @@ loop-i-smaller c = omega (arith, c.loop-i-test.true)
 pub loop-i-preserved : goal.loop-i-preserved
 loop-i-preserved c =
     let deps : List Dep = (nest_in c.args.nest).deps in
-    let here : Dep = dep_in (get_or c.args.nest.deps c.loop-i.i (record { kind = 0; d = 0; s = 0; ⟪place⟫ = 0 })) in
+    let here : Dep = dep_in (get_or c.args.nest.deps c.loop-i.i (record { kind = 0; d = 0; s = 0; t = 0 })) in
     let next : drop c.loop-i.i (deps) ≡ here ∷ drop (suc c.loop-i.i) (deps) = let n = c.args.nest in
-    deps_in_at n.many n.deps c.loop-i.i (record { kind = 0; d = 0; s = 0; ⟪place⟫ = 0 }) c.loop-i-test.true
+    deps_in_at n.many n.deps c.loop-i.i (record { kind = 0; d = 0; s = 0; t = 0 }) c.loop-i-test.true
     (counted_many n c.requires.counted) in
     let moved_here : Dep = moved_dep c.args.by (here) in
     let next-piece : dep_pieces (moved_deps c.args.by (drop c.loop-i.i (deps)))

@@ -71,7 +71,7 @@ put_frame-at-requires c =
     let here : let i = c.loop-i.i in
     let ds = (nest_in c.args.nest).deps in
     drop i ds ≡ tried ∷ drop (suc i) ds = let n = c.args.nest in
-    deps_in_at n.many n.deps c.loop-i.i (record { kind = 0; d = 0; ⟪place⟫ = 0; t = 0 })
+    deps_in_at n.many n.deps c.loop-i.i (record { kind = 0; d = 0; s = 0; t = 0 })
     c.loop-i-test.true
     (counted_many n c.requires.counted) in
     let room : c.loop-i.at + 5 ≤ length c.args.out.now = let a = c.args in
@@ -85,7 +85,7 @@ overflow_add-at c =
     let here : let i = c.loop-i.i in
     let ds = (nest_in c.args.nest).deps in
     drop i ds ≡ tried ∷ drop (suc i) ds = let n = c.args.nest in
-    deps_in_at n.many n.deps c.loop-i.i (record { kind = 0; d = 0; ⟪place⟫ = 0; t = 0 })
+    deps_in_at n.many n.deps c.loop-i.i (record { kind = 0; d = 0; s = 0; t = 0 })
     c.loop-i-test.true
     (counted_many n c.requires.counted) in
     let room : c.loop-i.at + 5 ≤ length c.args.out.now = let a = c.args in
@@ -106,7 +106,7 @@ loop-i-preserved c =
     let here : let i = c.loop-i.i in
     let ds = (nest_in c.args.nest).deps in
     drop i ds ≡ tried ∷ drop (suc i) ds = let n = c.args.nest in
-    deps_in_at n.many n.deps c.loop-i.i (record { kind = 0; d = 0; ⟪place⟫ = 0; t = 0 })
+    deps_in_at n.many n.deps c.loop-i.i (record { kind = 0; d = 0; s = 0; t = 0 })
     c.loop-i-test.true
     (counted_many n c.requires.counted) in
     let told : let a = c.args in

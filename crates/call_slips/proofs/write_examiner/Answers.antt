@@ -89,7 +89,7 @@ overflow_add-cuts c =
     (examiner_text n (gaps_in a.key.words) gs)
     (cuts_text n.points n.deps gs)
     a.out.now
-    (put_mid c.write_slip-at.result (length c.write_slip-at.last.1.1.0 - c.write_slip-at.result) c.write_slip-at.last.1.1.0 c.write_verdict.new.out)
+    (put_mid c.write_slip-at.result (length c.write_slip-at.new.out - c.write_slip-at.result) c.write_slip-at.new.out c.write_verdict.new.out)
     (c.write_slip-at.result + c.write_verdict.result) = let a = c.args in
     let mark = mark_of (nest_in a.nest) (gaps_in a.key.words) (gaps_in a.placement.words) in
     next_part _ _ _ _ _ (begun) (fits) (verdict_text mark) _ refl _ _
@@ -97,7 +97,7 @@ overflow_add-cuts c =
     (λ (x : Verdict).
     Wrote
     (verdict_text x)
-    (mid_of c.write_slip-at.result (length c.write_slip-at.last.1.1.0 - c.write_slip-at.result) c.write_slip-at.last.1.1.0)
+    (mid_of c.write_slip-at.result (length c.write_slip-at.new.out - c.write_slip-at.result) c.write_slip-at.new.out)
     c.write_verdict.new.out
     c.write_verdict.result)
     c.judge-verdict.ensures
@@ -126,7 +126,7 @@ slice_bounds-write_cuts-count c =
     (examiner_text n (gaps_in a.key.words) gs)
     (cuts_text n.points n.deps gs)
     a.out.now
-    (put_mid c.write_slip-at.result (length c.write_slip-at.last.1.1.0 - c.write_slip-at.result) c.write_slip-at.last.1.1.0 c.write_verdict.new.out)
+    (put_mid c.write_slip-at.result (length c.write_slip-at.new.out - c.write_slip-at.result) c.write_slip-at.new.out c.write_verdict.new.out)
     (c.write_slip-at.result + c.write_verdict.result) = let a = c.args in
     let mark = mark_of (nest_in a.nest) (gaps_in a.key.words) (gaps_in a.placement.words) in
     next_part _ _ _ _ _ (begun) (fits) (verdict_text mark) _ refl _ _
@@ -134,7 +134,7 @@ slice_bounds-write_cuts-count c =
     (λ (x : Verdict).
     Wrote
     (verdict_text x)
-    (mid_of c.write_slip-at.result (length c.write_slip-at.last.1.1.0 - c.write_slip-at.result) c.write_slip-at.last.1.1.0)
+    (mid_of c.write_slip-at.result (length c.write_slip-at.new.out - c.write_slip-at.result) c.write_slip-at.new.out)
     c.write_verdict.new.out
     c.write_verdict.result)
     c.judge-verdict.ensures
@@ -168,7 +168,7 @@ write_cuts-requires c =
     (examiner_text n (gaps_in a.key.words) gs)
     (cuts_text n.points n.deps gs)
     a.out.now
-    (put_mid c.write_slip-at.result (length c.write_slip-at.last.1.1.0 - c.write_slip-at.result) c.write_slip-at.last.1.1.0 c.write_verdict.new.out)
+    (put_mid c.write_slip-at.result (length c.write_slip-at.new.out - c.write_slip-at.result) c.write_slip-at.new.out c.write_verdict.new.out)
     (c.write_slip-at.result + c.write_verdict.result) = let a = c.args in
     let mark = mark_of (nest_in a.nest) (gaps_in a.key.words) (gaps_in a.placement.words) in
     next_part _ _ _ _ _ (begun) (fits) (verdict_text mark) _ refl _ _
@@ -176,7 +176,7 @@ write_cuts-requires c =
     (λ (x : Verdict).
     Wrote
     (verdict_text x)
-    (mid_of c.write_slip-at.result (length c.write_slip-at.last.1.1.0 - c.write_slip-at.result) c.write_slip-at.last.1.1.0)
+    (mid_of c.write_slip-at.result (length c.write_slip-at.new.out - c.write_slip-at.result) c.write_slip-at.new.out)
     c.write_verdict.new.out
     c.write_verdict.result)
     c.judge-verdict.ensures
@@ -204,7 +204,7 @@ overflow_add-result c =
     (examiner_text n (gaps_in a.key.words) gs)
     (cuts_text n.points n.deps gs)
     a.out.now
-    (put_mid c.write_slip-at.result (length c.write_slip-at.last.1.1.0 - c.write_slip-at.result) c.write_slip-at.last.1.1.0 c.write_verdict.new.out)
+    (put_mid c.write_slip-at.result (length c.write_slip-at.new.out - c.write_slip-at.result) c.write_slip-at.new.out c.write_verdict.new.out)
     (c.write_slip-at.result + c.write_verdict.result) = let a = c.args in
     let mark = mark_of (nest_in a.nest) (gaps_in a.key.words) (gaps_in a.placement.words) in
     next_part _ _ _ _ _ (begun) (fits) (verdict_text mark) _ refl _ _
@@ -212,13 +212,13 @@ overflow_add-result c =
     (λ (x : Verdict).
     Wrote
     (verdict_text x)
-    (mid_of c.write_slip-at.result (length c.write_slip-at.last.1.1.0 - c.write_slip-at.result) c.write_slip-at.last.1.1.0)
+    (mid_of c.write_slip-at.result (length c.write_slip-at.new.out - c.write_slip-at.result) c.write_slip-at.new.out)
     c.write_verdict.new.out
     c.write_verdict.result)
     c.judge-verdict.ensures
     c.write_verdict.ensures) in
     let written : let a = c.args in
-    let o = put_mid c.write_slip-at.result (length c.write_slip-at.last.1.1.0 - c.write_slip-at.result) c.write_slip-at.last.1.1.0 c.write_verdict.new.out in
+    let o = put_mid c.write_slip-at.result (length c.write_slip-at.new.out - c.write_slip-at.result) c.write_slip-at.new.out c.write_verdict.new.out in
     Wrote
     (examiner_text (nest_in a.nest) (gaps_in a.key.words) (gaps_in a.placement.words))
     a.out.now
@@ -249,7 +249,7 @@ returns c =
     (examiner_text n (gaps_in a.key.words) gs)
     (cuts_text n.points n.deps gs)
     a.out.now
-    (put_mid c.write_slip-at.result (length c.write_slip-at.last.1.1.0 - c.write_slip-at.result) c.write_slip-at.last.1.1.0 c.write_verdict.new.out)
+    (put_mid c.write_slip-at.result (length c.write_slip-at.new.out - c.write_slip-at.result) c.write_slip-at.new.out c.write_verdict.new.out)
     (c.write_slip-at.result + c.write_verdict.result) = let a = c.args in
     let mark = mark_of (nest_in a.nest) (gaps_in a.key.words) (gaps_in a.placement.words) in
     next_part _ _ _ _ _ (begun) (fits) (verdict_text mark) _ refl _ _
@@ -257,13 +257,13 @@ returns c =
     (λ (x : Verdict).
     Wrote
     (verdict_text x)
-    (mid_of c.write_slip-at.result (length c.write_slip-at.last.1.1.0 - c.write_slip-at.result) c.write_slip-at.last.1.1.0)
+    (mid_of c.write_slip-at.result (length c.write_slip-at.new.out - c.write_slip-at.result) c.write_slip-at.new.out)
     c.write_verdict.new.out
     c.write_verdict.result)
     c.judge-verdict.ensures
     c.write_verdict.ensures) in
     let written : let a = c.args in
-    let o = put_mid c.write_slip-at.result (length c.write_slip-at.last.1.1.0 - c.write_slip-at.result) c.write_slip-at.last.1.1.0 c.write_verdict.new.out in
+    let o = put_mid c.write_slip-at.result (length c.write_slip-at.new.out - c.write_slip-at.result) c.write_slip-at.new.out c.write_verdict.new.out in
     Wrote
     (examiner_text (nest_in a.nest) (gaps_in a.key.words) (gaps_in a.placement.words))
     a.out.now
