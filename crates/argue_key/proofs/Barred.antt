@@ -192,14 +192,13 @@ module _ (n : Nest) (valid : is_valid n ≡ true) (one : one_loop n.points ≡ t
         rw l.is (and_intro (claim_kept n valid one (barred_key n) (plain_key ring') (claim 0 0 0 l.steps) refl refl
         refl
         (omega (arith, counts)) (and_true _ _ (first l.steps (rw l.is at h))).0)
-        (all-low _ (inr refl) (length n.points)))
+        (all-low ([] ++ (known_of n (barred_key n) (claim 0 0 0 l.steps) (run n (barred_key n) (claim 0 0 0 l.steps) [] l.steps begun) ∷ [])) (inr refl) (length n.points)))
       where
         first : (ss : List Step) → all_hold ring' (plain_key ring') [] (claim 0 0 0 ss ∷ []) ≡ true →
             (ended ring' (plain_key ring') (claim 0 0 0 ss) (run ring' (plain_key ring') (claim 0 0 0 ss) [] ss begun) &&
             true) ≡ true
         first ss h = and_intro (and_true (ended ring' (plain_key ring') (claim 0 0 0 ss)
-            (run ring' (plain_key ring') (claim 0 0 0 ss) [] ss begun))
-            (all_low ring' (plain_key ring') ([] ++ (known_of ring' (plain_key ring') (claim 0 0 0 ss) (run ring' (plain_key ring') (claim 0 0 0 ss) [] ss begun) ∷ [])) (length ring'.points)) h).0 refl
+            (run ring' (plain_key ring') (claim 0 0 0 ss) [] ss begun)) _ h).0 refl
 
     pub barred_argued : holds n (barred_key n) (plain_argument ring'.points ring'.deps) ≡ true
     barred_argued = and_intro correct

@@ -122,7 +122,7 @@ module _ {n : Nest} {key : List ℕ} {last : ℕ} {ends owners : List ℕ} (p : 
           let some : ltb 0 k.from ≡ true = rw w.from_is at h in
           rw (some, w.from_is, w.end_is) refl
       set_alike (suc zero) e h g = rw (w.loop_is, w.upto_is) refl
-      set_alike (suc (suc m)) e h g = rw (a.dep_is m e (ltb-true m s.many h)) refl
+      set_alike (suc (suc m)) e h g = rw (← a.dep_is m e (ltb-true m s.many h)) refl
 
       -- the gap behind the last is in no set
       set_ends

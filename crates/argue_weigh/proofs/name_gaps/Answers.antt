@@ -66,7 +66,7 @@ loop-g-preserved c =
     let a = c.args in
     name_on c.loop-g.invariant c.loop-g-test.true c.count_if.result
     (fine_by a.set.words a.d a.e c.loop-g.g a.owners.now c.left_at-left.result a.gone.words a.struck.now
-    c.lies_at_lem.result true c.left_at-left.ensures c.lies_at_lem.ensures c.if-lies_at.true)
+    c.lies_at.result true c.left_at-left.ensures c.lies_at.ensures c.if-lies_at.true)
     (c.count_if.ensures.0 ∙ ap (λ (b : Bool). when b 1) c.left_at-left.ensures)
     (fits)
 
@@ -79,7 +79,7 @@ returns-else-lies_at c =
       value = name_stop c.loop-g.invariant c.loop-g-test.true
           (fine_by a.set.words a.d a.e c.loop-g.g a.owners.now c.left_at-left.result
           a.gone.words a.struck.now
-          c.lies_at_lem.result false c.left_at-left.ensures c.lies_at_lem.ensures c.if-lies_at.false);
+          c.lies_at.result false c.left_at-left.ensures c.lies_at.ensures c.if-lies_at.false);
       named = λ z. never z;
     }
 

@@ -1,0 +1,25 @@
+-- `lay` meets its contract; the height falls at each call. The invariant of its loop: the placement holds what the
+-- sweep has laid so far (`Laying`). At its end that is what the loop lays (`done`).
+use mathlib.Core.Path.{◌≡◌, refl, ◌∙◌, ap}
+use mathlib.Core.List.{List}
+use Prim.Native.Nat.{ℕ, ◌+◌, ◌-◌, ◌*◌, ◌≤◌, ◌<◌}
+use native.Mathlib.Omega.{arith}
+use lib.ListN.{length, set, length-set}
+use borrow.Author.Rules.{rules}
+use Rattle.laws.specs.Entries.{at}
+use Rattle.plan_sweeps.specs.Listed.{row}
+use Rattle.plan_lay.proofs.Calls.{Call, called, picked}
+use Rattle.plan_lay.proofs.Sharing.{lowered_kept}
+use Rattle.plan_lay.proofs.Turns.{Laying, begin, on_put, on_skip, child_long, child_asked, on_child}
+use Rattle.plan_lay.proofs.Whole.{Lowered, lowered_size, blank, done}
+use Rattle.plan_lay.proofs.+lay.Given as goal
+
+abbrev pub invariant-loop-p : goal.invariant-loop-p
+invariant-loop-p l =
+    Laying l.points l.own l.ends l.reach l.limit l.left l.choice l.d l.h l.initial.need l.need l.initial.k.words l.k.words l.c l.f l.p
+
+abbrev pub decreases-loop-p : goal.decreases-loop-p
+decreases-loop-p l = l.p
+
+abbrev pub decreases-lay : goal.decreases-lay
+decreases-lay l = l.h

@@ -1,0 +1,26 @@
+-- `settle` meets its contract; the height falls at each call. The invariant of its loop: the loops inside d that lie
+-- before i are settled (`Settling`). At its end the loop's own row is made (`done`). Where nothing is to be cut the
+-- rows stay as they are (`quiet_done`).
+use mathlib.Core.Path.{◌∙◌}
+use Prim.Native.Nat.{ℕ, ◌+◌, ◌-◌, ◌*◌, ◌<◌}
+use native.Mathlib.Omega.{arith}
+use borrow.Author.Rules.{rules}
+use Rattle.plan_rows.specs.Made.{ListsRoom}
+use Rattle.plan_settle.proofs.Calls.{Call, called}
+use Rattle.plan_settle.proofs.Lists.{Lent, lent_all, lent_on, lent_room}
+use Rattle.plan_settle.proofs.Turns.{Settling, begin, on_plain, child_asked, child_long, child_short, on_child}
+use Rattle.plan_settle.proofs.Own.{done}
+use Rattle.plan_settle.proofs.Quiet.{quiet_done}
+use Rattle.plan_settle.proofs.Grounded.{row_room}
+use Rattle.plan_settle.proofs.+settle.Given as goal
+
+abbrev pub invariant-loop-i : goal.invariant-loop-i
+invariant-loop-i l =
+    Settling l.points l.reach l.limit l.has l.initial.left l.initial.choice l.d l.left l.choice l.some l.i ×
+    Lent l.initial.need l.initial.cs l.initial.fs l.initial.link l.need l.cs l.fs l.link
+
+abbrev pub decreases-loop-i : goal.decreases-loop-i
+decreases-loop-i l = l.e - l.i
+
+abbrev pub decreases-settle : goal.decreases-settle
+decreases-settle l = l.h
