@@ -1,7 +1,7 @@
 -- The table of ranks: 1 for each gap that is not barred, summed from the left.
 -- Main definitions: `FreeFrom`, `RanksTo`, what a turn of the two loops keeps. Main statements: `free_start`, `free_on`,
 -- `free_done`, `ranks_start`, `rank_fits`, `ranks_on`, `ranks_done`.
-use mathlib.Core.Path.{◌≡◌, refl, sym, ◌∙◌}
+use mathlib.Core.Path.{◌≡◌, subst, refl, sym, ◌∙◌}
 use mathlib.Core.List.{List, ◌∷◌}
 use Prim.Native.Nat.{ℕ, zero, suc, ◌+◌, ◌-◌, ◌≤◌, ◌<◌}
 use native.Mathlib.Omega.{arith}
@@ -60,7 +60,7 @@ free_on n p i some xs h f =
       long = length-set xs g 0 ∙ f.long;
       free_is = rw (number_at n.barred n.bars (counted_bars n p) i some f.within) (λ j l.
           stored xs g 0 j (one (is_free (g ∷ bs) j)) (omega (arith, f.long))
-          (λ e. rw e (barred_here g bs))
+          (λ e. let P : ℕ → Type 0 = λ x. 0 ≡ one (is_free (g ∷ bs) x) in subst P (sym e) (barred_here g bs))
           (λ e. rw (free_elsewhere g bs j e) (f.free_is j l)));
     }
 

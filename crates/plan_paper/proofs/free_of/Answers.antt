@@ -22,7 +22,8 @@ bounds-free-g c =
 
 pub loop-i-preserved : goal.loop-i-preserved
 loop-i-preserved c =
-    free_on c.args.nest c.requires c.loop-i.i c.loop-i-test.true c.loop-i.free (array-write-free ⟪place⟫)
+    let z : Fits w8 (get_or c.args.nest.barred (c.loop-i.i - 1) 0) = search rules in
+    free_on c.args.nest c.requires c.loop-i.i c.loop-i-test.true c.loop-i.free z.fits
     c.loop-i.invariant
 
 pub returns : goal.returns

@@ -164,7 +164,7 @@ bounds-ring-i c =
       some = c.loop-i-test.true;
       so_far = c.loop-i.invariant.1;
     } in
-    (turn_within (turn), tt)
+    omega (arith, turn_within (turn))
 
 pub offset_bounds-ring-i-then-stays : goal.offset_bounds-ring-i-then-stays
 offset_bounds-ring-i-then-stays c =
@@ -188,7 +188,7 @@ bounds-ring-i-then-stays c =
       some = c.loop-i-test.true;
       so_far = c.loop-i.invariant.1;
     } in
-    (turn_within (turn), tt)
+    omega (arith, turn_within (turn))
 
 pub loop-i-preserved-then-stays : goal.loop-i-preserved-then-stays
 loop-i-preserved-then-stays c =
