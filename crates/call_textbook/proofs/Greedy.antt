@@ -3,7 +3,7 @@
 -- at most the gaps of the set that were passed, and one more where the next gap lies in what was met.
 -- Main definitions: `is_unbroken`, `counted`, `meets`. Main statements: `lacking_in`, `in_lacking`, `some_end`,
 -- `none_end`, `end_some`, `cuts_in_line`, `line_cut`, `cuts_at_most`, `cuts_few`.
-use mathlib.Core.Path.{◌≡◌, refl, sym, ◌∙◌}
+use mathlib.Core.Path.{◌≡◌, refl, sym, subst, ◌∙◌}
 use mathlib.Core.Bool.{Bool, true, false, ◌&&◌, ◌||◌, not}
 use mathlib.Core.List.{List, [], ◌∷◌}
 use mathlib.Core.Logic.{◌⊎◌, inl, inr, ⊎_elim}
@@ -103,7 +103,7 @@ module _ (ps : List ℕ) where
           → ((es : List Dep) → is_in i (cuts_on ps hs es) ≡ true → is_in i hs ≡ true)
           → is_in i (h ∷ hs) ≡ true
       go true q rest = ⊎_elim
-          (λ (z : i ≡ h). rw z (in_here h hs))
+          (λ (z : i ≡ h). let P : ℕ → Type 0 = λ n. is_in n (h ∷ hs) ≡ true in subst P (sym z) (in_here h hs))
           (λ (z : is_in i (cuts_on ps hs (lacking ps h ds)) ≡ true). in_later i h hs (rest (lacking ps h ds) z))
           (in_cons i h (cuts_on ps hs (lacking ps h ds)) q)
       go false q rest = in_later i h hs (rest ds q)

@@ -1,7 +1,7 @@
 -- From the table of latest starts to the textbook's placement: the first barrier with the fewest cuts is the one that
 -- the rule keeps, and what is laid from it is the rule's placement.
 -- Main statements: `all_placed`, `barrier_fits`, `laid_textbook`, `none_tried`, `none_to_cut`.
-use mathlib.Core.Path.{◌≡◌, refl, sym, ap, ◌∙◌}
+use mathlib.Core.Path.{◌≡◌, refl, sym, ap, subst, ◌∙◌}
 use mathlib.Core.Bool.{Bool, true, false, not}
 use mathlib.Core.List.{List, [], ◌∷◌}
 use mathlib.Core.Logic.{◌⊎◌, inl, inr, ⊎_elim}
@@ -50,7 +50,7 @@ module _ (count : ℕ → ℕ) where
           (is_in (least_from count (pick t g best) (pick t (count g) least) gs) gs ≡ true)
           → (least_from count (pick t g best) (pick t (count g) least) gs ≡ best) ⊎
           (is_in (least_from count (pick t g best) (pick t (count g) least) gs) (g ∷ gs) ≡ true)
-      go true (inl e) = inr (rw e (in_here g gs))
+      go true (inl e) = inr (let P : ℕ → Type 0 = λ n. is_in n (g ∷ gs) ≡ true in subst P (sym e) (in_here g gs))
       go true (inr e) = inr (in_later (least_from count g (count g) gs) g gs e)
       go false (inl e) = inl e
       go false (inr e) = inr (in_later (least_from count best least gs) g gs e)
