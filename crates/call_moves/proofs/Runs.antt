@@ -72,7 +72,7 @@ unmoved_stays d e m (Unmoved.not_put g r h z) =
     stays_same d r.desk m
     (move_keeps (put_fault (desk_in d) g) (moved (game_on d) (play_in d) (put_at g)) d r h
     (λ q. z (h.number_is ∙ q)))
-unmoved_stays d e m (Unmoved.not-Lifted g r h z) =
+unmoved_stays d e m (Unmoved.not_lifted g r h z) =
     stays_same d r.desk m
     (move_keeps (lift_fault (desk_in d) g) (moved (game_on d) (play_in d) (lift_at g)) d r h
     (λ q. z (h.number_is ∙ q)))

@@ -28,9 +28,7 @@ returns-then-dependence-nest c =
 
 pub returns-then-loaded : goal.returns-then-loaded
 returns-then-loaded c =
-    let nest : c.args.desk.loaded ≡ true = c.if-loaded.true in
-    let nest = c.if-loaded.true in
-    gaps_no_dependence c.args.desk c.args.dependence c.requires nest
+    gaps_no_dependence c.args.desk c.args.dependence c.requires c.not_chosen.result c.if-loaded.true
     (omega (arith, c.if-dependence-nest.false)) c.not_chosen.ensures
 
 pub returns : goal.returns

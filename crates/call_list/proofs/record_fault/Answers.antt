@@ -5,9 +5,6 @@ use Rattle.paper_nests.specs.Stored.{dep_in}
 use Rattle.call_list.proofs.Records.{known_kind, unknown_kind}
 use Rattle.call_list.proofs.record_fault.Goals as goal
 
-pub record-fault-spec : {M : Type 1} → statement M
-record-fault-spec = tie.close (tie.spec dep-fault-requires returns returns-2 returns-3)
-
 pub dep_fault-requires : goal.dep_fault-requires
 dep_fault-requires c = c.requires
 

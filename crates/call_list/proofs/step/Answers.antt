@@ -10,11 +10,6 @@ use Rattle.call_list.proofs.Records.{carried_by_loop}
 use borrow.Author.Rules.{rules}
 use Rattle.call_list.proofs.step.Goals as goal
 
-record-fault-requires : tie.Need-record-fault-requires
-record-fault-requires c κs carried loop =
-    let s = c.before.before.before.before.before.before.before in
-    s.requires.1.0 s.args.e.d loop
-
 pub returns-then-found-ne0 : goal.returns-then-found-ne0
 returns-then-found-ne0 c =
     let a = c.args in
@@ -22,6 +17,9 @@ returns-then-found-ne0 c =
 
 pub slice_bounds-points-end : goal.slice_bounds-points-end
 slice_bounds-points-end c = counted_points c.args.desk.nest c.requires.0
+
+pub record_fault-number-requires : goal.record_fault-number-requires
+record_fault-number-requires c carried loop = c.requires.1.0 c.args.e.d loop
 
 pub returns-then-number-ne0 : goal.returns-then-number-ne0
 returns-then-number-ne0 c =
