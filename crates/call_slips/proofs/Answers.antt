@@ -36,7 +36,7 @@ pub read_rising_on
     → are_gaps (nest_in d.nest) (gaps_in r.placement.words) ≡ true
 read_rising_on d s r w =
     read_rising (length (nest_in d.nest).points) r.number r.line (nest_in d.nest).barred s
-    (gaps_in r.placement.words) w.read-is
+    (gaps_in r.placement.words) w.read_is
 
 -- a refusal with its number and line: nothing is written
 refused_by

@@ -28,7 +28,7 @@ returns-then-dependence-nest c =
 
 pub returns-then-loaded : goal.returns-then-loaded
 returns-then-loaded c =
-    gaps_no_dependence c.args.desk c.args.dependence c.requires c.not_chosen.result c.if-loaded.true
+    gaps_no_dependence c.args.desk c.args.dependence c.requires c.if-loaded.true c.not_chosen.result
     (omega (arith, c.if-dependence-nest.false)) c.not_chosen.ensures
 
 pub returns : goal.returns

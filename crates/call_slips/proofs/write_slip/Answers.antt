@@ -32,6 +32,7 @@ pub slice_bounds-write_counts-end : goal.slice_bounds-write_counts-end
 slice_bounds-write_counts-end c = c.requires.counted.count_is
 
 pub slice_bounds-write_counts-count : goal.slice_bounds-write_counts-count
+unfolding slip_text
 slice_bounds-write_counts-count c =
     let begun : let a = c.args in
     let n = nest_in a.nest in
@@ -48,6 +49,7 @@ slice_bounds-write_counts-count c =
     within
 
 pub slice_bounds-write_counts-start : goal.slice_bounds-write_counts-start
+unfolding slip_text
 slice_bounds-write_counts-start c =
     let begun : let a = c.args in
     let n = nest_in a.nest in
@@ -65,6 +67,7 @@ slice_bounds-write_counts-start c =
     search rules
 
 pub write_counts-requires : goal.write_counts-requires
+unfolding slip_text
 write_counts-requires c =
     let begun : let a = c.args in
     let n = nest_in a.nest in
@@ -81,6 +84,7 @@ write_counts-requires c =
     let v = valid_is n c.requires.nest_value in record { points_value = (v.shape, v.few_points); words_value = c.requires.words_value; counts_fit = counts_fit n (gaps_in c.args.placement.words) _ (rest_fits _ _ _ _ _ (begun) c.requires.words_in_bounds) }
 
 pub overflow_add-result : goal.overflow_add-result
+unfolding slip_text
 overflow_add-result c =
     let begun : let a = c.args in
     let n = nest_in a.nest in
@@ -105,6 +109,7 @@ overflow_add-result c =
     omega (arith, (written).length_is)
 
 pub returns : goal.returns
+unfolding slip_text
 returns c =
     let begun : let a = c.args in
     let n = nest_in a.nest in
