@@ -28,7 +28,7 @@ none_by
 none_by f xs n l r e h c =
     let z = ne_eqb n 0 h in
     subst (λ (g : Fault). LoopsSays g xs r) (sym e)
-    (record { number_is = c.number-is; line_is = c.line_is; set_is = rw z c.set-is })
+    (record { number_is = c.number_is; line_is = c.line_is; set_is = rw z c.set_is })
 
 given_by
     : (f : Fault) (xs : List ℕ) (r : DC.Chosen) → f ≡ fault 0 0 → r.number ≡ 0 → r.line ≡ 0

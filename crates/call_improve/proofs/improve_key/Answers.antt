@@ -19,55 +19,6 @@ use Rattle.call_improve.proofs.RoundTurns.{Searching, search_start, search_asks,
 use Rattle.call_improve.proofs.RoundTurns.{search_kept, search_budget, search_round}
 use Rattle.call_improve.proofs.improve_key.Goals as goal
 
--- what stands at the head of the loop
-module _ (c : tie.At-loop invariant-loop decreases-loop) where
-  abbrev started : tie.Start invariant-loop decreases-loop
-  started = planned c.before.before
-
-  abbrev nest : DN.Nest
-  nest = started.args.nest
-
-  abbrev turns : List ℕ
-  turns = started.args.turns.now
-
-  abbrev key : DP.Placement
-  key = started.args.key
-
-  abbrev budget : ℕ
-  budget = started.args.budget
-
-  abbrev times : List ℕ
-  times = c.before.before.before.before.before.before.before.before.before.before.before.times-of.result
-
-  asks : SearchAsks nest key turns
-  asks = started.pre
-
-  has : HasTimes (nest_in nest).points turns times
-  has = c.before.before.before.before.before.before.before.before.before.before.before.times-of.ensures
-
-  ended : WithEnds nest c.before.before.before.before.before.before.before.before.before.ends_of.result
-  ended =
-      let ends = c.before.before.before.before.before.before.before.before.before.ends_of in
-      with_ends asks ends.result ends.ensures
-
-  -- the loop's invariant names the key as it was placed at the start
-  placed : gaps_in c.before.before.current-of.result.placement.words ≡ gaps_in key.words
-  placed = ap (λ (q : DP.Placement). gaps_in q.words) c.before.before.current-of.ensures.placement_is
-
-  held : Searching nest turns (gaps_in key.words) budget c.loop.current c.loop.tries c.loop.g
-  held =
-      subst
-      (λ (x : List ℕ). Searching nest turns x budget c.loop.current c.loop.tries c.loop.g)
-      placed
-      c.loop.invariant
-
-  from_start
-      : (current : DU.Current) (tries g : ℕ)
-      → Searching nest turns (gaps_in key.words) budget current tries g
-      → Searching nest turns (gaps_in c.before.before.current-of.result.placement.words) budget current tries g
-  from_start current tries g s =
-      subst (λ (x : List ℕ). Searching nest turns x budget current tries g) (sym placed) s
-
 pub slice_bounds-points-end : goal.slice_bounds-points-end
 slice_bounds-points-end c = counted_points c.args.nest c.requires.counted
 
@@ -117,50 +68,149 @@ loop-g-init c =
 
 pub returns-then-tries-budget : goal.returns-then-tries-budget
 returns-then-tries-budget c =
-    search_budget (asks ⟪place⟫) (times ⟪place⟫) (has ⟪place⟫) (budget ⟪place⟫) (held ⟪place⟫) c.loop-g-test.true c.floor_of-floor.result
+    let nest : DN.Nest = c.args.nest in
+    let turns : List ℕ = c.args.turns.now in
+    let key : DP.Placement = c.args.key in
+    let budget : ℕ = c.args.budget in
+    let times : List ℕ = c.times_of-times.result in
+    let asks : SearchAsks (nest) (key) (turns) = c.requires in
+    let has : HasTimes (nest_in (nest)).points (turns) (times) = c.times_of-times.ensures in
+    let placed : gaps_in c.current_of-current.result.placement.words ≡ gaps_in (key).words = ap (λ (q : DP.Placement). gaps_in q.words) c.current_of-current.ensures.placement_is in
+    let held : Searching (nest) (turns) (gaps_in (key).words) (budget) c.loop-g.current c.loop-g.tries c.loop-g.g = subst
+    (λ (x : List ℕ). Searching (nest) (turns) x (budget) c.loop-g.current c.loop-g.tries c.loop-g.g)
+    (placed)
+    c.loop-g.invariant in
+    search_budget (asks) (times) (has) (budget) (held) c.loop-g-test.true c.floor_of-floor.result
     c.outcome_of.result c.if-tries-budget.true c.floor_of-floor.ensures c.outcome_of.ensures
 
 pub try_at-tried-requires : goal.try_at-tried-requires
 try_at-tried-requires c =
-    record { with_ends = ended ⟪place⟫; try_asks = search_asks (asks ⟪place⟫) (times ⟪place⟫) (has ⟪place⟫) (budget ⟪place⟫) (held ⟪place⟫) c.loop-g-test.true }
+    let nest : DN.Nest = c.args.nest in
+    let turns : List ℕ = c.args.turns.now in
+    let key : DP.Placement = c.args.key in
+    let budget : ℕ = c.args.budget in
+    let times : List ℕ = c.times_of-times.result in
+    let asks : SearchAsks (nest) (key) (turns) = c.requires in
+    let has : HasTimes (nest_in (nest)).points (turns) (times) = c.times_of-times.ensures in
+    let ended : WithEnds (nest) c.ends_of-ends.result = with_ends (asks) c.ends_of-ends.result c.ends_of-ends.ensures in
+    let placed : gaps_in c.current_of-current.result.placement.words ≡ gaps_in (key).words = ap (λ (q : DP.Placement). gaps_in q.words) c.current_of-current.ensures.placement_is in
+    let held : Searching (nest) (turns) (gaps_in (key).words) (budget) c.loop-g.current c.loop-g.tries c.loop-g.g = subst
+    (λ (x : List ℕ). Searching (nest) (turns) x (budget) c.loop-g.current c.loop-g.tries c.loop-g.g)
+    (placed)
+    c.loop-g.invariant in record { with_ends = ended; try_asks = search_asks (asks) (times) (has) (budget) (held) c.loop-g-test.true }
 
 pub overflow_add-tries : goal.overflow_add-tries
 overflow_add-tries c =
     let budget-fits : c.args.budget < 2 ^ 64 = let f : Fits w64 c.args.budget = search rules in
     f.fits in
-    omega (arith, (held ⟪place⟫).used, c.if-tries-budget.false, budget-fits (started ⟪place⟫))
+    let nest : DN.Nest = c.args.nest in
+    let turns : List ℕ = c.args.turns.now in
+    let key : DP.Placement = c.args.key in
+    let budget : ℕ = c.args.budget in
+    let placed : gaps_in c.current_of-current.result.placement.words ≡ gaps_in (key).words = ap (λ (q : DP.Placement). gaps_in q.words) c.current_of-current.ensures.placement_is in
+    let held : Searching (nest) (turns) (gaps_in (key).words) (budget) c.loop-g.current c.loop-g.tries c.loop-g.g = subst
+    (λ (x : List ℕ). Searching (nest) (turns) x (budget) c.loop-g.current c.loop-g.tries c.loop-g.g)
+    (placed)
+    c.loop-g.invariant in
+    omega (arith, (held).used, c.if-tries-budget.false, budget-fits)
 
 pub current_of-current-requires-then-found-before : goal.current_of-current-requires-then-found-before
-current_of-current-requires-then-found-before c = (
-  ended ⟪place⟫,
-  try_sound (asks ⟪place⟫) (times ⟪place⟫) (has ⟪place⟫) (budget ⟪place⟫) (held ⟪place⟫) c.loop-g-test.true c.try_at-tried.result c.try_at-tried.ensures,
-)
+current_of-current-requires-then-found-before c =
+    let nest : DN.Nest = c.args.nest in
+    let turns : List ℕ = c.args.turns.now in
+    let key : DP.Placement = c.args.key in
+    let budget : ℕ = c.args.budget in
+    let times : List ℕ = c.times_of-times.result in
+    let asks : SearchAsks (nest) (key) (turns) = c.requires in
+    let has : HasTimes (nest_in (nest)).points (turns) (times) = c.times_of-times.ensures in
+    let ended : WithEnds (nest) c.ends_of-ends.result = with_ends (asks) c.ends_of-ends.result c.ends_of-ends.ensures in
+    let placed : gaps_in c.current_of-current.result.placement.words ≡ gaps_in (key).words = ap (λ (q : DP.Placement). gaps_in q.words) c.current_of-current.ensures.placement_is in
+    let held : Searching (nest) (turns) (gaps_in (key).words) (budget) c.loop-g.current c.loop-g.tries c.loop-g.g = subst
+    (λ (x : List ℕ). Searching (nest) (turns) x (budget) c.loop-g.current c.loop-g.tries c.loop-g.g)
+    (placed)
+    c.loop-g.invariant in
+    let sound = try_sound (asks) (times) (has) (budget) (held) c.loop-g-test.true c.try_at-tried.result c.try_at-tried.ensures in
+    record { with_ends = ended; words_value = sound.0; words_value_2 = sound.1 }
 
 pub free_from-g-requires-then-found-before : goal.free_from-g-requires-then-found-before
-free_from-g-requires-then-found-before _ =
-    let p = asks ⟪place⟫ in
+free_from-g-requires-then-found-before c =
+    let nest : DN.Nest = c.args.nest in
+    let turns : List ℕ = c.args.turns.now in
+    let key : DP.Placement = c.args.key in
+    let asks : SearchAsks (nest) (key) (turns) = c.requires in
+    let p = asks in
     (some_points p, p.counted.count_fits)
 
 pub loop-g-preserved-then-found-before : goal.loop-g-preserved-then-found-before
 loop-g-preserved-then-found-before c =
-    from_start ⟪place⟫ c.current_of-current-then-found-before.result (c.loop-g.tries + 1) c.free_from-g-then-found-before.result
-    (search_taken (asks ⟪place⟫) (times ⟪place⟫) (has ⟪place⟫) (budget ⟪place⟫) (held ⟪place⟫) c.loop-g-test.true c.try_at-tried.result c.try_at-tried.ensures
+    let nest : DN.Nest = c.args.nest in
+    let turns : List ℕ = c.args.turns.now in
+    let key : DP.Placement = c.args.key in
+    let budget : ℕ = c.args.budget in
+    let times : List ℕ = c.times_of-times.result in
+    let asks : SearchAsks (nest) (key) (turns) = c.requires in
+    let has : HasTimes (nest_in (nest)).points (turns) (times) = c.times_of-times.ensures in
+    let placed : gaps_in c.current_of-current.result.placement.words ≡ gaps_in (key).words = ap (λ (q : DP.Placement). gaps_in q.words) c.current_of-current.ensures.placement_is in
+    let held : Searching (nest) (turns) (gaps_in (key).words) (budget) c.loop-g.current c.loop-g.tries c.loop-g.g = subst
+    (λ (x : List ℕ). Searching (nest) (turns) x (budget) c.loop-g.current c.loop-g.tries c.loop-g.g)
+    (placed)
+    c.loop-g.invariant in
+    let from_start : (current : DU.Current) → (tries g : ℕ) → Searching (nest) (turns) (gaps_in (key).words) (budget) current tries g
+    → Searching (nest) (turns) (gaps_in c.current_of-current.result.placement.words) (budget) current tries g = λ current tries g s. subst (λ (x : List ℕ). Searching (nest) (turns) x (budget) current tries g) (sym (placed)) s in
+    from_start c.current_of-current-then-found-before.result (c.loop-g.tries + 1) c.free_from-g-then-found-before.result
+    (search_taken (asks) (times) (has) (budget) (held) c.loop-g-test.true c.try_at-tried.result c.try_at-tried.ensures
     c.current_of-current-then-found-before.result c.free_from-g-then-found-before.result c.if-tries-budget.false (omega (arith, c.if-found-before.true)) c.current_of-current-then-found-before.ensures
     c.free_from-g-then-found-before.ensures)
 
 pub overflow_add-g : goal.overflow_add-g
-overflow_add-g c = omega (arith, c.loop-g-test.true, (asks ⟪place⟫).counted.count_fits)
+overflow_add-g c =
+    let nest : DN.Nest = c.args.nest in
+    let turns : List ℕ = c.args.turns.now in
+    let key : DP.Placement = c.args.key in
+    let asks : SearchAsks (nest) (key) (turns) = c.requires in
+    omega (arith, c.loop-g-test.true, (asks).counted.count_fits)
 
 pub free_from-g-requires-else-found-before : goal.free_from-g-requires-else-found-before
-free_from-g-requires-else-found-before c = (omega (arith, c.loop-g-test.true), (asks ⟪place⟫).counted.count_fits)
+free_from-g-requires-else-found-before c =
+    let nest : DN.Nest = c.args.nest in
+    let turns : List ℕ = c.args.turns.now in
+    let key : DP.Placement = c.args.key in
+    let asks : SearchAsks (nest) (key) (turns) = c.requires in
+    (omega (arith, c.loop-g-test.true), (asks).counted.count_fits)
 
 pub loop-g-preserved : goal.loop-g-preserved
 loop-g-preserved c =
-    from_start ⟪place⟫ c.loop-g.current (c.loop-g.tries + 1) c.free_from-g-else-found-before.result
-    (search_kept (asks ⟪place⟫) (times ⟪place⟫) (has ⟪place⟫) (budget ⟪place⟫) (held ⟪place⟫) c.loop-g-test.true c.try_at-tried.result c.try_at-tried.ensures
+    let nest : DN.Nest = c.args.nest in
+    let turns : List ℕ = c.args.turns.now in
+    let key : DP.Placement = c.args.key in
+    let budget : ℕ = c.args.budget in
+    let times : List ℕ = c.times_of-times.result in
+    let asks : SearchAsks (nest) (key) (turns) = c.requires in
+    let has : HasTimes (nest_in (nest)).points (turns) (times) = c.times_of-times.ensures in
+    let placed : gaps_in c.current_of-current.result.placement.words ≡ gaps_in (key).words = ap (λ (q : DP.Placement). gaps_in q.words) c.current_of-current.ensures.placement_is in
+    let held : Searching (nest) (turns) (gaps_in (key).words) (budget) c.loop-g.current c.loop-g.tries c.loop-g.g = subst
+    (λ (x : List ℕ). Searching (nest) (turns) x (budget) c.loop-g.current c.loop-g.tries c.loop-g.g)
+    (placed)
+    c.loop-g.invariant in
+    let from_start : (current : DU.Current) → (tries g : ℕ) → Searching (nest) (turns) (gaps_in (key).words) (budget) current tries g
+    → Searching (nest) (turns) (gaps_in c.current_of-current.result.placement.words) (budget) current tries g = λ current tries g s. subst (λ (x : List ℕ). Searching (nest) (turns) x (budget) current tries g) (sym (placed)) s in
+    from_start c.loop-g.current (c.loop-g.tries + 1) c.free_from-g-else-found-before.result
+    (search_kept (asks) (times) (has) (budget) (held) c.loop-g-test.true c.try_at-tried.result c.try_at-tried.ensures
     c.free_from-g-else-found-before.result c.if-tries-budget.false (omega (arith, c.if-found-before.false)) c.free_from-g-else-found-before.ensures)
 
 pub returns : goal.returns
 returns c =
-    search_round (asks ⟪place⟫) (times ⟪place⟫) (has ⟪place⟫) (budget ⟪place⟫) (held ⟪place⟫) c.floor_of-floor.result c.outcome_of-2.result
+    let nest : DN.Nest = c.args.nest in
+    let turns : List ℕ = c.args.turns.now in
+    let key : DP.Placement = c.args.key in
+    let budget : ℕ = c.args.budget in
+    let times : List ℕ = c.times_of-times.result in
+    let asks : SearchAsks (nest) (key) (turns) = c.requires in
+    let has : HasTimes (nest_in (nest)).points (turns) (times) = c.times_of-times.ensures in
+    let placed : gaps_in c.current_of-current.result.placement.words ≡ gaps_in (key).words = ap (λ (q : DP.Placement). gaps_in q.words) c.current_of-current.ensures.placement_is in
+    let held : Searching (nest) (turns) (gaps_in (key).words) (budget) c.loop-g.current c.loop-g.tries c.loop-g.g = subst
+    (λ (x : List ℕ). Searching (nest) (turns) x (budget) c.loop-g.current c.loop-g.tries c.loop-g.g)
+    (placed)
+    c.loop-g.invariant in
+    search_round (asks) (times) (has) (budget) (held) c.floor_of-floor.result c.outcome_of-2.result
     c.loop-g-test.false c.floor_of-floor.ensures c.outcome_of-2.ensures
