@@ -89,16 +89,20 @@ before (x ∷ xs) (y ∷ ys) l h = go (eqb x y) refl h (before xs ys (omega arit
     go true e k more = subst (λ (z : ℕ). Before (x ∷ xs) (z ∷ ys)) (eqb-true x y e) (Before.on (more k))
     go false e k more = Before.less (ltb-true x y k)
 
--- no two lists stand before each other
+-- no two lists stand before each other: a list before one that is before it, told apart by an equation
+one_apart : (xs ys zs : List ℕ) → Before xs ys → Before ys zs → xs ≡ zs → xs ≡ ys
+one_apart xs ys zs (Before.same e) b z = e
+one_apart xs ys zs (Before.less l) (Before.same e) z = z ∙ sym e
+one_apart xs ys zs (Before.less {x = x} l) (Before.less {y = w} k) z = absurd (let q : x ≡ w = cc in omega arith)
+one_apart xs ys zs (Before.less {x = x} {y = y} l) (Before.on k) z = absurd (let q : x ≡ y = cc in omega arith)
+one_apart xs ys zs (Before.on a) (Before.same e) z = z ∙ sym e
+one_apart xs ys zs (Before.on {x = x} a) (Before.less {y = w} l) z = absurd (let q : x ≡ w = cc in omega arith)
+one_apart xs ys zs (Before.on {x = x} {xs = us} {ys = vs} a) (Before.on {ys = ws} b) z =
+    let q : us ≡ ws = cc in
+    ap (λ (l : List ℕ). x ∷ l) (one_apart us vs ws a b q)
+
 one_before : (xs ys : List ℕ) → Before xs ys → Before ys xs → xs ≡ ys
-one_before xs ys (Before.same e) b = e
-one_before xs ys (Before.less l) (Before.same e) = sym e
-one_before xs ys (Before.less l) (Before.less k) = absurd (omega arith)
-one_before xs ys (Before.less l) (Before.on k) = absurd (omega arith)
-one_before xs ys (Before.on a) (Before.same e) = sym e
-one_before xs ys (Before.on a) (Before.less l) = absurd (omega arith)
-one_before xs ys (Before.on {x = x} {xs = us} {ys = vs} a) (Before.on b) =
-    ap (λ (l : List ℕ). x ∷ l) (one_before us vs a b)
+one_before xs ys a b = one_apart xs ys xs a b refl
 
 module _ (d : DD.Desk) (m : IsMade d) (key : List ℕ) (k : KeyOn d key) where
   first_of : (ys : List ℕ) → Best (paper_on d) ys → Before key ys
