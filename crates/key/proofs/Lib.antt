@@ -1,3 +1,2 @@
 -- Laws of the program.
-pub mod Moved
 pub mod Reading

@@ -3,7 +3,8 @@
 ghost use Rattle.std.specs.Prelude.{◌≡◌, ◌<◌, length};
 ghost use Rattle.key.specs.Inputs.{StepSays, Adds, after_step, IsRead};
 
-use libc::{EINTR, STDIN_FILENO, STDOUT_FILENO};
+use std::io;
+use std::io::{ErrorKind, Read, Stdin, Write};
 
 // How often a read may be interrupted before that counts as a failure: more than signals that anybody sends, and it
 // bounds the reading.
@@ -47,23 +48,33 @@ enum Next {
 
 // Hands to `answer` the bytes of standard input, all of them or, where there are more than an answer's input may have,
 // the first 8,193; and what `answer` wrote to standard output.
-fn main() {
+fn main(rt: HostRuntime) -> io::Result<()> {
     // One byte more than the longest input that is read, so that longer input shows.
     let mut input = [0u8; 8193];
-    match read_input(&mut input) {
-        Input::Failed => os::fail(b"key: standard input was not read"),
+    let mut why = None;
+    match read_input(&mut rt.stdin(), &mut why, &mut input) {
+        Input::Failed => report(&rt, "standard input was not read", why),
         Input::Whole(read) => {
-            let mut out = io::buffer();
+            let mut out = [0u8; 4096];
             let length = key_answer::answer(&input[..read], &mut out);
-            if !io::write_all(STDOUT_FILENO, &out[..length]) {
-                os::fail(b"key: the answer was not written");
+            match rt.stdout().write_all(&out[..length]) {
+                Ok(()) => Ok(()),
+                Err(e) => report(&rt, "the answer was not written", Some(e)),
             }
         }
     }
 }
 
-// Reads standard input to its end, or until the buffer is full.
-fn read_input(input: &mut [u8]) -> Input
+// A line on standard error: what failed, and why.
+fn report(rt: &HostRuntime, what: &str, why: Option<io::Error>) -> io::Result<()> {
+    match why {
+        Some(e) => eprintln!(rt; "key: {what}: {e}"),
+        None => eprintln!(rt; "key: {what}"),
+    }
+}
+
+// Reads standard input to its end, or until the buffer is full. `why` has what the last read without bytes met.
+fn read_input(source: &mut Stdin, why: &mut Option<io::Error>, input: &mut [u8]) -> Input
     ensures { IsRead input.old result input.new }
 {
     let mut reads = Reads {
@@ -72,7 +83,7 @@ fn read_input(input: &mut [u8]) -> Input
     };
     let mut at: usize = 0;
     while at < input.len() {
-        let step = read_more(input, at);
+        let step = read_more(source, why, input, at);
         let next = after(reads, step);
         match next {
             Next::On(more) => {
@@ -109,20 +120,25 @@ fn after(reads: Reads, step: Step) -> Next
     }
 }
 
-// One read, behind the bytes that were read before: these stay. Its own answer tells the end, 0, from a failure, -1.
-fn read_more(input: &mut [u8], at: usize) -> Step
+// One read, behind the bytes that were read before: these stay. What it met instead of bytes or the end goes to `why`.
+fn read_more(source: &mut Stdin, why: &mut Option<io::Error>, input: &mut [u8], at: usize) -> Step
     requires { at < length input.old }
     ensures { StepSays at result input.old input.new }
 {
-    let got = libc::read(STDIN_FILENO, &mut input[at..]);
-    if got > 0 {
-        return Step::More(got as usize);
+    match source.read(&mut input[at..]) {
+        Ok(got) => {
+            if got > 0 {
+                return Step::More(got);
+            }
+            Step::End
+        }
+        Err(e) => {
+            let interrupted = e.kind() == ErrorKind::Interrupted;
+            *why = Some(e);
+            if interrupted {
+                return Step::Interrupted;
+            }
+            Step::Failed
+        }
     }
-    if got == 0 {
-        return Step::End;
-    }
-    if os::errno() == EINTR {
-        return Step::Interrupted;
-    }
-    Step::Failed
 }
