@@ -1,4 +1,6 @@
 // The claims of a loop with their steps, spelled into a buffer one after the other.
+#![tactic(auto)]
+
 ghost use Rattle.std.specs.Prelude.{◌≡◌, true, [], ◌∷◌, ◌++◌, ◌+◌, ◌-◌, ◌*◌, ◌≤◌, ◌<◌, length};
 ghost use Rattle.laws.specs.Choice.{pick};
 ghost use Rattle.paper_nests.specs.Stored.{nest_in};

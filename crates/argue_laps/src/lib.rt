@@ -1,5 +1,7 @@
 // The laps of a claim: sweeps of its loop, each from the front that the one before it left, until one counts more than
 // wanted.
+#![tactic(auto)]
+
 ghost use Rattle.std.specs.Prelude.{◌≡◌, ◌+◌, ◌*◌, ◌≤◌, ◌<◌, ltb};
 ghost use Rattle.laws.specs.Choice.{pick};
 ghost use Rattle.argue_key.specs.Laps.{starting};

@@ -1,4 +1,6 @@
 // The claims of all loops, from the planner's tables, spelled into a buffer from the last DO to the first.
+#![tactic(auto)]
+
 ghost use Rattle.std.specs.Prelude.{◌+◌, ◌*◌, ◌≤◌, ◌<◌, length};
 ghost use Rattle.paper_nests.specs.Stored.{nest_in};
 ghost use Rattle.argue_key.specs.Laps.{loop_heads};

@@ -1,5 +1,7 @@
 // The sets that the steps of a lap name, by the numbers of their dependences: of each line that starts in a loop, and
 // of the last that goes back.
+#![tactic(auto)]
+
 ghost use Rattle.std.specs.Prelude.{◌≡◌, ◌+◌, ◌≤◌, length};
 ghost use Rattle.paper_nests.specs.Stored.{dep_in, nest_in, IsCounted};
 ghost use Rattle.paper_nests.proofs.Deps.{Fits};

@@ -1,5 +1,7 @@
 // Claims and steps spelled into a lent buffer from a place on, each line only where there is room for it: without room
 // the length alone is counted.
+#![tactic(auto)]
+
 ghost use Rattle.std.specs.Prelude.{◌+◌, ◌≤◌, ◌<◌, length};
 ghost use Rattle.paper_lines.specs.Lines.{line_text};
 ghost use Rattle.argue_claims.specs.Arguments.{st};

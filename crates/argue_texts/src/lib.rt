@@ -1,4 +1,6 @@
 // Arguments as texts: what a line tells, and the first faulty one.
+#![tactic(auto)]
+
 ghost use Rattle.std.specs.Prelude.{◌≡◌};
 ghost use Rattle.argue_texts.specs.ArgumentTexts.{part_fault, after};
 ghost use Rattle.argue_texts.specs.Parts.{part_in, progress_in, IsPart, IsFaulted, EndedAs};

@@ -1,5 +1,7 @@
 // One sweep of a lap, with the steps of its claim: one for each barrier that it counts and one for each child that it
 // enters, spelled into a buffer.
+#![tactic(auto)]
+
 ghost use Rattle.std.specs.Prelude.{◌≡◌, [], ◌+◌, ◌*◌, ◌≤◌, ◌<◌, length};
 ghost use Rattle.laws.specs.Entries.{at};
 ghost use Rattle.plan_sweeps.specs.Listed.{row, SweepRoom};

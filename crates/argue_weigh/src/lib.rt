@@ -1,5 +1,7 @@
 // A claim of an argument, over tables: its steps, each of which names what is left of a set of gaps, and what it
 // excludes once it holds.
+#![tactic(auto)]
+
 ghost use Rattle.std.specs.Prelude.{◌≡◌, true, false, ◌||◌, ℕ, ◌≤◌, ◌<◌, length};
 ghost use Rattle.laws.specs.Choice.{pick, when, between};
 ghost use Rattle.laws.specs.Entries.{at};

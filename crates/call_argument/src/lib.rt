@@ -1,4 +1,6 @@
 // An argument text weighed, against the desk's key or against a placement text.
+#![tactic(auto)]
+
 ghost use Rattle.std.specs.Prelude.{◌≡◌, true};
 ghost use Rattle.paper_nests.specs.Valid.{is_valid};
 ghost use Rattle.paper_nests.specs.Stored.{nest_in, IsCounted};

@@ -1,5 +1,7 @@
 // Two placement texts held beside each other: whether each placement is as good or better than the other, and which loops
 // decide.
+#![tactic(auto)]
+
 ghost use Rattle.std.specs.Prelude.{◌≡◌, true};
 ghost use Rattle.paper_nests.specs.Valid.{is_valid};
 ghost use Rattle.paper_nests.specs.Stored.{nest_in, IsCounted};

@@ -1,4 +1,6 @@
 // The gaps of a dependence: those where a barrier cuts it.
+#![tactic(auto)]
+
 ghost use Rattle.desk.specs.Desks.{IsMade};
 ghost use Rattle.call_gaps.specs.Says.{GapsSays};
 

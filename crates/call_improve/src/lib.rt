@@ -1,5 +1,7 @@
 // Fewer calls where loops run once: tries from the key within a budget, and a floor under the calls of every correct
 // placement.
+#![tactic(auto)]
+
 ghost use Rattle.std.specs.Prelude.{◌≡◌, true, ◌<◌, ◌≤◌};
 ghost use Rattle.paper_nests.specs.Kinds.{POINTS};
 ghost use Rattle.paper_nests.specs.Stored.{nest_in};

@@ -1,4 +1,6 @@
 // Two papers into one: two nest texts read, and the text of the joint nest written.
+#![tactic(auto)]
+
 ghost use Rattle.std.specs.Prelude.{◌≡◌, true, false, ◌≤◌, max, length, take, drop};
 ghost use Rattle.paper_nests.specs.Stored.{dep_in, nest_in, IsCounted};
 ghost use Rattle.paper_lines.specs.Lines.{line_text};

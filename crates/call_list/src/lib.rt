@@ -1,4 +1,6 @@
 // Extra dependences, lent as a list: the first faulty record, else the first that the key doesn't cut.
+#![tactic(auto)]
+
 ghost use Rattle.std.specs.Prelude.{◌≡◌, ◌+◌, ◌^◌, ◌<◌, ◌≤◌, length};
 ghost use Rattle.paper_nests.specs.Kinds.{POINTS};
 ghost use Rattle.paper_nests.specs.Loops.{HasEnds};

@@ -1,4 +1,6 @@
 // Loops that may not run, and which of them need a barrier for their missing run.
+#![tactic(auto)]
+
 ghost use Rattle.std.specs.Prelude.{◌≡◌, true, ◌+◌, ◌≤◌, ◌<◌, length};
 ghost use Rattle.laws.specs.Choice.{pick, between};
 ghost use Rattle.laws.specs.Members.{Among};

@@ -1,5 +1,7 @@
 // The calls at the screen: the candidate puts barriers into the sitting, lifts them, and takes moves back; and the
 // sitting is written as text.
+#![tactic(auto)]
+
 ghost use Rattle.std.specs.Prelude.{◌≡◌, not, ◌&&◌, ◌<◌, ltb};
 ghost use Rattle.laws.specs.Choice.{when, first_of};
 ghost use Rattle.desk.specs.Desks.{IsMade};

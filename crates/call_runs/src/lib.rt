@@ -1,4 +1,6 @@
 // Barrier calls in a run: the key's, and those of any placement.
+#![tactic(auto)]
+
 ghost use Rattle.std.specs.Prelude.{◌≡◌, true};
 ghost use Rattle.desk.specs.Desks.{IsMade};
 ghost use Rattle.paper_nests.specs.Valid.{is_valid};

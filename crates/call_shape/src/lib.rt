@@ -1,4 +1,6 @@
 // The shape of a nest: the loop of every gap, the ENDDO of every loop, and how many loops every point is inside.
+#![tactic(auto)]
+
 ghost use Rattle.std.specs.Prelude.{◌≡◌, true, ◌≤◌, eqb, length};
 ghost use Rattle.laws.specs.Choice.{when};
 ghost use Rattle.paper_nests.specs.Kinds.{DO, POINTS};

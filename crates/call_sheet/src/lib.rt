@@ -1,4 +1,6 @@
 // Timing sheets: when a run ends, with the waits of a sheet and with all barriers kept.
+#![tactic(auto)]
+
 ghost use Rattle.std.specs.Prelude.{◌≡◌, true, ◌+◌, ◌*◌, ◌<◌, ◌≤◌, max, length};
 ghost use Rattle.laws.specs.Choice.{when};
 ghost use Rattle.laws.specs.Bits.{bit};

@@ -1,5 +1,7 @@
 // Loops that may not run, of one dependence: those on which a placement relies to cut it, and those that have one of
 // its ends alone.
+#![tactic(auto)]
+
 ghost use Rattle.std.specs.Prelude.{◌≡◌, true, not, ◌≤◌, ◌<◌, length};
 ghost use Rattle.laws.specs.Choice.{between};
 ghost use Rattle.paper_nests.specs.Valid.{is_valid};

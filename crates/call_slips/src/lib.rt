@@ -1,4 +1,6 @@
 // Slips for two readers: what the candidate may read of a placement, and what the examiner reads of it beside the key.
+#![tactic(auto)]
+
 ghost use Rattle.std.specs.Prelude.{◌≡◌, true, ◌<◌, ◌≤◌, length};
 ghost use Rattle.paper_nests.specs.Kinds.{DEPENDENCES};
 ghost use Rattle.paper_nests.specs.Valid.{is_valid};

@@ -1,4 +1,6 @@
 // How a sitting stands: all that a page shows of it after a move, in one reply.
+#![tactic(auto)]
+
 ghost use Rattle.std.specs.Prelude.{◌≡◌, ℕ, ◌<◌};
 ghost use Rattle.laws.specs.Entries.{at};
 ghost use Rattle.paper_nests.specs.Kinds.{POINTS};

@@ -1,5 +1,7 @@
 // The call of the textbook method for a nest of one loop: each gap is tried as a first barrier, the line behind it is cut
 // greedily at each first interval end, and the smallest result is kept.
+#![tactic(auto)]
+
 ghost use Rattle.std.specs.Prelude.{◌≡◌, true, ◌+◌, ◌<◌, ◌≤◌, length};
 ghost use Rattle.laws.specs.Entries.{at};
 ghost use Rattle.paper_nests.specs.Ring.{one_loop};

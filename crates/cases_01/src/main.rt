@@ -1,4 +1,6 @@
 // The cases of document 01, "Papers with known results", run over the desk's calls and compared; a line for each.
+#![tactic(auto)]
+
 ghost use Rattle.desk.specs.Desks.{IsMade};
 
 use cases_replies::{
@@ -6,23 +8,25 @@ use cases_replies::{
     planned, repeat, report,
 };
 use desk::Desk;
+use std::io;
 
-fn main() {
+fn main(rt: HostRuntime) -> io::Result<()> {
     let p = paper_p();
     let q = paper_q();
-    report(1, case_1(p));
-    report(2, is_uncut(p, b"2103\n2109\n", 4));
-    report(3, is_uncut(p, b"2103\n210b\n", 5));
-    report(4, is_dearer(p, b"2103\n2109\n210d\n", 0, 1, 0));
-    report(5, is_dearer(p, b"2105\n210a\n210b\n", 7, 2, 1));
-    report(6, case_6(q));
-    report(7, is_dearer(q, b"2104\n2107\n", 2, 1, 0));
-    report(8, case_8());
-    report(9, case_9());
-    report(10, case_10());
-    report(11, case_11());
-    report(12, case_12());
-    report(13, case_13());
+    report(&rt, 1, case_1(p))?;
+    report(&rt, 2, is_uncut(p, b"2103\n2109\n", 4))?;
+    report(&rt, 3, is_uncut(p, b"2103\n210b\n", 5))?;
+    report(&rt, 4, is_dearer(p, b"2103\n2109\n210d\n", 0, 1, 0))?;
+    report(&rt, 5, is_dearer(p, b"2105\n210a\n210b\n", 7, 2, 1))?;
+    report(&rt, 6, case_6(q))?;
+    report(&rt, 7, is_dearer(q, b"2104\n2107\n", 2, 1, 0))?;
+    report(&rt, 8, case_8())?;
+    report(&rt, 9, case_9())?;
+    report(&rt, 10, case_10())?;
+    report(&rt, 11, case_11())?;
+    report(&rt, 12, case_12())?;
+    report(&rt, 13, case_13())?;
+    Ok(())
 }
 
 // P: key 5 and 11, counts 0, 1, 1 for loops 0, 1, 7.

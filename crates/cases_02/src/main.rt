@@ -1,5 +1,7 @@
 // Cases of the change requests, run over the desk's calls and compared; a line for each. Their numbers go on from those
 // of document 01: 14 to 16 are of request 4, 17 to 19 of request 5, 20 of request 6, 21 to 23 of request 7.
+#![tactic(auto)]
+
 ghost use Rattle.desk.specs.Desks.{IsMade};
 
 use cases_replies::{
@@ -8,18 +10,20 @@ use cases_replies::{
     paper_p, paper_r, planned, plans, puts, report, takes_back,
 };
 use desk::Desk;
+use std::io;
 
-fn main() {
-    report(14, case_14());
-    report(15, case_15());
-    report(16, case_16());
-    report(17, case_17());
-    report(18, case_18());
-    report(19, case_19());
-    report(20, case_20());
-    report(21, case_21());
-    report(22, case_22());
-    report(23, case_23());
+fn main(rt: HostRuntime) -> io::Result<()> {
+    report(&rt, 14, case_14())?;
+    report(&rt, 15, case_15())?;
+    report(&rt, 16, case_16())?;
+    report(&rt, 17, case_17())?;
+    report(&rt, 18, case_18())?;
+    report(&rt, 19, case_19())?;
+    report(&rt, 20, case_20())?;
+    report(&rt, 21, case_21())?;
+    report(&rt, 22, case_22())?;
+    report(&rt, 23, case_23())?;
+    Ok(())
 }
 
 // P at the screen: barriers put and lifted, how many dependences remain uncut, and the sitting as text.

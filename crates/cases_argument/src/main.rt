@@ -1,21 +1,25 @@
 // Cases of arguments, weighed and given over the calls and compared; a line for each.
+#![tactic(auto)]
+
 ghost use Rattle.desk.specs.Desks.{IsMade};
 
 use call_argue::argue;
 use call_argument::{weigh, weigh_placement};
 use cases_replies::{after_load, empty_desk, paper_p, paper_r, planned, report};
 use desk::Desk;
+use std::io;
 
-fn main() {
-    report(1, case_1());
-    report(2, case_2());
-    report(3, case_3());
-    report(4, case_4());
-    report(5, case_5());
-    report(6, case_6());
-    report(7, case_7());
-    report(8, case_8());
-    report(9, case_9());
+fn main(rt: HostRuntime) -> io::Result<()> {
+    report(&rt, 1, case_1())?;
+    report(&rt, 2, case_2())?;
+    report(&rt, 3, case_3())?;
+    report(&rt, 4, case_4())?;
+    report(&rt, 5, case_5())?;
+    report(&rt, 6, case_6())?;
+    report(&rt, 7, case_7())?;
+    report(&rt, 8, case_8())?;
+    report(&rt, 9, case_9())?;
+    Ok(())
 }
 
 // P: dependence 0 wants a barrier of loop 1, dependence 2 one of loop 7. The same argument shows less than a dearer

@@ -1,17 +1,21 @@
 // Cases of two placements held beside each other, run over the call and compared; a line for each.
+#![tactic(auto)]
+
 ghost use Rattle.desk.specs.Desks.{IsMade};
 
 use call_compare::compare;
 use cases_replies::{after_load, empty_desk, paper_p, planned, report};
 use desk::Desk;
+use std::io;
 
-fn main() {
-    report(1, case_1());
-    report(2, case_2());
-    report(3, case_3());
-    report(4, case_4());
-    report(5, case_5());
-    report(6, case_6());
+fn main(rt: HostRuntime) -> io::Result<()> {
+    report(&rt, 1, case_1())?;
+    report(&rt, 2, case_2())?;
+    report(&rt, 3, case_3())?;
+    report(&rt, 4, case_4())?;
+    report(&rt, 5, case_5())?;
+    report(&rt, 6, case_6())?;
+    Ok(())
 }
 
 // P's key beside a placement with a barrier more in loop 0, one with a barrier more in loop 7, and no barrier at all,

@@ -1,17 +1,21 @@
 // Cases of tries for fewer calls where loops run once (change request 13), run over the call and compared; a line for
 // each.
+#![tactic(auto)]
+
 ghost use Rattle.desk.specs.Desks.{IsMade};
 
 use call_improve::{BUDGET, ROUND, improve};
 use cases_replies::{after_load, empty_desk, paper_p, planned, report};
 use desk::Desk;
+use std::io;
 
-fn main() {
-    report(1, case_1());
-    report(2, case_2());
-    report(3, case_3());
-    report(4, case_4());
-    report(5, case_5());
+fn main(rt: HostRuntime) -> io::Result<()> {
+    report(&rt, 1, case_1())?;
+    report(&rt, 2, case_2())?;
+    report(&rt, 3, case_3())?;
+    report(&rt, 4, case_4())?;
+    report(&rt, 5, case_5())?;
+    Ok(())
 }
 
 // The nest of WHY, whose key is 2, 7, with both loops run once: the third try, gap 4 alone, has one call, and the round

@@ -1,18 +1,22 @@
 // Cases of two papers into one (change request 12), joined and compared; a line for each.
-ghost use Rattle.io.specs.Counts.{IsPrefixLen};
+#![tactic(auto)]
+
+ghost use Rattle.std.specs.Prelude.{◌≡◌, ◌≤◌, length, take};
 
 use call_join::join;
 use cases_replies::{has_key, is_best, is_refused, planned, repeat, report};
+use std::io;
 
-fn main() {
-    report(1, case_1());
-    report(2, case_2());
-    report(3, case_3());
-    report(4, case_4());
-    report(5, case_5());
-    report(6, case_6());
-    report(7, case_7());
-    report(8, case_8());
+fn main(rt: HostRuntime) -> io::Result<()> {
+    report(&rt, 1, case_1())?;
+    report(&rt, 2, case_2())?;
+    report(&rt, 3, case_3())?;
+    report(&rt, 4, case_4())?;
+    report(&rt, 5, case_5())?;
+    report(&rt, 6, case_6())?;
+    report(&rt, 7, case_7())?;
+    report(&rt, 8, case_8())?;
+    Ok(())
 }
 
 // P with Q: the points of P are moved by 1, those of Q by 15. The key is 5, 11 and 2, 6 moved along, and Best are two
@@ -185,7 +189,8 @@ fn sized(loops: usize, statements: usize, dependences: usize) -> Size {
 
 // Puts a paper's text into the buffer; gives its length.
 fn put_paper(text: &mut [u8], size: Size) -> usize
-    ensures { IsPrefixLen result text.new }
+    ensures in_bounds { result ≤ length text.new }
+    ensures whole { result ≡ length (take result text.new) }
 {
     let a = repeat(text, 0, b"01\n", size.loops);
     let b = repeat(text, a, b"03\n", size.statements);

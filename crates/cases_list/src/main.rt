@@ -1,4 +1,6 @@
 // Lists of records lent to a desk, run over the call and compared; a line for each case.
+#![tactic(auto)]
+
 ghost use Rattle.desk.specs.Desks.{IsMade};
 ghost use Rattle.desk.specs.Says.{ListSays};
 ghost use Rattle.call_list.specs.Lists.{all_deps};
@@ -6,16 +8,18 @@ ghost use Rattle.call_list.specs.Lists.{all_deps};
 use cases_replies::{after_load, empty_desk, paper_p, report};
 use desk::{Answer, Desk};
 use paper_nests::{CARRIED, Dependence, INDEPENDENT};
+use std::io;
 
-fn main() {
+fn main(rt: HostRuntime) -> io::Result<()> {
     let p = paper_p();
-    report(1, case_1(p));
-    report(2, case_2(p));
-    report(3, case_3(p));
-    report(4, case_4(p));
-    report(5, case_5(p));
-    report(6, case_6(p));
-    report(7, case_7(p));
+    report(&rt, 1, case_1(p))?;
+    report(&rt, 2, case_2(p))?;
+    report(&rt, 3, case_3(p))?;
+    report(&rt, 4, case_4(p))?;
+    report(&rt, 5, case_5(p))?;
+    report(&rt, 6, case_6(p))?;
+    report(&rt, 7, case_7(p))?;
+    Ok(())
 }
 
 // P's key, 5 and 11, cuts P's own dependences.

@@ -1,4 +1,6 @@
 // The cases of loops that may not run (change request 10), run over the desk's calls and compared; a line for each.
+#![tactic(auto)]
+
 ghost use Rattle.desk.specs.Desks.{IsMade};
 
 use call_missing::missing_runs;
@@ -8,15 +10,17 @@ use cases_replies::{
     planned, report,
 };
 use desk::{Chosen, Desk};
+use std::io;
 
-fn main() {
-    report(1, case_1());
-    report(2, case_2());
-    report(3, case_3());
-    report(4, case_4());
-    report(5, case_5());
-    report(6, case_6());
-    report(7, case_7());
+fn main(rt: HostRuntime) -> io::Result<()> {
+    report(&rt, 1, case_1())?;
+    report(&rt, 2, case_2())?;
+    report(&rt, 3, case_3())?;
+    report(&rt, 4, case_4())?;
+    report(&rt, 5, case_5())?;
+    report(&rt, 6, case_6())?;
+    report(&rt, 7, case_7())?;
+    Ok(())
 }
 
 // A dependence over loop 2, which only the key's barrier inside it cuts: listed. Not so where another barrier cuts it

@@ -1,11 +1,12 @@
 // The calls, each held to a reply: the desk after a call, whether a call replies this, texts of many lines, and the line
 // of a case. The programs of cases are made of them.
-ghost use Rattle.std.specs.Prelude.{◌≤◌, length};
-ghost use Rattle.io.specs.Counts.{IsPrefixLen};
+#![tactic(auto)]
+
+ghost use Rattle.std.specs.Prelude.{◌≤◌, length, ◌≡◌, take};
 ghost use Rattle.desk.specs.Desks.{IsMade};
 
 use desk::{Answer, Chosen, Desk, Marked, PlainDesk, Verdict};
-use libc::STDOUT_FILENO;
+use std::io;
 
 // A desk that has read a text and worked out its key.
 pub fn planned(text: &[u8]) -> Desk
@@ -136,7 +137,7 @@ pub fn plans(desk: Desk, number: u8) -> bool
 
 // The key's text is this.
 pub fn has_key(desk: Desk, text: &[u8]) -> bool {
-    let mut out = io::buffer();
+    let mut out = [0u8; 4096];
     let written = desk::write_key(desk, &mut out);
     is_written(&out, written, 0, text)
 }
@@ -228,7 +229,7 @@ pub fn takes_back(desk: Desk, number: u8, uncut: usize) -> bool
 
 // The sitting is written with this number and this text.
 pub fn has_sitting(desk: Desk, number: u8, text: &[u8]) -> bool {
-    let mut out = io::buffer();
+    let mut out = [0u8; 4096];
     let written = call_moves::write_sitting(desk, &mut out);
     is_written(&out, written, number, text)
 }
@@ -247,7 +248,8 @@ pub fn is_chosen(reply: Chosen, number: u8, set: u64) -> bool {
 // Puts a line so many times into the text from a place on, as far as there is room; gives the place behind them.
 pub fn repeat(text: &mut [u8], at: usize, line: &[u8], times: usize) -> usize
     requires { at ≤ length text.old }
-    ensures { IsPrefixLen result text.new }
+    ensures in_bounds { result ≤ length text.new }
+    ensures whole { result ≡ length (take result text.new) }
 {
     let mut n = at;
     let mut i = 0;
@@ -287,12 +289,7 @@ fn is_written(out: &[u8], answer: Answer, number: u8, text: &[u8]) -> bool {
 }
 
 // Writes a case's line.
-pub fn report(number: u64, ok: bool) {
-    io::write_all(STDOUT_FILENO, b"case ");
-    io::print_decimal(STDOUT_FILENO, number);
-    if ok {
-        io::write_all(STDOUT_FILENO, b": ok\n");
-    } else {
-        io::write_all(STDOUT_FILENO, b": FAILED\n");
-    }
+pub fn report(rt: &HostRuntime, number: u64, ok: bool) -> io::Result<()> {
+    let word = if ok { "ok" } else { "FAILED" };
+    println!(rt; "case {number}: {word}")
 }

@@ -1,13 +1,17 @@
 // Cases of timing sheets (change request 14), run and compared; a line for each.
+#![tactic(auto)]
+
 use call_sheet::ends;
 use cases_replies::report;
+use std::io;
 
-fn main() {
-    report(1, case_1());
-    report(2, case_2());
-    report(3, case_3());
-    report(4, case_4());
-    report(5, case_5());
+fn main(rt: HostRuntime) -> io::Result<()> {
+    report(&rt, 1, case_1())?;
+    report(&rt, 2, case_2())?;
+    report(&rt, 3, case_3())?;
+    report(&rt, 4, case_4())?;
+    report(&rt, 5, case_5())?;
+    Ok(())
 }
 
 // Two processors, two phases: each waits for itself, one waits for both, both do.

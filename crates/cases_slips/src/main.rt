@@ -1,20 +1,24 @@
 // Cases of slips for two readers (change request 9), run over the desk's calls and compared; a line for each.
+#![tactic(auto)]
+
 ghost use Rattle.desk.specs.Desks.{IsMade};
 
 use call_slips::{candidate_slip, examiner_slip};
 use cases_replies::{after_load, after_put, empty_desk, paper_p, paper_r, planned, report};
 use desk::Desk;
+use std::io;
 
-fn main() {
-    report(1, case_1());
-    report(2, case_2());
-    report(3, case_3());
-    report(4, case_4());
-    report(5, case_5());
-    report(6, case_6());
-    report(7, case_7());
-    report(8, case_8());
-    report(9, case_9());
+fn main(rt: HostRuntime) -> io::Result<()> {
+    report(&rt, 1, case_1())?;
+    report(&rt, 2, case_2())?;
+    report(&rt, 3, case_3())?;
+    report(&rt, 4, case_4())?;
+    report(&rt, 5, case_5())?;
+    report(&rt, 6, case_6())?;
+    report(&rt, 7, case_7())?;
+    report(&rt, 8, case_8())?;
+    report(&rt, 9, case_9())?;
+    Ok(())
 }
 
 // P: its own key, two that leave a dependence uncut, no barrier at all.

@@ -1,15 +1,19 @@
 // The cases of the textbook method (request 8), run over its call and compared; a line for each.
+#![tactic(auto)]
+
 ghost use Rattle.desk.specs.Desks.{IsMade};
 
 use cases_replies::{
     after_load, empty_desk, has_key, is_chosen, paper_p, paper_r, planned, report,
 };
 use desk::Desk;
+use std::io;
 
-fn main() {
-    report(24, case_24());
-    report(25, case_25());
-    report(26, case_26());
+fn main(rt: HostRuntime) -> io::Result<()> {
+    report(&rt, 24, case_24())?;
+    report(&rt, 25, case_25())?;
+    report(&rt, 26, case_26())?;
+    Ok(())
 }
 
 // As many barriers as the key, and not always where it has them: 1 and 3, where the key is 1 and 2. R; a whole ring;

@@ -1,5 +1,7 @@
 // The cases of a paper told by calls: the shape of its nest, the gaps of a dependence, how a sitting stands; a line for
 // each.
+#![tactic(auto)]
+
 ghost use Rattle.desk.specs.Desks.{IsMade};
 
 use call_gaps::dependence_gaps;
@@ -10,13 +12,15 @@ use cases_replies::{
     repeat, report,
 };
 use desk::Desk;
+use std::io;
 
-fn main() {
-    report(1, case_1());
-    report(2, case_2());
-    report(3, case_3());
-    report(4, case_4());
-    report(5, case_5());
+fn main(rt: HostRuntime) -> io::Result<()> {
+    report(&rt, 1, case_1())?;
+    report(&rt, 2, case_2())?;
+    report(&rt, 3, case_3())?;
+    report(&rt, 4, case_4())?;
+    report(&rt, 5, case_5())?;
+    Ok(())
 }
 
 // The shape of P: loop 0 with the loops 1 to 6 and 7 to 12 in it. Behind its points every place has 0.

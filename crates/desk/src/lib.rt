@@ -1,5 +1,7 @@
 // The marking desk: one nest, at most one key, and the candidate's sitting with its moves. A desk comes only from these
 // calls; each takes it by value.
+#![tactic(auto)]
+
 ghost use Rattle.std.specs.Prelude.{◌≡◌, true, not};
 ghost use Rattle.desk.specs.Desks.{IsMade, IsMadePlain};
 ghost use Rattle.laws.specs.Choice.{when, first_of};

@@ -1,4 +1,6 @@
 // The latest moves of a sitting that are not yet taken back: at most 64, older ones are forgotten.
+#![tactic(auto)]
+
 ghost use Rattle.std.specs.Prelude.{◌≡◌, ◌<◌};
 ghost use Rattle.desk_moves.specs.Ring.{KEPT, before, IsRing, EmptySays, PushSays, LatestSays, PopSays};
 

@@ -1,4 +1,6 @@
 // The candidate's own placement at the screen, with the kept number of barriers that cut each dependence.
+#![tactic(auto)]
+
 ghost use Rattle.std.specs.Prelude.{◌≡◌, true, false, ◌&&◌, not, ℕ, ◌<◌, ◌≤◌, eqb, length};
 ghost use Rattle.paper_nests.specs.Kinds.{POINTS};
 ghost use Rattle.paper_nests.specs.Valid.{is_shape};

@@ -1,5 +1,7 @@
 // The desk for programs in other languages: each call under its C name, over structs laid out as C lays them out. Most
 // only forward. desk.h beside this folder declares them all.
+#![tactic(auto)]
+
 ghost use Rattle.call_argue.specs.Says.{ArgueSays};
 ghost use Rattle.call_argument.specs.Says.{WeighSays, WeighPlacementSays};
 ghost use Rattle.call_compare.specs.Says.{CompareSays};

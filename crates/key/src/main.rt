@@ -1,5 +1,7 @@
 // The program: reads a nest text on standard input and writes its answer on standard output. A text that was not read
 // whole has no answer: a line on standard error says so, and another one where the answer was not written.
+#![tactic(auto)]
+
 ghost use Rattle.std.specs.Prelude.{◌≡◌, ◌<◌, length};
 ghost use Rattle.key.specs.Inputs.{StepSays, Adds, after_step, IsRead};
 

@@ -1,1 +1,2 @@
 // The requests on pages: definitions in specs/, that the calls keep them in proofs/; no code.
+#![tactic(auto)]

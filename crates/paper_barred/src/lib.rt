@@ -1,4 +1,6 @@
 // Barred gaps: the set of those of a nest.
+#![tactic(auto)]
+
 ghost use Rattle.std.specs.Prelude.{◌≡◌, ℕ};
 ghost use Rattle.laws.specs.Choice.{is_in};
 ghost use Rattle.paper_nests.specs.Stored.{nest_in, IsCounted};

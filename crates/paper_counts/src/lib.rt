@@ -1,4 +1,6 @@
 // The loop of every gap, and the counts of all loops, each in one pass over the points.
+#![tactic(auto)]
+
 ghost use Rattle.std.specs.Prelude.{◌≡◌, true, ◌<◌, ◌≤◌, length};
 ghost use Rattle.laws.specs.Bits.{one};
 ghost use Rattle.paper_nests.specs.Kinds.{POINTS};

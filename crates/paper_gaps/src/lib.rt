@@ -1,4 +1,6 @@
 // The gaps of a dependence, and ranges of gaps, put into placements.
+#![tactic(auto)]
+
 ghost use Rattle.std.specs.Prelude.{◌≡◌, ◌||◌, ℕ, ◌<◌, ◌≤◌};
 ghost use Rattle.laws.specs.Choice.{between};
 ghost use Rattle.paper_placements.specs.Words.{GAPS, holds};

@@ -1,5 +1,7 @@
 // Nests: their points, dependences, barred gaps and flagged loops by value, and the tests of a dependence and of a barred
 // gap.
+#![tactic(auto)]
+
 ghost use Rattle.std.specs.Prelude.{◌≡◌, true, ◌+◌, ◌^◌, ◌<◌, ◌≤◌, length};
 ghost use Rattle.paper_nests.specs.Kinds.{POINTS};
 ghost use Rattle.paper_nests.specs.Loops.{deeper, end_of, HasEnds, owner_of, is_do, is_inside};

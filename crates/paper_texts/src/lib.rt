@@ -1,4 +1,6 @@
 // Nest texts and placement texts, read line by line; placements and their counts, written.
+#![tactic(auto)]
+
 ghost use Rattle.std.specs.Prelude.{◌≡◌, true, [], ◌≤◌, length, take};
 ghost use Rattle.paper_nests.specs.Kinds.{POINTS};
 ghost use Rattle.paper_nests.specs.Loops.{HasEnds};

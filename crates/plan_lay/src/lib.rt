@@ -1,4 +1,6 @@
 // Laying the key down: the sweep of a loop once more, which now puts its barriers and lays the loops inside.
+#![tactic(auto)]
+
 ghost use Rattle.std.specs.Prelude.{◌≡◌, true, ◌<◌, ◌≤◌, length};
 ghost use Rattle.paper_nests.specs.Loops.{is_do, end_of};
 ghost use Rattle.plan_starts.specs.Grounds.{Kept};

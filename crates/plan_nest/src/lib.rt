@@ -1,4 +1,6 @@
 // The planner: the key of a nest.
+#![tactic(auto)]
+
 ghost use Rattle.std.specs.Prelude.{◌≡◌, true};
 ghost use Rattle.paper_nests.specs.Valid.{is_valid};
 ghost use Rattle.paper_nests.specs.Stored.{nest_in, IsCounted};

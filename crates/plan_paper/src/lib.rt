@@ -1,5 +1,7 @@
 // Papers with barred gaps: the gaps that are not barred are renumbered, the nest that they make is planned, and its key
 // is taken back.
+#![tactic(auto)]
+
 ghost use Rattle.std.specs.Prelude.{◌≡◌, true, ◌-◌};
 ghost use Rattle.paper_nests.specs.Kinds.{INDEPENDENT};
 ghost use Rattle.paper_nests.specs.Nests.{dep};

@@ -1,4 +1,6 @@
 // The row of one loop: its values for each suffix, and from them the fronts and choices.
+#![tactic(auto)]
+
 ghost use Rattle.std.specs.Prelude.{◌≡◌, ◌+◌, ◌*◌, ◌<◌, min, length};
 ghost use Rattle.plan_starts.specs.Grounds.{Kept};
 ghost use Rattle.plan_rows.specs.Valued.{CloseSays, CeilingSays, ClosedSays, FrontsIn, ValuesRoom};

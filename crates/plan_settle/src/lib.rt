@@ -1,4 +1,6 @@
 // Settling a loop: its row and the rows of all loops inside it, the inner ones first.
+#![tactic(auto)]
+
 ghost use Rattle.std.specs.Prelude.{◌≡◌, true, ◌≤◌, length};
 ghost use Rattle.paper_nests.specs.Loops.{is_do, end_of};
 ghost use Rattle.plan_rows.specs.Made.{ListsRoom};

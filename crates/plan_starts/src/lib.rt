@@ -2,6 +2,8 @@
 // Between two barriers a sweep changes nothing, and what follows a barrier depends on the start that made it alone. So
 // each start has one event, a number of own barriers and a front, and each front a link, the start at which the sweep
 // goes on.
+#![tactic(auto)]
+
 ghost use Rattle.std.specs.Prelude.{◌≡◌, ◌+◌, ◌<◌, length};
 ghost use Rattle.laws.specs.Choice.{first_of};
 ghost use Rattle.laws.specs.Entries.{at};

@@ -1,4 +1,6 @@
 // The steps of a sweep over one loop: how many barriers of its own it takes, and how far left the leftmost one can lie.
+#![tactic(auto)]
+
 ghost use Rattle.std.specs.Prelude.{◌≡◌, ◌+◌, ◌<◌, ◌≤◌, min, length};
 ghost use Rattle.laws.specs.Choice.{first_of};
 ghost use Rattle.laws.specs.Entries.{at};

@@ -1,4 +1,6 @@
 // The tables that the planner's sweeps read, made from a nest: its loops, and its dependences by their homes.
+#![tactic(auto)]
+
 ghost use Rattle.std.specs.Prelude.{◌≡◌, suc, ◌+◌, ◌<◌, ◌≤◌, min, length, set};
 ghost use Rattle.laws.specs.Entries.{at};
 ghost use Rattle.paper_nests.specs.Kinds.{POINTS};

@@ -1,1 +1,2 @@
 // The key of a nest is a matter of definitions and proofs: no code.
+#![tactic(auto)]

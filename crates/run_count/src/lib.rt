@@ -1,4 +1,6 @@
 // Turns of a nest's loops: whether a list of them fits, and how many barrier calls a placement has under them.
+#![tactic(auto)]
+
 ghost use Rattle.std.specs.Prelude.{◌≡◌, true, ◌^◌, ◌<◌, ◌≤◌, length};
 ghost use Rattle.paper_nests.specs.Kinds.{POINTS};
 ghost use Rattle.paper_nests.specs.Valid.{is_shape};

@@ -2,7 +2,8 @@ use mathlib.Core.Path.{◌≡◌, refl}
 use Prim.Native.Nat.{◌-◌, ◌≤◌}
 use native.Mathlib.Omega.{arith}
 use lib.ListN.{length}
-use Rattle.io.proofs.Counting.{prefix_len_of_le}
+use lib.Seq.{length-take-le}
+use mathlib.Core.Path.{sym}
 use Rattle.cases_replies.proofs.repeat.Goals as goal
 
 pub loop-i-init : goal.loop-i-init
@@ -12,4 +13,4 @@ pub loop-i-preserved : goal.loop-i-preserved
 loop-i-preserved c = (c.put-n.ensures, omega arith, omega arith)
 
 pub returns : goal.returns
-returns c = prefix_len_of_le _ _ c.loop-i.invariant.0
+returns c = record { in_bounds = c.loop-i.invariant.0; whole = sym (length-take-le c.loop-i.n c.loop-i.text c.loop-i.invariant.0) }

@@ -154,8 +154,7 @@ loop-i-smaller-then-points-i-eq-DO t c =
 pub loop-i-preserved-then-points-i-eq-DO : goal.loop-i-preserved-then-points-i-eq-DO
 loop-i-preserved-then-points-i-eq-DO t c =
     let call : Call c.args.points.now c.args.own.now c.args.ends.now c.args.reach.now
-    c.args.limit.now c.args.has.now c.args.left.now c.args.choice.now c.args.d c.args.h = called (c.requires.charts, (c.requires.room, (c.requires.d_value, (c.requires.has_height, (c.requires.unset, c.requires.unset_2))))) in
-    (
+    c.args.limit.now c.args.has.now c.args.left.now c.args.choice.now c.args.d c.args.h = called (c.requires.charts, (c.requires.room, (c.requires.d_value, (c.requires.has_height, (c.requires.unset, c.requires.unset_2))))) in (
       on_child (call) c.loop-i.invariant.0 c.loop-i-test.true c.if-points-i-eq-DO.true c.settle.auto.left
           c.settle.auto.choice c.settle.ensures c.first_or-some.ensures,
       lent_on c.loop-i.invariant.1 record {
