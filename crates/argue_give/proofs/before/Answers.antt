@@ -1,6 +1,5 @@
 -- By whether there is one less.
 use Rattle.argue_give.proofs.Giving.{before_is}
-use borrow.Author.Rules.{rules}
 use Rattle.argue_give.proofs.before.Goals as goal
 
 pub returns : goal.returns

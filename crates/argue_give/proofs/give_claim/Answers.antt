@@ -5,7 +5,6 @@ use native.Mathlib.Omega.{arith}
 use Rattle.paper_nests.proofs.Loops.{end-after}
 use Rattle.argue_key.specs.Laps.{head}
 use Rattle.argue_give.proofs.Giving.{laps_room, gives_many, gives_one}
-use borrow.Author.Rules.{rules}
 use Rattle.argue_give.proofs.give_claim.Goals as goal
 
 pub returns-then-many-ge-CLAIMS : goal.returns-then-many-ge-CLAIMS

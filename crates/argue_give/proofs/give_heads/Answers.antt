@@ -3,7 +3,6 @@ use mathlib.Core.Path.{◌∙◌}
 use native.Mathlib.Omega.{arith}
 use Rattle.argue_give.proofs.Giving.{gives_then, gives_as, gives_under}
 use Rattle.argue_give.proofs.Heads.{room_again, low_few, low_is, outermost}
-use borrow.Author.Rules.{rules}
 use Rattle.argue_give.proofs.give_heads.Goals as goal
 
 pub give_where-low-requires : goal.give_where-low-requires

@@ -2,10 +2,9 @@ use mathlib.Core.Path.{ap}
 use Prim.Native.Nat.{◌+◌}
 use native.Mathlib.Omega.{arith}
 use lib.ListN.{length}
-use borrow.Author.Rules.{rules}
 use Rattle.plan_sweeps.specs.Listed.{row}
 use Rattle.argue_give.proofs.Giving.{before_low}
-use Rattle.argue_give.proofs.Rowing.{Rowing, row_begin, row_room, row_on, row_done}
+use Rattle.argue_give.proofs.Rowing.{row_begin, row_room, row_on, row_done}
 use Rattle.argue_give.proofs.give_row.Goals as goal
 
 pub loop-b-init : goal.loop-b-init

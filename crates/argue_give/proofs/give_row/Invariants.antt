@@ -1,12 +1,5 @@
 -- From the last gap of the row to its first, each with its claim or none (Rowing).
-use mathlib.Core.Path.{ap}
-use Prim.Native.Nat.{◌+◌}
-use native.Mathlib.Omega.{arith}
-use lib.ListN.{length}
-use borrow.Author.Rules.{rules}
-use Rattle.plan_sweeps.specs.Listed.{row}
-use Rattle.argue_give.proofs.Giving.{before_low}
-use Rattle.argue_give.proofs.Rowing.{Rowing, row_begin, row_room, row_on, row_done}
+use Rattle.argue_give.proofs.Rowing.{Rowing}
 use Rattle.argue_give.proofs.give_row.Given as goal
 
 abbrev pub invariant-loop-b : goal.invariant-loop-b

@@ -6,7 +6,6 @@ use Rattle.paper_nests.proofs.Loops.{end-after}
 use Rattle.plan_sweeps.specs.Listed.{row}
 use Rattle.argue_give.proofs.Giving.{before_low, gives_then, gives_as, gives_under}
 use Rattle.argue_give.proofs.Heads.{room_again, side_few, sides_are}
-use borrow.Author.Rules.{rules}
 use Rattle.argue_give.proofs.give_sides.Goals as goal
 
 pub overflow_add-first : goal.overflow_add-first

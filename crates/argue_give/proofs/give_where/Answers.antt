@@ -2,7 +2,6 @@
 use mathlib.Core.Path.{refl}
 use native.Mathlib.Omega.{arith}
 use Rattle.argue_give.proofs.Giving.{gives_none, gives_as, gives_under}
-use borrow.Author.Rules.{rules}
 use Rattle.argue_give.proofs.give_where.Goals as goal
 
 pub returns-then-yes : goal.returns-then-yes

@@ -4,7 +4,6 @@ use Prim.Native.Nat.{suc, ◌+◌, ◌-◌}
 use native.Mathlib.Omega.{arith}
 use Rattle.plan_sweeps.specs.Listed.{row}
 use Rattle.argue_give.proofs.Rowing.{run_first, run_all, run_on}
-use borrow.Author.Rules.{rules}
 use Rattle.argue_give.proofs.starts_run.Goals as goal
 
 pub overflow_cast-here : goal.overflow_cast-here

@@ -1,7 +1,7 @@
 use mathlib.Core.Path.{sym, ◌∙◌}
 use native.Mathlib.Omega.{arith}
 use lib.ListN.{length}
-use Rattle.argue_judge.proofs.Ends.{LowFrom, low_start, low_on, low_stop, low_all}
+use Rattle.argue_judge.proofs.Ends.{low_start, low_on, low_stop, low_all}
 use Rattle.argue_judge.proofs.all_low.Goals as goal
 
 pub loop-d-init : goal.loop-d-init

@@ -1,8 +1,6 @@
 -- `all_low` meets its contract: the points below decide (`LowFrom`).
-use mathlib.Core.Path.{sym, ◌∙◌}
-use native.Mathlib.Omega.{arith}
 use lib.ListN.{length}
-use Rattle.argue_judge.proofs.Ends.{LowFrom, low_start, low_on, low_stop, low_all}
+use Rattle.argue_judge.proofs.Ends.{LowFrom}
 use Rattle.argue_judge.proofs.all_low.Given as goal
 
 abbrev pub invariant-loop-d : goal.invariant-loop-d

@@ -1,6 +1,5 @@
 -- `close` meets its contract: one law for each way through it.
 use mathlib.Core.Path.{refl}
-use borrow.Author.Rules.{rules}
 use Rattle.argue_judge.proofs.Ends.{shown_room, closed_none, closed-by, closed_not}
 use Rattle.argue_judge.proofs.close.Goals as goal
 

@@ -1,6 +1,5 @@
 -- `first_at` meets its contract: one law for each way through it.
 use mathlib.Core.Path.{refl}
-use borrow.Author.Rules.{rules}
 use Rattle.argue_judge.proofs.Starts.{first_counts, first_none}
 use Rattle.argue_judge.proofs.first_at.Goals as goal
 

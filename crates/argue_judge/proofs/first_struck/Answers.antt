@@ -1,10 +1,10 @@
 use mathlib.Core.Path.{refl}
-use Prim.Native.Nat.{◌-◌, ◌≤◌, ◌<◌}
+use Prim.Native.Nat.{◌-◌, ◌<◌}
 use native.Mathlib.Omega.{arith}
 use Rattle.laws.specs.Entries.{at}
 use Rattle.laws.proofs.Copies.{copies}
 use Rattle.paper_nests.specs.Kinds.{POINTS}
-use Rattle.argue_judge.proofs.Starts.{Filling, fill_start, fill_on, fill_done}
+use Rattle.argue_judge.proofs.Starts.{fill_start, fill_on, fill_done}
 use Rattle.argue_judge.proofs.first_struck.Goals as goal
 
 pub loop-g-init : goal.loop-g-init

@@ -1,11 +1,6 @@
 -- `first_struck` meets its contract: the gaps so far have their numbers (`Filling`).
-use mathlib.Core.Path.{refl}
-use Prim.Native.Nat.{◌-◌, ◌≤◌, ◌<◌}
-use native.Mathlib.Omega.{arith}
-use Rattle.laws.specs.Entries.{at}
-use Rattle.laws.proofs.Copies.{copies}
-use Rattle.paper_nests.specs.Kinds.{POINTS}
-use Rattle.argue_judge.proofs.Starts.{Filling, fill_start, fill_on, fill_done}
+use Prim.Native.Nat.{◌-◌, ◌≤◌}
+use Rattle.argue_judge.proofs.Starts.{Filling}
 use Rattle.argue_judge.proofs.first_struck.Given as goal
 
 abbrev pub invariant-loop-g : goal.invariant-loop-g

@@ -1,6 +1,5 @@
 -- `has_low` meets its contract: one law for each way through it.
 use mathlib.Core.Path.{sym, ◌∙◌}
-use borrow.Author.Rules.{rules}
 use Rattle.argue_judge.proofs.Ends.{low_no_loop, low_none, low_known}
 use Rattle.argue_judge.proofs.has_low.Goals as goal
 

@@ -1,6 +1,5 @@
 -- `is_exact` meets its contract: the product is the definition's sum, and small.
 use native.Mathlib.Omega.{arith}
-use borrow.Author.Rules.{rules}
 use Rattle.argue_judge.proofs.Ends.{product_few, exact_low}
 use Rattle.argue_judge.proofs.is_exact.Goals as goal
 

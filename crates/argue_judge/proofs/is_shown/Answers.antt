@@ -1,6 +1,5 @@
 -- `is_shown` meets its contract: the product is the definition's sum, and small.
 use native.Mathlib.Omega.{arith}
-use borrow.Author.Rules.{rules}
 use Rattle.argue_judge.proofs.Ends.{product_few, shown_low, shown_more}
 use Rattle.argue_judge.proofs.is_shown.Goals as goal
 

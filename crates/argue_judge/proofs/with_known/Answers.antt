@@ -1,5 +1,4 @@
 -- `with_known` meets its contract: one law for each way through it.
-use borrow.Author.Rules.{rules}
 use Rattle.argue_judge.proofs.Ends.{known_same, known_one_more}
 use Rattle.argue_judge.proofs.with_known.Goals as goal
 

@@ -1,6 +1,5 @@
 -- `with_low` meets its contract: one law for each way through it.
 use mathlib.Core.Path.{sym, ◌∙◌}
-use borrow.Author.Rules.{rules}
 use Rattle.argue_judge.proofs.Ends.{low_unopened, low_put, low_other}
 use Rattle.argue_judge.proofs.with_low.Goals as goal
 

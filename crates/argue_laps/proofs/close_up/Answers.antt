@@ -1,6 +1,5 @@
 -- A front up to `upto`, or none to close by, keeps all; else the step is put (OneLap).
 use Rattle.argue_laps.proofs.OneLap.{close_none, close_in, close_put}
-use borrow.Author.Rules.{rules}
 use Rattle.argue_laps.proofs.close_up.Goals as goal
 
 pub returns-then-upto-eq0 : goal.returns-then-upto-eq0

@@ -6,7 +6,6 @@ use Rattle.paper_nests.proofs.Loops.{end-after}
 use Rattle.argue_laps.specs.Lapped.{LapRoom}
 use Rattle.argue_laps.proofs.Suffix.{Suffixed, few_back, suffixed, sets_there, set_again}
 use Rattle.argue_laps.proofs.OneLap.{lapped}
-use borrow.Author.Rules.{rules}
 use Rattle.argue_laps.proofs.lap.Goals as goal
 
 pub suffix_of-suffix-requires : goal.suffix_of-suffix-requires

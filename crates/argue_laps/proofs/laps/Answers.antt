@@ -2,7 +2,7 @@ use mathlib.Core.Path.{◌∙◌, ap}
 use native.Mathlib.Omega.{arith}
 use lib.ListN.{length}
 use Rattle.paper_nests.proofs.Loops.{end-after}
-use Rattle.argue_laps.proofs.Lapping.{Lapping, lap_begin, lap_room, lap_on, lap_found, lap_done}
+use Rattle.argue_laps.proofs.Lapping.{lap_begin, lap_room, lap_on, lap_found, lap_done}
 use Rattle.argue_laps.proofs.laps.Goals as goal
 
 pub overflow_add-f : goal.overflow_add-f

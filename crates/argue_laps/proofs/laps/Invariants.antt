@@ -1,9 +1,5 @@
 -- Each turn is one lap more (Lapping).
-use mathlib.Core.Path.{◌∙◌, ap}
-use native.Mathlib.Omega.{arith}
-use lib.ListN.{length}
-use Rattle.paper_nests.proofs.Loops.{end-after}
-use Rattle.argue_laps.proofs.Lapping.{Lapping, lap_begin, lap_room, lap_on, lap_found, lap_done}
+use Rattle.argue_laps.proofs.Lapping.{Lapping}
 use Rattle.argue_laps.proofs.laps.Given as goal
 
 abbrev pub invariant-loop-j : goal.invariant-loop-j

@@ -1,6 +1,6 @@
 use mathlib.Core.Path.{refl, ◌∙◌}
 use native.Mathlib.Omega.{arith}
-use Rattle.argue_loops.proofs.Looping.{Looping, Sizes, loops_begin, loops-on, loops_done}
+use Rattle.argue_loops.proofs.Looping.{loops_begin, loops-on, loops_done}
 use Rattle.argue_loops.proofs.give_loops.Goals as goal
 
 pub loop-d-init : goal.loop-d-init

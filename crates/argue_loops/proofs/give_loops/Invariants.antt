@@ -1,7 +1,5 @@
 -- From the last point to the first, each loop gives its claims (Looping).
-use mathlib.Core.Path.{refl, ◌∙◌}
-use native.Mathlib.Omega.{arith}
-use Rattle.argue_loops.proofs.Looping.{Looping, Sizes, loops_begin, loops-on, loops_done}
+use Rattle.argue_loops.proofs.Looping.{Looping, Sizes}
 use Rattle.argue_loops.proofs.give_loops.Given as goal
 
 abbrev pub invariant-loop-d : goal.invariant-loop-d

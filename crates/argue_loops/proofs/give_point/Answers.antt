@@ -6,7 +6,6 @@ use Rattle.laws.specs.Entries.{at}
 use Rattle.argue_spell.specs.Added.{WORD}
 use Rattle.argue_give.proofs.Giving.{gives_none, gives_as, gives_under}
 use Rattle.argue_loops.proofs.Points.{point_other, low, high, long, short, point_row, point_room, point_idle, point_heads, point_ground, lists_after}
-use borrow.Author.Rules.{rules}
 use Rattle.argue_loops.proofs.give_point.Goals as goal
 
 pub returns-then-points-d-ne-DO : goal.returns-then-points-d-ne-DO

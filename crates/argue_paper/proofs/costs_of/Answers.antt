@@ -2,7 +2,6 @@
 use Rattle.paper_nests.specs.Stored.{nest_in}
 use Rattle.plan_tables.proofs.Preparing.{count_there, points_of}
 use Rattle.argue_paper.proofs.Costs.{plan_gaps, costs}
-use borrow.Author.Rules.{rules}
 use Rattle.argue_paper.proofs.costs_of.Goals as goal
 
 pub slice_bounds-points-end : goal.slice_bounds-points-end

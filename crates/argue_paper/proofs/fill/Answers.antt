@@ -1,11 +1,8 @@
-use mathlib.Core.Path.{◌≡◌, refl, ◌∙◌}
-use Prim.Native.Nat.{ℕ, ◌-◌, ◌≤◌, ◌<◌}
+use mathlib.Core.Path.{refl, ◌∙◌}
+use Prim.Native.Nat.{◌-◌}
 use native.Mathlib.Omega.{arith}
-use lib.ListN.{length, length-set}
-use borrow.Author.Rules.{rules}
-use Rattle.laws.specs.Entries.{at}
+use lib.ListN.{length-set}
 use Rattle.laws.proofs.Stores.{stored}
-use Rattle.plan_tables.specs.Charts.{TABLE}
 use Rattle.argue_paper.proofs.fill.Goals as goal
 
 pub loop-i-init : goal.loop-i-init

@@ -1,11 +1,8 @@
 -- `fill` meets its contract: the entries so far have the number.
-use mathlib.Core.Path.{◌≡◌, refl, ◌∙◌}
+use mathlib.Core.Path.{◌≡◌}
 use Prim.Native.Nat.{ℕ, ◌-◌, ◌≤◌, ◌<◌}
-use native.Mathlib.Omega.{arith}
-use lib.ListN.{length, length-set}
-use borrow.Author.Rules.{rules}
+use lib.ListN.{length}
 use Rattle.laws.specs.Entries.{at}
-use Rattle.laws.proofs.Stores.{stored}
 use Rattle.plan_tables.specs.Charts.{TABLE}
 use Rattle.argue_paper.proofs.fill.Given as goal
 

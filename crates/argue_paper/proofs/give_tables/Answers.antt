@@ -8,7 +8,6 @@ use Rattle.paper_nests.proofs.Levels.{starts_with_do}
 use Rattle.plan_tables.proofs.Preparing.{count_there, unowned_filled, blank_filled, points_of, fits_of}
 use Rattle.plan_nest.proofs.Planning.{charts, top_height}
 use Rattle.argue_paper.proofs.Tables.{unset_filled, small_filled, fine, spelled}
-use borrow.Author.Rules.{rules}
 use Rattle.argue_paper.proofs.give_tables.Goals as goal
 
 pub prepare-requires : goal.prepare-requires

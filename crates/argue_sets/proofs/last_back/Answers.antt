@@ -1,7 +1,5 @@
 use native.Mathlib.Omega.{arith}
-use borrow.Author.Rules.{rules}
-use Rattle.paper_nests.specs.Stored.{nest_in}
-use Rattle.argue_sets.proofs.Numbering.{Backing, back_start, back_on, back_done}
+use Rattle.argue_sets.proofs.Numbering.{back_start, back_on, back_done}
 use Rattle.argue_sets.proofs.last_back.Goals as goal
 
 pub loop-i-init : goal.loop-i-init

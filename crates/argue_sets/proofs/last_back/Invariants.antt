@@ -1,8 +1,6 @@
 -- From the last dependence to the first, the last that goes back is known of those passed.
-use native.Mathlib.Omega.{arith}
-use borrow.Author.Rules.{rules}
 use Rattle.paper_nests.specs.Stored.{nest_in}
-use Rattle.argue_sets.proofs.Numbering.{Backing, back_start, back_on, back_done}
+use Rattle.argue_sets.proofs.Numbering.{Backing}
 use Rattle.argue_sets.proofs.last_back.Given as goal
 
 abbrev pub invariant-loop-i : goal.invariant-loop-i

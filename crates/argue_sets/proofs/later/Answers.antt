@@ -1,5 +1,4 @@
 -- The dependence takes the place of the last exactly if it goes back later.
-use borrow.Author.Rules.{rules}
 use Rattle.argue_sets.proofs.Numbering.{later_line, later_other, later_cut, later_kept, later_taken}
 use Rattle.argue_sets.proofs.later.Goals as goal
 

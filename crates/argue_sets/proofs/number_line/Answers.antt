@@ -1,7 +1,6 @@
 -- A line's set is stored in the cell of its home and start where its end is the reach; else nothing changes.
 use Prim.Native.Nat.{◌+◌, ◌<◌}
 use native.Mathlib.Omega.{arith}
-use borrow.Author.Rules.{rules}
 use Rattle.paper_nests.specs.Kinds.{POINTS}
 use Rattle.paper_nests.specs.Stored.{dep_in}
 use Rattle.paper_nests.proofs.Deps.{Line, is-line}

@@ -1,8 +1,6 @@
 use native.Mathlib.Omega.{arith}
-use borrow.Author.Rules.{rules}
-use Rattle.paper_nests.specs.Stored.{nest_in}
 use Rattle.plan_tables.proofs.Cells.{Tall}
-use Rattle.argue_sets.proofs.Numbering.{Numbering, next_fits, number_start, number_on, number_done}
+use Rattle.argue_sets.proofs.Numbering.{next_fits, number_start, number_on, number_done}
 use Rattle.argue_sets.proofs.number_lines.Goals as goal
 
 pub loop-i-init : goal.loop-i-init

@@ -3,7 +3,6 @@ use mathlib.Core.Path.{◌≡◌, sym}
 use Prim.Native.Nat.{◌+◌}
 use native.Mathlib.Omega.{arith}
 use Rattle.argue_spell.proofs.Adding.{added_none, added_as, by_frame}
-use borrow.Author.Rules.{rules}
 use Rattle.argue_spell.proofs.put_by.Goals as goal
 
 pub returns-then-via-eq0 : goal.returns-then-via-eq0

@@ -4,7 +4,6 @@ use Prim.Native.Nat.{◌+◌}
 use native.Mathlib.Omega.{arith}
 use Rattle.paper_lines.specs.Lines.{line_text}
 use Rattle.argue_spell.proofs.Adding.{added_as, claim-frame}
-use borrow.Author.Rules.{rules}
 use Rattle.argue_spell.proofs.put_claim.Goals as goal
 
 pub returns : goal.returns

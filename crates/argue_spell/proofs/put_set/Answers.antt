@@ -4,7 +4,6 @@ use Prim.Native.Nat.{◌+◌}
 use native.Mathlib.Omega.{arith}
 use Rattle.paper_lines.specs.Lines.{line_text}
 use Rattle.argue_spell.proofs.Adding.{added_as, set-frame}
-use borrow.Author.Rules.{rules}
 use Rattle.argue_spell.proofs.put_set.Goals as goal
 
 pub returns-then-set-eq0 : goal.returns-then-set-eq0

@@ -1,7 +1,6 @@
 -- The claim that leads, then the set.
 use native.Mathlib.Omega.{arith}
 use Rattle.argue_spell.proofs.Adding.{added_then}
-use borrow.Author.Rules.{rules}
 use Rattle.argue_spell.proofs.put_step.Goals as goal
 
 pub returns : goal.returns

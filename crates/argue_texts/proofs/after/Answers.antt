@@ -3,7 +3,6 @@ use native.Mathlib.Omega.{arith}
 use Rattle.argue_texts.specs.Parts.{progress_in}
 use Rattle.argue_texts.proofs.PartFaults.{claims_fine, names_fine, claims_after, by_after, names_after}
 use Rattle.argue_texts.proofs.PartFaults.{unknown_after}
-use borrow.Author.Rules.{rules}
 use Rattle.argue_texts.proofs.after.Goals as goal
 
 pub overflow_add-result : goal.overflow_add-result

@@ -2,7 +2,6 @@ use mathlib.Core.Path.{sym, ◌∙◌, subst}
 use mathlib.Core.List.{List}
 use Prim.Native.Nat.{ℕ, ◌+◌, ◌-◌}
 use native.Mathlib.Omega.{arith}
-use lib.ListN.{length}
 use Rattle.argue_texts.specs.ArgumentTexts.{Progress}
 use Rattle.argue_texts.specs.Parts.{progress_in}
 use Rattle.argue_texts.proofs.Walking.{Walk, walk_begun, walk_end, walk_bad, walk_fault, walk_on, next_inside}

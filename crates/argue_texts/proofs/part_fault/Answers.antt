@@ -3,7 +3,6 @@ use native.Mathlib.Omega.{arith}
 use Rattle.argue_texts.specs.Parts.{progress_in}
 use Rattle.argue_texts.proofs.PartFaults.{claims_led, claims_full, claims_good, by_first, by_led, by_good}
 use Rattle.argue_texts.proofs.PartFaults.{names_first, names_full, names_good, unknown_fault}
-use borrow.Author.Rules.{rules}
 use Rattle.argue_texts.proofs.part_fault.Goals as goal
 
 pub returns-then-x-ne0 : goal.returns-then-x-ne0

@@ -3,7 +3,6 @@ use native.Mathlib.Omega.{arith}
 use mathlib.Core.Path.{◌∙◌}
 use Rattle.argue_texts.proofs.Frames.{told_is, tells_claim, tells_by, tells_dependence, tells_from, tells_upto}
 use Rattle.argue_texts.proofs.Frames.{long_claim, long_by, long_dependence, long_from, long_upto, no_kind}
-use borrow.Author.Rules.{rules}
 use Rattle.argue_texts.proofs.part_of.Goals as goal
 
 pub returns-then-f-eq4 : goal.returns-then-f-eq4

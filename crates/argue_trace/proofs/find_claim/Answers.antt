@@ -1,7 +1,7 @@
 use mathlib.Core.Path.{sym, ◌∙◌}
 use Prim.Native.Nat.{◌-◌}
 use native.Mathlib.Omega.{arith}
-use Rattle.argue_trace.proofs.Finding.{Searching, search_start, search_found, search_on, search_done}
+use Rattle.argue_trace.proofs.Finding.{search_start, search_found, search_on, search_done}
 use Rattle.argue_trace.proofs.find_claim.Goals as goal
 
 pub loop-i-init : goal.loop-i-init

@@ -1,8 +1,6 @@
 -- The claims from the i-th on give what all of them give.
-use mathlib.Core.Path.{sym, ◌∙◌}
 use Prim.Native.Nat.{◌-◌}
-use native.Mathlib.Omega.{arith}
-use Rattle.argue_trace.proofs.Finding.{Searching, search_start, search_found, search_on, search_done}
+use Rattle.argue_trace.proofs.Finding.{Searching}
 use Rattle.argue_trace.proofs.find_claim.Given as goal
 
 abbrev pub invariant-loop-i : goal.invariant-loop-i

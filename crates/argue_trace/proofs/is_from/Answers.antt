@@ -1,5 +1,4 @@
 -- The four tests, one after the other.
-use borrow.Author.Rules.{rules}
 use Rattle.argue_trace.proofs.Finding.{from_other, from_none, from_later, from_is}
 use Rattle.argue_trace.proofs.is_from.Goals as goal
 

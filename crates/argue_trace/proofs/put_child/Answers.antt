@@ -6,7 +6,6 @@ use Rattle.laws.specs.Entries.{at}
 use Rattle.plan_sweeps.specs.Listed.{row}
 use Rattle.argue_trace.specs.Traced.{lead_at}
 use Rattle.argue_trace.proofs.Events.{event_none, event_led, event_passed, event_lacks, event_behind, adds_none, adds_one}
-use borrow.Author.Rules.{rules}
 use Rattle.argue_trace.proofs.put_child.Goals as goal
 
 pub returns-then-b-eq0 : goal.returns-then-b-eq0

@@ -3,7 +3,7 @@ use Prim.Native.Nat.{◌+◌, ◌-◌}
 use native.Mathlib.Omega.{arith}
 use Rattle.laws.specs.Entries.{at}
 use Rattle.plan_method.proofs.Walk.{seek_is}
-use Rattle.argue_trace.proofs.Turns.{Tracing, begin, on_put, on_skip, on_child, done}
+use Rattle.argue_trace.proofs.Turns.{begin, on_put, on_skip, on_child, done}
 use Rattle.argue_trace.proofs.trace.Goals as goal
 
 pub overflow_add-f : goal.overflow_add-f

@@ -1,10 +1,7 @@
 -- Each turn is one of the sweep, with its steps (Turns).
-use mathlib.Core.Path.{◌≡◌}
-use Prim.Native.Nat.{◌+◌, ◌-◌}
-use native.Mathlib.Omega.{arith}
+use Prim.Native.Nat.{◌-◌}
 use Rattle.laws.specs.Entries.{at}
-use Rattle.plan_method.proofs.Walk.{seek_is}
-use Rattle.argue_trace.proofs.Turns.{Tracing, begin, on_put, on_skip, on_child, done}
+use Rattle.argue_trace.proofs.Turns.{Tracing}
 use Rattle.argue_trace.proofs.trace.Given as goal
 
 abbrev pub invariant-loop-p : goal.invariant-loop-p

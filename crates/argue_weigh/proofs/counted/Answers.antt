@@ -1,5 +1,4 @@
 -- `counted` meets its contract: one law for each way through it.
-use borrow.Author.Rules.{rules}
 use Rattle.argue_weigh.proofs.StepSets.{counted_more, counted_same}
 use Rattle.argue_weigh.proofs.counted.Goals as goal
 

@@ -1,6 +1,5 @@
 -- `excludes` meets its contract: one law for each way through it.
 use mathlib.Core.Path.{sym, ◌∙◌}
-use borrow.Author.Rules.{rules}
 use Rattle.argue_weigh.proofs.Strikes.{excluded_beyond, excluded_exact, excluded_loose, excluded_other}
 use Rattle.argue_weigh.proofs.excludes.Goals as goal
 

@@ -1,7 +1,6 @@
 -- `gone_after` meets its contract: nothing leads, or the range of a loop is put.
 use Prim.Native.Nat.{◌-◌}
 use native.Mathlib.Omega.{arith}
-use borrow.Author.Rules.{rules}
 use Rattle.laws.specs.Entries.{at}
 use Rattle.argue_weigh.proofs.StepSets.{smaller_below, gone_none, gone_span}
 use Rattle.argue_weigh.proofs.gone_after.Goals as goal

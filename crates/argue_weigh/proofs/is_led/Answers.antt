@@ -2,7 +2,6 @@
 use mathlib.Core.Path.{sym, ◌∙◌}
 use Prim.Native.Nat.{◌-◌}
 use native.Mathlib.Omega.{arith}
-use borrow.Author.Rules.{rules}
 use Rattle.argue_weigh.proofs.StepSets.{led_late, led_apart, led_no_from, led_is}
 use Rattle.argue_weigh.proofs.is_led.Goals as goal
 

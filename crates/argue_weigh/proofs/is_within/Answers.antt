@@ -1,7 +1,6 @@
 -- `is_within` meets its contract: one law for each way through it.
 use mathlib.Core.Path.{sym, ◌∙◌}
 use native.Mathlib.Omega.{arith}
-use borrow.Author.Rules.{rules}
 use Rattle.argue_weigh.proofs.Steps.{within_is, within_before, within_out}
 use Rattle.argue_weigh.proofs.is_within.Goals as goal
 

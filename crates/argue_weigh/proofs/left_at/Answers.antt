@@ -1,7 +1,6 @@
 -- `left_at` meets its contract: one law for each way through it.
 use mathlib.Core.Path.{sym, ◌∙◌}
 use native.Mathlib.Omega.{arith}
-use borrow.Author.Rules.{rules}
 use Rattle.argue_weigh.proofs.Steps.{left_is, left_struck, left_out}
 use Rattle.argue_weigh.proofs.left_at.Goals as goal
 

@@ -1,6 +1,5 @@
 -- `lies_at` meets its contract: one law for each way through it.
 use mathlib.Core.Path.{sym, ◌∙◌}
-use borrow.Author.Rules.{rules}
 use Rattle.argue_weigh.proofs.Steps.{lies_left, lies_struck, lies_beyond}
 use Rattle.argue_weigh.proofs.lies_at.Goals as goal
 

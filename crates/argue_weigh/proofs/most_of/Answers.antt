@@ -1,8 +1,7 @@
-use mathlib.Core.Path.{◌≡◌, refl}
-use Prim.Native.Nat.{◌-◌, ◌≤◌}
+use mathlib.Core.Path.{refl}
+use Prim.Native.Nat.{◌-◌}
 use native.Mathlib.Omega.{arith}
 use Rattle.laws.specs.Entries.{at}
-use Rattle.argue_claims.specs.Arguments.{greatest}
 use Rattle.argue_weigh.proofs.Strikes.{most_on, greatest_to}
 use Rattle.argue_weigh.proofs.most_of.Goals as goal
 

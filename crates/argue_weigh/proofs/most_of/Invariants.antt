@@ -1,10 +1,8 @@
 -- `most_of` meets its contract: the greatest of the entries so far.
-use mathlib.Core.Path.{◌≡◌, refl}
+use mathlib.Core.Path.{◌≡◌}
 use Prim.Native.Nat.{◌-◌, ◌≤◌}
-use native.Mathlib.Omega.{arith}
 use Rattle.laws.specs.Entries.{at}
 use Rattle.argue_claims.specs.Arguments.{greatest}
-use Rattle.argue_weigh.proofs.Strikes.{most_on, greatest_to}
 use Rattle.argue_weigh.proofs.most_of.Given as goal
 
 abbrev pub invariant-loop-i : goal.invariant-loop-i

@@ -9,7 +9,7 @@ use Rattle.laws.specs.Choice.{when}
 use Rattle.laws.specs.Entries.{at}
 use Rattle.laws.proofs.Tests.{never}
 use Rattle.argue_weigh.specs.Naming.{left_at, fine_at}
-use Rattle.argue_weigh.proofs.Steps.{fine_by, Naming, name_start, name_on, name_stop, name_all, name_done}
+use Rattle.argue_weigh.proofs.Steps.{fine_by, name_start, name_on, name_stop, name_all, name_done}
 use Rattle.argue_weigh.proofs.name_gaps.Goals as goal
 
 pub loop-g-init : goal.loop-g-init

@@ -1,17 +1,7 @@
 -- `name_gaps` meets its contract: from the last gap to the first, those behind are fine and what is left of them was
 -- named (`Naming`).
-use mathlib.Core.Path.{◌≡◌, ap, ◌∙◌}
-use mathlib.Core.Bool.{Bool, true, false}
-use mathlib.Core.Logic.{inl}
-use Prim.Native.Nat.{◌<◌}
-use native.Mathlib.Omega.{arith}
-use lib.ListN.{length}
-use Rattle.paper_nests.specs.Kinds.{POINTS}
-use Rattle.laws.specs.Choice.{when}
-use Rattle.laws.specs.Entries.{at}
-use Rattle.laws.proofs.Tests.{never}
 use Rattle.argue_weigh.specs.Naming.{left_at, fine_at}
-use Rattle.argue_weigh.proofs.Steps.{fine_by, Naming, name_start, name_on, name_stop, name_all, name_done}
+use Rattle.argue_weigh.proofs.Steps.{Naming}
 use Rattle.argue_weigh.proofs.name_gaps.Given as goal
 
 abbrev pub invariant-loop-g : goal.invariant-loop-g

@@ -1,6 +1,5 @@
 -- `raised` meets its contract: one law where the test holds.
 use Rattle.argue_weigh.proofs.Strikes.{raised_by}
-use borrow.Author.Rules.{rules}
 use Rattle.argue_weigh.proofs.raised.Goals as goal
 
 pub returns-then-yes : goal.returns-then-yes

@@ -1,6 +1,5 @@
 -- `set_fits` meets its contract: one law for each way through it.
 use native.Mathlib.Omega.{arith}
-use borrow.Author.Rules.{rules}
 use Rattle.argue_weigh.proofs.StepSets.{fits_from, fits_upto, fits_no_upto, fits_dep}
 use Rattle.argue_weigh.proofs.set_fits.Goals as goal
 

@@ -1,7 +1,6 @@
 -- `set_of` meets its contract: one law for each kind of set.
 use Prim.Native.Nat.{◌-◌}
 use native.Mathlib.Omega.{arith}
-use borrow.Author.Rules.{rules}
 use Rattle.argue_weigh.proofs.StepSets.{set_from, set_upto, set_dep}
 use Rattle.argue_weigh.proofs.set_of.Goals as goal
 

@@ -3,7 +3,7 @@ use native.Mathlib.Omega.{arith}
 use lib.ListN.{length}
 use Rattle.paper_nests.specs.Kinds.{POINTS}
 use Rattle.argue_weigh.specs.Striking.{excludes_at}
-use Rattle.argue_weigh.proofs.Strikes.{Striking, strike_start, strike_on, strike_done}
+use Rattle.argue_weigh.proofs.Strikes.{strike_start, strike_on, strike_done}
 use Rattle.argue_weigh.proofs.strike.Goals as goal
 
 pub loop-g-init : goal.loop-g-init

@@ -1,10 +1,6 @@
 -- `strike` meets its contract: from the ENDDO down, the gaps behind are done (`Striking`).
-use Prim.Native.Nat.{◌<◌}
-use native.Mathlib.Omega.{arith}
-use lib.ListN.{length}
-use Rattle.paper_nests.specs.Kinds.{POINTS}
 use Rattle.argue_weigh.specs.Striking.{excludes_at}
-use Rattle.argue_weigh.proofs.Strikes.{Striking, strike_start, strike_on, strike_done}
+use Rattle.argue_weigh.proofs.Strikes.{Striking}
 use Rattle.argue_weigh.proofs.strike.Given as goal
 
 abbrev pub invariant-loop-g : goal.invariant-loop-g

@@ -1,7 +1,6 @@
 -- `take_step` meets its contract: one law for each way through it.
 use mathlib.Core.Path.{◌≡◌, refl, sym, ◌∙◌}
 use mathlib.Core.Bool.{true}
-use borrow.Author.Rules.{rules}
 use Rattle.argue_weigh.specs.Taking.{set_fits, led_at}
 use Rattle.argue_weigh.proofs.Taking.{set_room, lead_room, gone_room}
 use Rattle.argue_weigh.proofs.Taking.{says_unfit, says_unled, says_unnamed, says_taken}

@@ -1,7 +1,6 @@
 -- `with_led` meets its contract: nothing leads, or the range of a loop is put.
 use Prim.Native.Nat.{◌-◌}
 use native.Mathlib.Omega.{arith}
-use borrow.Author.Rules.{rules}
 use Rattle.argue_weigh.proofs.StepSets.{led_same, led_span}
 use Rattle.argue_weigh.proofs.with_led.Goals as goal
 

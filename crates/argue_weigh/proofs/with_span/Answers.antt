@@ -1,6 +1,5 @@
 -- `with_span` meets its contract: the range is put, or is empty.
 use native.Mathlib.Omega.{arith}
-use borrow.Author.Rules.{rules}
 use Rattle.argue_weigh.proofs.StepSets.{span_none}
 use Rattle.argue_weigh.proofs.with_span.Goals as goal
 

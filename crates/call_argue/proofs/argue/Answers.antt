@@ -4,7 +4,6 @@ use mathlib.Core.Path.{refl, sym, ◌∙◌}
 use Prim.Native.Nat.{◌≤◌}
 use native.Mathlib.Omega.{arith}
 use lib.ListN.{length}
-use borrow.Author.Rules.{rules}
 use Rattle.argue_spell.proofs.Adding.{added_all}
 use Rattle.desk.specs.Desks.{desk_in}
 use Rattle.desk.proofs.Ready.{ready, ready_has}

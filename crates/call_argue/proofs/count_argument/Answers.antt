@@ -1,6 +1,5 @@
 -- What is spelled into one byte is counted: without room the place alone moves on.
 use native.Mathlib.Omega.{arith}
-use borrow.Author.Rules.{rules}
 use Rattle.paper_nests.specs.Stored.{nest_in}
 use Rattle.call_argue.proofs.Replies.{all_spelled}
 use Rattle.call_argue.proofs.count_argument.Goals as goal

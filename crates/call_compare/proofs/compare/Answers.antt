@@ -4,7 +4,6 @@ use mathlib.Core.Bool.{false}
 use Rattle.desk.specs.Desks.{desk_in, state_fault}
 use Rattle.call_slips.proofs.Answers.{has-nest, read_rising_on}
 use Rattle.call_compare.proofs.Replies.{compare_refused, compare_first, compare_second, compare_given}
-use borrow.Author.Rules.{rules}
 use Rattle.call_compare.proofs.compare.Goals as goal
 
 pub returns-then-number-ne0 : goal.returns-then-number-ne0

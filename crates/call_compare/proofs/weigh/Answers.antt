@@ -3,7 +3,6 @@ use mathlib.Core.Path.{refl}
 use Rattle.paper_nests.specs.Stored.{nest_in}
 use Rattle.paper_nests.proofs.Stored.{counted_points}
 use Rattle.paper_nests.proofs.Deps.{valid_is}
-use borrow.Author.Rules.{rules}
 use Rattle.call_compare.proofs.weigh.Goals as goal
 
 pub slice_bounds-points-end : goal.slice_bounds-points-end

@@ -3,7 +3,6 @@ use mathlib.Core.Path.{◌≡◌, refl}
 use mathlib.Core.Bool.{true}
 use Prim.Native.Nat.{◌<◌}
 use native.Mathlib.Omega.{arith}
-use borrow.Author.Rules.{rules}
 use Rattle.paper_nests.proofs.Stored.{counted_points}
 use Rattle.paper_gaps.proofs.Lies.{found_lies}
 use Rattle.call_gaps.proofs.Answers.{gaps_no_nest, gaps_no_dependence, with_ends, gaps_given}

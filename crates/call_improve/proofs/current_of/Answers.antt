@@ -2,14 +2,13 @@ use mathlib.Core.Path.{◌≡◌, refl, ◌∙◌}
 use Prim.Native.Nat.{◌-◌, ◌≤◌, ◌<◌}
 use native.Mathlib.Omega.{arith}
 use lib.ListN.{length}
-use borrow.Author.Rules.{rules}
 use Rattle.laws.proofs.Copies.{copies, copies_at}
 use Rattle.paper_nests.specs.Kinds.{POINTS, DEPENDENCES}
 use Rattle.paper_nests.specs.Stored.{nest_in}
 use Rattle.paper_placements.specs.Words.{gaps_in}
 use Rattle.paper_gaps.proofs.Lies.{found_lies}
 use Rattle.call_improve.specs.Tops.{top_at}
-use Rattle.call_improve.proofs.Chains.{Chaining, chain_start, chain_on, chain_done, top_told, top_low}
+use Rattle.call_improve.proofs.Chains.{chain_start, chain_on, chain_done, top_told, top_low}
 use Rattle.run_count.proofs.Timing.{entry}
 use Rattle.call_improve.proofs.current_of.Goals as goal
 

@@ -1,11 +1,10 @@
 use mathlib.Core.Path.{ap}
 use Prim.Native.Nat.{◌-◌}
 use native.Mathlib.Omega.{arith}
-use borrow.Author.Rules.{rules}
 use Rattle.paper_nests.specs.Stored.{nest_in}
 use Rattle.paper_placements.specs.Answers.{is_cut}
 use Rattle.paper_gaps.proofs.Lies.{found_lies}
-use Rattle.call_improve.proofs.FloorWalk.{Flooring, floor_start, floor_shared, floor_fits, floor_taken, floor_done}
+use Rattle.call_improve.proofs.FloorWalk.{floor_start, floor_shared, floor_fits, floor_taken, floor_done}
 use Rattle.call_improve.proofs.floor_of.Goals as goal
 
 pub loop-i-init : goal.loop-i-init

@@ -1,13 +1,8 @@
 -- `floor_of` meets its contract. The invariant: the dependences before i are done (`Flooring`). The measure is how many
 -- are left.
-use mathlib.Core.Path.{ap}
 use Prim.Native.Nat.{◌-◌}
-use native.Mathlib.Omega.{arith}
-use borrow.Author.Rules.{rules}
 use Rattle.paper_nests.specs.Stored.{nest_in}
-use Rattle.paper_placements.specs.Answers.{is_cut}
-use Rattle.paper_gaps.proofs.Lies.{found_lies}
-use Rattle.call_improve.proofs.FloorWalk.{Flooring, floor_start, floor_shared, floor_fits, floor_taken, floor_done}
+use Rattle.call_improve.proofs.FloorWalk.{Flooring}
 use Rattle.call_improve.proofs.floor_of.Given as goal
 
 abbrev pub invariant-loop-i : goal.invariant-loop-i

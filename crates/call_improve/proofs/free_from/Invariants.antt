@@ -1,9 +1,7 @@
 -- `free_from` meets its contract. The invariant: every gap passed has a barrier (`AllHeld`). The measure is how many
 -- gaps are left.
-use mathlib.Core.Path.{sym, ◌∙◌}
 use Prim.Native.Nat.{◌-◌}
-use native.Mathlib.Omega.{arith}
-use Rattle.call_improve.proofs.PlaceSearch.{AllHeld, free_start, free_held, free_found, free_none}
+use Rattle.call_improve.proofs.PlaceSearch.{AllHeld}
 use Rattle.call_improve.proofs.free_from.Given as goal
 
 abbrev pub invariant-loop-g : goal.invariant-loop-g

@@ -1,7 +1,6 @@
 -- `improve` meets its contract: one law for each way through it (proofs/Answers).
 use mathlib.Core.Path.{◌≡◌, sym, ◌∙◌}
 use mathlib.Core.Bool.{true}
-use borrow.Author.Rules.{rules}
 use Rattle.run_barriers.specs.Calls.{OUTER}
 use Rattle.desk.specs.Desks.{desk_in, state_fault}
 use Rattle.call_runs.specs.Says.{can_count}

@@ -1,10 +1,7 @@
 -- `latest_of` meets its contract. The invariant: before g the table is filled (`Latest`). The measure is how many gaps
 -- are left.
-use mathlib.Core.Path.{refl, sym, ◌∙◌}
 use Prim.Native.Nat.{◌-◌}
-use native.Mathlib.Omega.{arith}
-use Rattle.laws.proofs.Copies.{copies}
-use Rattle.call_improve.proofs.PlaceSearch.{Latest, latest_start, latest_held, latest_free, latest_done}
+use Rattle.call_improve.proofs.PlaceSearch.{Latest}
 use Rattle.call_improve.proofs.latest_of.Given as goal
 
 abbrev pub invariant-loop-g : goal.invariant-loop-g

@@ -1,6 +1,5 @@
-use Prim.Native.Nat.{◌-◌, ◌≤◌}
+use Prim.Native.Nat.{◌-◌}
 use native.Mathlib.Omega.{arith}
-use Rattle.call_improve.specs.Cheapest.{LeastIn}
 use Rattle.call_improve.proofs.GapRanges.{least_start, least_less, least_same}
 use mathlib.Core.Path.{◌≡◌}
 use Rattle.call_improve.proofs.least_in.Goals as goal

@@ -1,10 +1,7 @@
 -- `least_in` meets its contract. The invariant: `least` is the least entry up to g (`LeastIn`). The measure is how many
 -- gaps are left.
 use Prim.Native.Nat.{◌-◌, ◌≤◌}
-use native.Mathlib.Omega.{arith}
 use Rattle.call_improve.specs.Cheapest.{LeastIn}
-use Rattle.call_improve.proofs.GapRanges.{least_start, least_less, least_same}
-use mathlib.Core.Path.{◌≡◌}
 use Rattle.call_improve.proofs.least_in.Given as goal
 
 abbrev pub invariant-loop-g : goal.invariant-loop-g

@@ -1,7 +1,6 @@
 -- `refused` meets its contract: the empty placement has no gap (`gaps_none`).
 use mathlib.Core.Path.{◌≡◌}
 use mathlib.Core.List.{[]}
-use borrow.Author.Rules.{rules}
 use Rattle.paper_placements.specs.Words.{gaps_in}
 use Rattle.paper_placements.proofs.Words.{gaps_none}
 use Rattle.call_improve.proofs.refused.Goals as goal

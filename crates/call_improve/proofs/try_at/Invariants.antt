@@ -1,15 +1,9 @@
 -- `try_at` meets its contract. The invariant: the chains below h are done, and h's before dependence i (`Trying`). The
 -- measure is how many gaps are left, then how many places in the chain.
-use mathlib.Core.Path.{refl, ap}
 use Prim.Native.Nat.{◌+◌, ◌-◌, ◌*◌}
-use native.Mathlib.Omega.{arith}
-use borrow.Author.Rules.{rules}
 use Rattle.paper_nests.specs.Stored.{nest_in}
 use Rattle.paper_placements.specs.Words.{gaps_in}
-use Rattle.paper_placements.specs.Answers.{is_cut}
 use Rattle.call_improve.proofs.Trying.{Trying}
-use Rattle.call_improve.proofs.TryTurns.{gap_below, turn_start, turn_below, turn_up, turn_cut, turn_sum, turn_kept}
-use Rattle.call_improve.proofs.TryTurns.{turn_next, turn_done}
 use Rattle.call_improve.proofs.try_at.Given as goal
 
 abbrev pub invariant-loop-i : goal.invariant-loop-i

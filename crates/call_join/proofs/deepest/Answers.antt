@@ -4,7 +4,7 @@ use native.Mathlib.Omega.{arith}
 use lib.ListN.{length, take}
 use lib.Seq.{length-take-le, get_or-take}
 use Rattle.paper_nests.specs.Loops.{deeper}
-use Rattle.call_join.proofs.Measuring.{Deepest, deepest_begin, deepest_on, deepest_done}
+use Rattle.call_join.proofs.Measuring.{deepest_begin, deepest_on, deepest_done}
 use Rattle.call_join.proofs.deepest.Goals as goal
 
 pub loop-i-init : goal.loop-i-init

@@ -1,12 +1,8 @@
 -- `deepest` meets its contract: the most so far and what the points from i on reach are the most of all (`Deepest`).
 -- The measure is how many points are left.
-use mathlib.Core.Path.{◌≡◌, sym, ap, ◌∙◌}
 use Prim.Native.Nat.{◌-◌}
-use native.Mathlib.Omega.{arith}
-use lib.ListN.{length, take}
-use lib.Seq.{length-take-le, get_or-take}
-use Rattle.paper_nests.specs.Loops.{deeper}
-use Rattle.call_join.proofs.Measuring.{Deepest, deepest_begin, deepest_on, deepest_done}
+use lib.ListN.{take}
+use Rattle.call_join.proofs.Measuring.{Deepest}
 use Rattle.call_join.proofs.deepest.Given as goal
 
 abbrev pub invariant-loop-i : goal.invariant-loop-i

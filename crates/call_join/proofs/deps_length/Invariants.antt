@@ -1,10 +1,8 @@
 -- `deps_length` meets its contract: the sum so far and the text of the dependences from i on give the whole (`Summed`).
 -- The measure is how many are left.
-use Prim.Native.Nat.{◌+◌, ◌-◌}
-use native.Mathlib.Omega.{arith}
+use Prim.Native.Nat.{◌-◌}
 use Rattle.paper_nests.specs.Stored.{nest_in}
-use Rattle.paper_nests.proofs.Stored.{deps_in_at, counted_many}
-use Rattle.call_join.proofs.Measuring.{Summed, summed_begin, summed_within, summed_on, summed_done}
+use Rattle.call_join.proofs.Measuring.{Summed}
 use Rattle.call_join.proofs.deps_length.Given as goal
 
 abbrev pub invariant-loop-i : goal.invariant-loop-i

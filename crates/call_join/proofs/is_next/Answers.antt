@@ -1,6 +1,5 @@
 -- `is_next` meets its contract: by the flag at f, if there is one.
 use native.Mathlib.Omega.{arith}
-use borrow.Author.Rules.{rules}
 use Rattle.call_join.proofs.PiecesWritten.{next_within, next_beyond}
 use Rattle.call_join.proofs.is_next.Goals as goal
 

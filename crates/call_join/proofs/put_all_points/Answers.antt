@@ -1,5 +1,4 @@
 -- `put_all_points` meets its contract: the new loop's DO, then what follows it as the last part.
-use mathlib.Core.Path.{refl}
 use mathlib.Core.List.{[], ◌∷◌}
 use native.Mathlib.Omega.{arith}
 use borrow.Author.Rules.{rules}

@@ -1,10 +1,9 @@
 -- `put_dep` meets its contract: the frame is that of the dependence, by its kind.
-use mathlib.Core.Path.{refl, ap, ◌∙◌}
+use mathlib.Core.Path.{ap, ◌∙◌}
 use mathlib.Core.List.{List}
 use Prim.Native.Nat.{ℕ}
 use native.Mathlib.Omega.{arith}
 use lib.ListN.{length}
-use borrow.Author.Rules.{rules}
 use Rattle.paper_nests.specs.Stored.{dep_in}
 use Rattle.paper_lines.specs.Lines.{line_text}
 use Rattle.paper_lines.specs.Writing.{over}

@@ -13,7 +13,7 @@ use Rattle.paper_lines.specs.Writing.{over}
 use Rattle.paper_texts.specs.Pieces.{Depend, dep_frame}
 use Rattle.paper_texts.specs.NestTexts.{dep_pieces}
 use Rattle.call_join.specs.JointNests.{moved_dep, moved_deps}
-use Rattle.call_join.proofs.PiecesWritten.{Piecing, piece_begin, piece_length, piece_within, piece_room, piece_on}
+use Rattle.call_join.proofs.PiecesWritten.{piece_begin, piece_length, piece_within, piece_room, piece_on}
 use Rattle.call_join.proofs.PiecesWritten.{piece_done, dep_next, deps-out, among_next}
 use Rattle.call_join.proofs.put_deps.Goals as goal
 

@@ -1,22 +1,11 @@
 -- `put_deps` meets its contract: the lines of the dependences before i are written, moved along, and those from i on
 -- are left (`Piecing`). The measure is how many are left.
-use mathlib.Core.Path.{◌≡◌, ap, ◌∙◌}
-use mathlib.Core.List.{List, ◌∷◌}
-use Prim.Native.Nat.{ℕ, suc, ◌+◌, ◌-◌, ◌≤◌}
-use native.Mathlib.Omega.{arith}
-use lib.ListN.{length, get_or, drop, length-take, length-drop}
-use borrow.Author.Rules.{rules}
-use borrow.Rule.Slice.PartMut.{mid_of}
-use Rattle.paper_nests.specs.Nests.{Dep}
-use Rattle.paper_nests.specs.Stored.{dep_in, nest_in}
-use Rattle.paper_nests.proofs.Stored.{deps_in_at, counted_many}
-use Rattle.paper_lines.specs.Lines.{line_text}
-use Rattle.paper_lines.specs.Writing.{over}
-use Rattle.paper_texts.specs.Pieces.{Depend, dep_frame}
+use Prim.Native.Nat.{◌-◌}
+use lib.ListN.{drop}
+use Rattle.paper_nests.specs.Stored.{nest_in}
 use Rattle.paper_texts.specs.NestTexts.{dep_pieces}
-use Rattle.call_join.specs.JointNests.{moved_dep, moved_deps}
-use Rattle.call_join.proofs.PiecesWritten.{Piecing, piece_begin, piece_length, piece_within, piece_room, piece_on}
-use Rattle.call_join.proofs.PiecesWritten.{piece_done, dep_next, deps-out, among_next}
+use Rattle.call_join.specs.JointNests.{moved_deps}
+use Rattle.call_join.proofs.PiecesWritten.{Piecing}
 use Rattle.call_join.proofs.put_deps.Given as goal
 
 abbrev pub invariant-loop-i : goal.invariant-loop-i

@@ -1,4 +1,4 @@
-use mathlib.Core.Path.{◌≡◌, refl, sym, ap, ◌∙◌}
+use mathlib.Core.Path.{◌≡◌, sym, ap, ◌∙◌}
 use mathlib.Core.Bool.{true}
 use mathlib.Core.List.{List, ◌∷◌}
 use Prim.Native.Nat.{ℕ, ◌+◌, ◌-◌, ◌≤◌, ◌<◌}
@@ -12,7 +12,7 @@ use Rattle.paper_nests.proofs.Stored.{counted_flags}
 use Rattle.paper_texts.specs.Pieces.{Piece, Point, Flagged}
 use Rattle.paper_texts.specs.NestTexts.{point_pieces}
 use Rattle.call_join.specs.Written.{is_next}
-use Rattle.call_join.proofs.PiecesWritten.{Piecing, piece_begin, piece_length, piece_within, piece_room, piece_on}
+use Rattle.call_join.proofs.PiecesWritten.{piece_begin, piece_length, piece_within, piece_room, piece_on}
 use Rattle.call_join.proofs.PiecesWritten.{piece_done, next_there, flagged_next, plain_next, points_out}
 use Rattle.call_join.proofs.put_points.Goals as goal
 

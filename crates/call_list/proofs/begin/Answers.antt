@@ -1,7 +1,6 @@
 -- `begin` meets its contract: the number from the state, and nothing found yet.
 use Rattle.desk.specs.Desks.{desk_in}
 use Rattle.call_list.proofs.Records.{begun_by}
-use borrow.Author.Rules.{rules}
 use Rattle.call_list.proofs.begin.Goals as goal
 
 pub returns : goal.returns

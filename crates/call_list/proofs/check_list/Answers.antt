@@ -1,10 +1,9 @@
 -- What is begun holds before the first record (`taken_none`), a turn takes one more (`taken_one`), and at the end all
 -- are taken (`taken_all`).
-use native.Mathlib.Omega.{arith}
 use Rattle.paper_nests.specs.declared.Dependence.{Dependence}
 use Rattle.desk.specs.Desks.{desk_in}
 use Rattle.call_list.specs.Lists.{all_deps}
-use Rattle.call_list.proofs.Turns.{Taken, taken_none, taken_one, taken_all}
+use Rattle.call_list.proofs.Turns.{taken_none, taken_one, taken_all}
 use Rattle.call_list.proofs.check_list.Goals as goal
 
 pub loop-i-init : goal.loop-i-init

@@ -1,8 +1,6 @@
 -- The answer so far is that of the records before i (`Taken`), and the table has the loops' ends.
 use Prim.Native.Nat.{◌-◌}
 use lib.ListN.{length}
-use Rattle.paper_nests.specs.Loops.{HasEnds}
-use Rattle.paper_nests.specs.Stored.{nest_in}
 use Rattle.desk.specs.Desks.{desk_in}
 use Rattle.call_list.specs.Lists.{all_deps}
 use Rattle.call_list.proofs.Turns.{Taken}

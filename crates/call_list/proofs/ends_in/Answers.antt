@@ -2,12 +2,11 @@ use mathlib.Core.Path.{◌≡◌, refl}
 use mathlib.Core.Bool.{true}
 use Prim.Native.Nat.{◌-◌, ◌<◌}
 use native.Mathlib.Omega.{arith}
-use lib.ListN.{length, get_or}
-use borrow.Author.Rules.{rules}
+use lib.ListN.{get_or}
 use borrow.Author.Tests.{eq-eqb}
 use Rattle.paper_nests.specs.Kinds.{DO}
 use Rattle.paper_nests.specs.Loops.{is_do, end_of}
-use Rattle.call_list.proofs.ShortEnds.{Shortened, short_start, short_put, short_by, short_done}
+use Rattle.call_list.proofs.ShortEnds.{short_start, short_put, short_by, short_done}
 use Rattle.call_list.proofs.ends_in.Goals as goal
 
 pub loop-next-init : goal.loop-next-init

@@ -1,14 +1,7 @@
 -- `ends_in` meets its contract: each turn notes the end of one more loop (`Shortened`).
-use mathlib.Core.Path.{◌≡◌, refl}
-use mathlib.Core.Bool.{true}
-use Prim.Native.Nat.{◌-◌, ◌<◌}
-use native.Mathlib.Omega.{arith}
-use lib.ListN.{length, get_or}
-use borrow.Author.Rules.{rules}
-use borrow.Author.Tests.{eq-eqb}
-use Rattle.paper_nests.specs.Kinds.{DO}
-use Rattle.paper_nests.specs.Loops.{is_do, end_of}
-use Rattle.call_list.proofs.ShortEnds.{Shortened, short_start, short_put, short_by, short_done}
+use Prim.Native.Nat.{◌-◌}
+use lib.ListN.{length}
+use Rattle.call_list.proofs.ShortEnds.{Shortened}
 use Rattle.call_list.proofs.ends_in.Given as goal
 
 abbrev pub invariant-loop-next : goal.invariant-loop-next

@@ -7,7 +7,6 @@ use Rattle.paper_placements.specs.Words.{gaps_in}
 use Rattle.desk.specs.Desks.{desk_in, record_fault}
 use Rattle.call_list.proofs.Records.{refusal_kept, record_refused, place_kept, record_cut, record_uncut}
 use Rattle.call_list.proofs.Records.{carried_by_loop}
-use borrow.Author.Rules.{rules}
 use Rattle.call_list.proofs.step.Goals as goal
 
 pub returns-then-found-ne0 : goal.returns-then-found-ne0

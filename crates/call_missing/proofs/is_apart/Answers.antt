@@ -1,7 +1,6 @@
 -- `is_apart` meets its contract: neither of the two belongs.
 use mathlib.Core.Path.{◌≡◌, sym, ◌∙◌}
 use mathlib.Core.Bool.{true, false}
-use borrow.Author.Rules.{rules}
 use Rattle.laws.specs.Choice.{between}
 use Rattle.call_missing.proofs.is_apart.Goals as goal
 

@@ -1,8 +1,7 @@
 use Prim.Native.Nat.{◌-◌, ◌<◌}
 use native.Mathlib.Omega.{arith}
-use borrow.Author.Rules.{rules}
 use Rattle.paper_placements.specs.Words.{GAPS}
-use Rattle.call_missing.proofs.Covering.{Covered, cover_start, cover_on, cover_bare, cover_done, step_on}
+use Rattle.call_missing.proofs.Covering.{cover_start, cover_on, cover_bare, cover_done, step_on}
 use Rattle.call_missing.proofs.is_covered.Goals as goal
 
 pub loop-g-init : goal.loop-g-init

@@ -1,10 +1,8 @@
 -- `is_covered` meets its contract: up to p every barrier is covered, and no loop apart from s and t reaches p
 -- (`Covered`). The measure is how far p lies below 256.
-use Prim.Native.Nat.{◌-◌, ◌<◌}
-use native.Mathlib.Omega.{arith}
-use borrow.Author.Rules.{rules}
+use Prim.Native.Nat.{◌-◌}
 use Rattle.paper_placements.specs.Words.{GAPS}
-use Rattle.call_missing.proofs.Covering.{Covered, cover_start, cover_on, cover_bare, cover_done, step_on}
+use Rattle.call_missing.proofs.Covering.{Covered}
 use Rattle.call_missing.proofs.is_covered.Given as goal
 
 abbrev pub invariant-loop-g : goal.invariant-loop-g

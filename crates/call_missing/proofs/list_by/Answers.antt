@@ -1,7 +1,6 @@
 -- `list_by` meets its contract: by the stretches of the dependence, one where it is independent (`line_listed`), two
 -- where it is carried (`back_listed`); a bare barrier in one of them, and nothing is listed.
 use Prim.Native.Nat.{◌+◌}
-use borrow.Author.Rules.{rules}
 use Rattle.laws.specs.Entries.{at}
 use Rattle.paper_nests.specs.Stored.{dep_in}
 use Rattle.paper_nests.proofs.Deps.{is-line, is-back}

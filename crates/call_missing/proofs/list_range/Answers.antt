@@ -2,13 +2,11 @@ use mathlib.Core.Path.{◌≡◌, sym, ◌∙◌}
 use mathlib.Core.Bool.{Bool, true, false}
 use Prim.Native.Nat.{ℕ, ◌+◌, ◌-◌}
 use native.Mathlib.Omega.{arith}
-use borrow.Author.Rules.{rules}
 use Rattle.laws.specs.Choice.{between}
 use Rattle.laws.specs.Entries.{at}
 use Rattle.laws.proofs.Ranges.{in_between}
-use Rattle.paper_placements.specs.Words.{GAPS}
 use Rattle.call_missing.specs.Covering.{is_apart}
-use Rattle.call_missing.proofs.Passing.{Next, Passing, next_in, next_less, pass_start, pass_put, pass_by, pass_done}
+use Rattle.call_missing.proofs.Passing.{Next, next_in, next_less, pass_start, pass_put, pass_by, pass_done}
 use Rattle.call_missing.proofs.Passing.{below_range}
 use Rattle.call_missing.proofs.list_range.Goals as goal
 

@@ -1,17 +1,11 @@
 -- `list_range` meets its contract: the loops of the range are passed one after the other, and those apart from s and t
 -- are put (`Passing`). The measure is how far the next one lies below 256.
-use mathlib.Core.Path.{◌≡◌, sym, ◌∙◌}
-use mathlib.Core.Bool.{Bool, true, false}
-use Prim.Native.Nat.{ℕ, ◌+◌, ◌-◌}
-use native.Mathlib.Omega.{arith}
-use borrow.Author.Rules.{rules}
+use Prim.Native.Nat.{ℕ, ◌-◌}
 use Rattle.laws.specs.Choice.{between}
 use Rattle.laws.specs.Entries.{at}
-use Rattle.laws.proofs.Ranges.{in_between}
 use Rattle.paper_placements.specs.Words.{GAPS}
 use Rattle.call_missing.specs.Covering.{is_apart}
-use Rattle.call_missing.proofs.Passing.{Next, Passing, next_in, next_less, pass_start, pass_put, pass_by, pass_done}
-use Rattle.call_missing.proofs.Passing.{below_range}
+use Rattle.call_missing.proofs.Passing.{Passing}
 use Rattle.call_missing.proofs.list_range.Given as goal
 
 abbrev pub invariant-loop-d : goal.invariant-loop-d

@@ -6,7 +6,7 @@ use Rattle.paper_nests.specs.declared.Dependence as DE
 use Rattle.paper_nests.specs.Stored.{nest_in}
 use Rattle.paper_nests.proofs.Deps.{valid_is}
 use Rattle.paper_nests.proofs.Stored.{deps_in_at, counted_many, counted_points}
-use Rattle.call_missing.proofs.Gathering.{Gathered, are_loops, barriered, gather_start, gather_on, gather_done}
+use Rattle.call_missing.proofs.Gathering.{are_loops, barriered, gather_start, gather_on, gather_done}
 use Rattle.call_missing.proofs.listed_loops.Goals as goal
 
 -- what a list of dependences has past its end

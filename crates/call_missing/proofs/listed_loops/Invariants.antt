@@ -1,14 +1,8 @@
 -- `listed_loops` meets its contract: the dependences are gone through from the last to the first, and the loops that
 -- each has listed are added (`Gathered`). The measure is i.
-use Prim.Native.Nat.{◌-◌, ◌<◌}
-use native.Mathlib.Omega.{arith}
-use lib.ListN.{get_or}
-use borrow.Author.Rules.{rules}
-use Rattle.paper_nests.specs.declared.Dependence as DE
+use Prim.Native.Nat.{◌-◌}
 use Rattle.paper_nests.specs.Stored.{nest_in}
-use Rattle.paper_nests.proofs.Deps.{valid_is}
-use Rattle.paper_nests.proofs.Stored.{deps_in_at, counted_many, counted_points}
-use Rattle.call_missing.proofs.Gathering.{Gathered, are_loops, barriered, gather_start, gather_on, gather_done}
+use Rattle.call_missing.proofs.Gathering.{Gathered}
 use Rattle.call_missing.proofs.listed_loops.Given as goal
 
 abbrev pub invariant-loop-i : goal.invariant-loop-i

@@ -2,7 +2,6 @@
 -- those of the nest (`flag_bits`).
 use mathlib.Core.Path.{◌≡◌, refl, sym, ◌∙◌}
 use mathlib.Core.Bool.{true}
-use borrow.Author.Rules.{rules}
 use Rattle.paper_nests.specs.Stored.{nest_in}
 use Rattle.paper_nests.proofs.Stored.{counted_flags}
 use Rattle.desk.specs.Desks.{desk_in, state_fault}

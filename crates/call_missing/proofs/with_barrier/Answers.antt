@@ -1,12 +1,10 @@
 use mathlib.Core.Path.{◌∙◌}
 use Prim.Native.Nat.{ℕ, ◌+◌, ◌-◌}
 use native.Mathlib.Omega.{arith}
-use borrow.Author.Rules.{rules}
 use Rattle.laws.specs.Choice.{between}
 use Rattle.laws.specs.Entries.{at}
-use Rattle.paper_placements.specs.Words.{GAPS, LowestIn}
-use Rattle.call_missing.specs.Covering.{has_barrier}
-use Rattle.call_missing.proofs.Passing.{anywhere, Passing, next_from, next_less, pass_start, pass_put, pass_by}
+use Rattle.paper_placements.specs.Words.{LowestIn}
+use Rattle.call_missing.proofs.Passing.{next_from, next_less, pass_start, pass_put, pass_by}
 use Rattle.call_missing.proofs.Passing.{pass_done, barrier_inside, no_barrier}
 use Rattle.call_missing.proofs.with_barrier.Goals as goal
 

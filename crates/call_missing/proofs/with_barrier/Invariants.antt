@@ -1,15 +1,9 @@
 -- `with_barrier` meets its contract: the flagged loops are passed one after the other, and those with a barrier inside
 -- are put (`Passing`). The measure is how far the next one lies below 256.
-use mathlib.Core.Path.{◌∙◌}
-use Prim.Native.Nat.{ℕ, ◌+◌, ◌-◌}
-use native.Mathlib.Omega.{arith}
-use borrow.Author.Rules.{rules}
-use Rattle.laws.specs.Choice.{between}
-use Rattle.laws.specs.Entries.{at}
-use Rattle.paper_placements.specs.Words.{GAPS, LowestIn}
+use Prim.Native.Nat.{◌-◌}
+use Rattle.paper_placements.specs.Words.{GAPS}
 use Rattle.call_missing.specs.Covering.{has_barrier}
-use Rattle.call_missing.proofs.Passing.{anywhere, Passing, next_from, next_less, pass_start, pass_put, pass_by}
-use Rattle.call_missing.proofs.Passing.{pass_done, barrier_inside, no_barrier}
+use Rattle.call_missing.proofs.Passing.{anywhere, Passing}
 use Rattle.call_missing.proofs.with_barrier.Given as goal
 
 abbrev pub invariant-loop-d : goal.invariant-loop-d

@@ -1,6 +1,5 @@
 -- `gap_fault` meets its contract: one law for each way through it.
 use native.Mathlib.Omega.{arith}
-use borrow.Author.Rules.{rules}
 use Rattle.call_moves.proofs.Moving.{in_range, gap_high, gap_zero}
 use Rattle.call_moves.proofs.gap_fault.Goals as goal
 

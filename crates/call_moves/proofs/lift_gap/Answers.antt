@@ -1,7 +1,6 @@
 -- `lift_gap` meets its contract: one law for each way through it (proofs/Moving).
 use mathlib.Core.Path.{sym, ◌∙◌}
 use native.Mathlib.Omega.{arith}
-use borrow.Author.Rules.{rules}
 use Rattle.call_moves.proofs.Moving.{ready, below, lift_refused, lift_missing, lift_made}
 use Rattle.call_moves.proofs.lift_gap.Goals as goal
 

@@ -3,7 +3,6 @@ use mathlib.Core.Path.{◌≡◌, sym, ◌∙◌}
 use mathlib.Core.Bool.{false, ◌&&◌, not}
 use lib.Dec.{ltb}
 use native.Mathlib.Omega.{arith}
-use borrow.Author.Rules.{rules}
 use Rattle.laws.specs.Choice.{when, first_of}
 use Rattle.paper_placements.specs.Words.{holds}
 use Rattle.call_moves.proofs.Moving.{ready, below, put_refused, put_there, put_barred, put_made}

@@ -1,5 +1,4 @@
 -- `take_back` meets its contract: one law for each way through it (proofs/Backs).
-use borrow.Author.Rules.{rules}
 use Rattle.call_moves.proofs.Backs.{latest_ready, latest_holds, back_refused, back_none, back_made}
 use Rattle.call_moves.proofs.take_back.Goals as goal
 

@@ -1,7 +1,6 @@
 -- `undone` meets its contract: the gap is there if it was put, and lifting or putting it is the move undone.
 use mathlib.Core.Path.{◌∙◌}
 use mathlib.Core.Bool.{true, false}
-use borrow.Author.Rules.{rules}
 use Rattle.call_moves.proofs.Backs.{undone_by}
 use Rattle.call_moves.proofs.undone.Goals as goal
 

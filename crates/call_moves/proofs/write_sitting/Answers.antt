@@ -1,7 +1,6 @@
 -- `write_sitting` meets its contract: the state's number is that of a call that wants no key.
 use mathlib.Core.Path.{subst}
 use Prim.Native.Nat.{ℕ}
-use borrow.Author.Rules.{rules}
 use Rattle.desk_sitting.specs.Kept.{barriers}
 use Rattle.desk.specs.Says.{WrittenAs}
 use Rattle.call_moves.proofs.write_sitting.Goals as goal

@@ -1,7 +1,6 @@
 -- `calls_under` meets its contract: where the turns fit, they are within the bounds of the count (`fit_lower`).
 use mathlib.Core.Path.{◌≡◌, sym, ◌∙◌}
 use mathlib.Core.Bool.{true}
-use borrow.Author.Rules.{rules}
 use Rattle.paper_nests.specs.Stored.{nest_in}
 use Rattle.paper_nests.proofs.Stored.{counted_points}
 use Rattle.paper_nests.proofs.Deps.{valid_is}

@@ -1,6 +1,5 @@
 -- `can_count` meets its contract: where nothing is barred and every loop runs the turns decide (proofs/Countable).
 use mathlib.Core.Path.{sym, ◌∙◌}
-use borrow.Author.Rules.{rules}
 use Rattle.paper_nests.specs.Stored.{nest_in}
 use Rattle.paper_nests.proofs.Stored.{counted_points}
 use Rattle.call_runs.proofs.Countable.{barred_not, flagged_not, counted_by_turns}

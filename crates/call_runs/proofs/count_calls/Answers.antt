@@ -2,7 +2,6 @@
 -- the count (`ready`).
 use mathlib.Core.Path.{◌≡◌, sym, ◌∙◌}
 use mathlib.Core.Bool.{true}
-use borrow.Author.Rules.{rules}
 use Rattle.desk.specs.Desks.{desk_in, state_fault}
 use Rattle.desk.proofs.Ready.{ready}
 use Rattle.call_runs.proofs.Answers.{calls_refused, calls_counted}

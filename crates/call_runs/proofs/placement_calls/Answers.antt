@@ -2,7 +2,6 @@
 -- desk's nest says (`read_as`), and what was read rises within the nest's gaps (`read_rising`).
 use mathlib.Core.Path.{◌≡◌, sym, ◌∙◌}
 use mathlib.Core.Bool.{true, false, not}
-use borrow.Author.Rules.{rules}
 use lib.ListN.{length}
 use Rattle.laws.specs.Choice.{when}
 use Rattle.laws.proofs.Choices.{first_zero, unless_zero}

@@ -1,6 +1,5 @@
 -- `inside` meets its contract: each way out is one case of the definition.
 use native.Mathlib.Omega.{arith}
-use borrow.Author.Rules.{rules}
 use borrow.Author.Tests.{eq-eqb, ne_eqb}
 use Rattle.call_shape.proofs.inside.Goals as goal
 

@@ -1,5 +1,4 @@
 -- `nest_shape` meets its contract: the two ways of the test (proofs/Answers).
-use borrow.Author.Rules.{rules}
 use Rattle.paper_nests.specs.Stored.{nest_in}
 use Rattle.paper_nests.proofs.Deps.{valid_is}
 use Rattle.paper_nests.proofs.Stored.{counted_points}

@@ -1,12 +1,11 @@
 use mathlib.Core.Path.{◌≡◌, refl, ◌∙◌}
 use Prim.Native.Nat.{◌-◌}
 use native.Mathlib.Omega.{arith}
-use lib.ListN.{length, get_or}
-use borrow.Author.Rules.{rules}
+use lib.ListN.{get_or}
 use Rattle.paper_nests.specs.Loops.{owner_of}
 use Rattle.paper_nests.proofs.Loops.{owner_at_most}
 use Rattle.laws.proofs.Copies.{copies, copies_at}
-use Rattle.call_shape.proofs.Passing.{Passed, pass_start, pass_on, end_here, end_few, depth_few, inside_few}
+use Rattle.call_shape.proofs.Passing.{pass_start, pass_on, end_here, end_few, depth_few, inside_few}
 use Rattle.call_shape.proofs.Passing.{done_owners, done_ends, done_depths}
 use Rattle.call_shape.proofs.shape_of.Goals as goal
 

@@ -1,9 +1,7 @@
 use mathlib.Core.Path.{sym, ◌∙◌}
 use Prim.Native.Nat.{◌-◌}
 use native.Mathlib.Omega.{arith}
-use lib.ListN.{length}
-use borrow.Author.Rules.{rules}
-use Rattle.call_sheet.proofs.Checking.{Checked, checked_start, checked_bad, checked_on, checked_done}
+use Rattle.call_sheet.proofs.Checking.{checked_start, checked_bad, checked_on, checked_done}
 use Rattle.call_sheet.proofs.are_sets.Goals as goal
 
 pub loop-i-init : goal.loop-i-init

@@ -1,10 +1,7 @@
 -- `are_sets` meets its contract. The invariant: what is left to check from place i on is what is to check of the whole.
-use mathlib.Core.Path.{sym, ◌∙◌}
 use Prim.Native.Nat.{◌-◌}
-use native.Mathlib.Omega.{arith}
 use lib.ListN.{length}
-use borrow.Author.Rules.{rules}
-use Rattle.call_sheet.proofs.Checking.{Checked, checked_start, checked_bad, checked_on, checked_done}
+use Rattle.call_sheet.proofs.Checking.{Checked}
 use Rattle.call_sheet.proofs.are_sets.Given as goal
 
 abbrev pub invariant-loop-i : goal.invariant-loop-i

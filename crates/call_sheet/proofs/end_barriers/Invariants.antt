@@ -1,8 +1,6 @@
 -- `end_barriers` meets its contract. The invariant: the sum of the longest durations of the phases below k.
-use mathlib.Core.Path.{◌≡◌, ◌∙◌}
 use Prim.Native.Nat.{◌-◌}
-use native.Mathlib.Omega.{arith}
-use Rattle.call_sheet.proofs.Ending.{Summed, row_in, summed_start, summed_on}
+use Rattle.call_sheet.proofs.Ending.{Summed}
 use Rattle.call_sheet.proofs.end_barriers.Given as goal
 
 abbrev pub invariant-loop-k : goal.invariant-loop-k

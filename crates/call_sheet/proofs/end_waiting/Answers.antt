@@ -3,7 +3,7 @@ use Prim.Native.Nat.{◌-◌}
 use native.Mathlib.Omega.{arith}
 use Rattle.call_sheet.specs.Sheets.{Sheet, sheet}
 use Rattle.call_sheet.proofs.Sets.{Sized, sized_is}
-use Rattle.call_sheet.proofs.Ending.{Waited, row_in, waited_start, waited_room, waited_on, waited_done}
+use Rattle.call_sheet.proofs.Ending.{row_in, waited_start, waited_room, waited_on, waited_done}
 use Rattle.call_sheet.proofs.end_waiting.Goals as goal
 
 pub start-requires : goal.start-requires

@@ -1,10 +1,7 @@
 -- `end_waiting` meets its contract. The invariant: the times of phase k are known, and there is room for the next.
-use mathlib.Core.Path.{refl, sym}
 use Prim.Native.Nat.{◌-◌}
-use native.Mathlib.Omega.{arith}
-use Rattle.call_sheet.specs.Sheets.{Sheet, sheet}
-use Rattle.call_sheet.proofs.Sets.{Sized, sized_is}
-use Rattle.call_sheet.proofs.Ending.{Waited, row_in, waited_start, waited_room, waited_on, waited_done}
+use Rattle.call_sheet.specs.Sheets.{sheet}
+use Rattle.call_sheet.proofs.Ending.{Waited}
 use Rattle.call_sheet.proofs.end_waiting.Given as goal
 
 abbrev pub invariant-loop-k : goal.invariant-loop-k

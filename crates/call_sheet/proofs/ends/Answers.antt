@@ -1,7 +1,6 @@
 -- `ends` meets its contract: each arm's reply is the definition's.
 use mathlib.Core.Path.{◌≡◌, sym, ◌∙◌}
 use mathlib.Core.Bool.{true}
-use borrow.Author.Rules.{rules}
 use Rattle.call_sheet.specs.Sheets.{Sheet, sheet, is_sized}
 use Rattle.call_sheet.proofs.Sets.{Sized, sized_is}
 use Rattle.call_sheet.proofs.Replies.{reply_19, reply_20, reply_ends}

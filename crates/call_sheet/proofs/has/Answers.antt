@@ -1,7 +1,6 @@
 -- `has` meets its contract: the lowest digit of the set shifted down is the processor's bit.
 use Prim.Native.Nat.{◌/◌, ◌^◌}
 use lib.Bits.{and_mask}
-use borrow.Author.Rules.{rules}
 use Rattle.laws.specs.Bits.{bit}
 use Rattle.call_sheet.proofs.has.Goals as goal
 

@@ -1,6 +1,5 @@
 -- `is_set` meets its contract: a set shifted down past all processors is empty exactly if it is below the next power.
 use mathlib.Core.Path.{sym, ◌∙◌}
-use borrow.Author.Rules.{rules}
 use Rattle.call_sheet.proofs.Checking.{set_with, set_without}
 use Rattle.call_sheet.proofs.is_set.Goals as goal
 

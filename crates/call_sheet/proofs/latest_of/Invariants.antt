@@ -1,12 +1,9 @@
 -- `latest_of` meets its contract. The invariant: the best so far is the latest of the processors below q.
-use mathlib.Core.Path.{◌≡◌, refl, ◌∙◌}
+use mathlib.Core.Path.{◌≡◌}
 use Prim.Native.Nat.{◌-◌, ◌≤◌}
-use native.Mathlib.Omega.{arith}
-use borrow.Author.Rules.{rules}
 use Rattle.laws.specs.Bits.{bit}
 use Rattle.call_sheet.specs.Sheets.{latest}
 use Rattle.call_sheet.specs.Says.{time_at}
-use Rattle.call_sheet.proofs.Passing.{latest_more}
 use Rattle.call_sheet.proofs.latest_of.Given as goal
 
 abbrev pub invariant-loop-q : goal.invariant-loop-q

@@ -1,11 +1,9 @@
 use mathlib.Core.Path.{◌≡◌, refl, ◌∙◌}
 use mathlib.Core.Bool.{true}
-use Prim.Native.Nat.{◌+◌, ◌-◌, ◌≤◌}
+use Prim.Native.Nat.{◌+◌, ◌-◌}
 use native.Mathlib.Omega.{arith}
 use lib.ListN.{get_or}
-use borrow.Author.Rules.{rules}
 use Rattle.call_sheet.specs.Sheets.{anyone, latest}
-use Rattle.call_sheet.specs.Says.{LONGEST, longest_from}
 use Rattle.call_sheet.proofs.Passing.{latest_more}
 use Rattle.call_sheet.proofs.longest.Goals as goal
 

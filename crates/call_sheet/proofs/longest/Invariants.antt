@@ -1,13 +1,7 @@
 -- `longest` meets its contract. The invariant: the best so far is the longest of the processors below p.
-use mathlib.Core.Path.{◌≡◌, refl, ◌∙◌}
-use mathlib.Core.Bool.{true}
-use Prim.Native.Nat.{◌+◌, ◌-◌, ◌≤◌}
-use native.Mathlib.Omega.{arith}
-use lib.ListN.{get_or}
-use borrow.Author.Rules.{rules}
-use Rattle.call_sheet.specs.Sheets.{anyone, latest}
+use mathlib.Core.Path.{◌≡◌}
+use Prim.Native.Nat.{◌-◌, ◌≤◌}
 use Rattle.call_sheet.specs.Says.{LONGEST, longest_from}
-use Rattle.call_sheet.proofs.Passing.{latest_more}
 use Rattle.call_sheet.proofs.longest.Given as goal
 
 abbrev pub invariant-loop-p : goal.invariant-loop-p

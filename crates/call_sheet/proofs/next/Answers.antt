@@ -1,6 +1,5 @@
 -- `next` meets its contract.
 use native.Mathlib.Omega.{arith}
-use borrow.Author.Rules.{rules}
 use Rattle.call_sheet.proofs.Checking.{next_on, next_round}
 use Rattle.call_sheet.proofs.next.Goals as goal
 

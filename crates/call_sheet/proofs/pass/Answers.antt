@@ -1,10 +1,10 @@
 use mathlib.Core.Path.{◌≡◌}
-use Prim.Native.Nat.{◌+◌, ◌-◌, ◌*◌, ◌≤◌}
+use Prim.Native.Nat.{◌+◌, ◌-◌, ◌*◌}
 use native.Mathlib.Omega.{arith}
 use lib.ListN.{get_or}
 use Rattle.laws.specs.Bits.{bit}
 use Rattle.call_sheet.specs.Sheets.{PHASES}
-use Rattle.call_sheet.specs.Says.{LONGEST, time_at, pass_time, Timed}
+use Rattle.call_sheet.specs.Says.{LONGEST, time_at, pass_time}
 use Rattle.call_sheet.proofs.Latest.{latest_bound}
 use Rattle.call_sheet.proofs.Passing.{timed_none, timed_more, timed_to}
 use Rattle.call_sheet.proofs.pass.Goals as goal

@@ -1,7 +1,7 @@
 use mathlib.Core.Path.{refl}
-use Prim.Native.Nat.{◌-◌, ◌≤◌}
+use Prim.Native.Nat.{◌-◌}
 use native.Mathlib.Omega.{arith}
-use Rattle.call_sheet.specs.Says.{time_at, Timed}
+use Rattle.call_sheet.specs.Says.{time_at}
 use Rattle.call_sheet.proofs.Passing.{timed_none, timed_more, timed_to}
 use Rattle.call_sheet.proofs.start.Goals as goal
 

@@ -1,9 +1,6 @@
 -- `start` meets its contract. The invariant: the times of the processors below p are stored.
-use mathlib.Core.Path.{refl}
 use Prim.Native.Nat.{◌-◌, ◌≤◌}
-use native.Mathlib.Omega.{arith}
 use Rattle.call_sheet.specs.Says.{time_at, Timed}
-use Rattle.call_sheet.proofs.Passing.{timed_none, timed_more, timed_to}
 use Rattle.call_sheet.proofs.start.Given as goal
 
 abbrev pub invariant-loop-p : goal.invariant-loop-p

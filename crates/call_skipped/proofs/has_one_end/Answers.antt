@@ -1,7 +1,6 @@
 -- `has_one_end` meets its contract: one law for each way through it (proofs/OneEnd).
 use mathlib.Core.Path.{◌≡◌, sym, ◌∙◌}
 use mathlib.Core.Bool.{true, false}
-use borrow.Author.Rules.{rules}
 use Rattle.paper_nests.specs.Loops.{is_inside}
 use Rattle.call_skipped.proofs.OneEnd.{source_alone, target_alone, none_alone}
 use Rattle.call_skipped.proofs.has_one_end.Goals as goal

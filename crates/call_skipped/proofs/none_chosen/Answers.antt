@@ -1,6 +1,5 @@
 -- `none_chosen` meets its contract: the empty placement has no gap (`gaps_none`).
 use mathlib.Core.Path.{refl}
-use borrow.Author.Rules.{rules}
 use Rattle.paper_placements.proofs.Words.{gaps_none}
 use Rattle.call_skipped.proofs.none_chosen.Goals as goal
 

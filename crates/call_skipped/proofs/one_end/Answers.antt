@@ -1,7 +1,6 @@
 -- `one_end` meets its contract: one law for each way through it (proofs/Answers).
 use mathlib.Core.Path.{refl, sym, ◌∙◌}
 use native.Mathlib.Omega.{arith}
-use borrow.Author.Rules.{rules}
 use Rattle.paper_nests.specs.Stored.{nest_in}
 use Rattle.call_skipped.specs.OneEnd.{one_end_by}
 use Rattle.call_skipped.proofs.Relied.{number_has}

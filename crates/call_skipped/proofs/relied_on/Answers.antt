@@ -2,7 +2,6 @@
 -- says (`read_as`).
 use mathlib.Core.Path.{◌≡◌, refl, sym, ◌∙◌}
 use mathlib.Core.Bool.{true, false, not}
-use borrow.Author.Rules.{rules}
 use Rattle.laws.specs.Choice.{when}
 use Rattle.laws.proofs.Choices.{first_zero, unless_zero}
 use Rattle.paper_nests.specs.Stored.{nest_in}

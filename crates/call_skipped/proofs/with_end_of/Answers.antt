@@ -1,7 +1,6 @@
 -- `with_end_of` meets its contract: where the dependence goes forward into the next turn, the flagged loops that have
 -- one of its ends alone (`one_end_set`), else none (`no_one_end`).
 use mathlib.Core.Path.{sym, ◌∙◌}
-use borrow.Author.Rules.{rules}
 use Rattle.paper_nests.specs.Stored.{dep_in, nest_in}
 use Rattle.paper_nests.proofs.Deps.{valid_is}
 use Rattle.paper_nests.proofs.Flags.{flag_is_do}

@@ -1,11 +1,9 @@
 use mathlib.Core.Path.{◌≡◌, sym, ◌∙◌}
 use mathlib.Core.Bool.{Bool, true, false}
-use Prim.Native.Nat.{ℕ, ◌-◌}
+use Prim.Native.Nat.{◌-◌}
 use native.Mathlib.Omega.{arith}
-use borrow.Author.Rules.{rules}
 use Rattle.laws.specs.Entries.{at}
-use Rattle.paper_placements.specs.Words.{GAPS}
-use Rattle.call_missing.proofs.Passing.{anywhere, Passing, next_from, next_less}
+use Rattle.call_missing.proofs.Passing.{next_from, next_less}
 use Rattle.call_missing.proofs.Passing.{pass_start, pass_put, pass_by, pass_done}
 use Rattle.call_skipped.specs.OneEnd.{is_one_end}
 use Rattle.call_skipped.proofs.with_one_end.Goals as goal

@@ -1,5 +1,4 @@
 -- `examiner_length` meets its contract: a line more than the candidate's slip, and one for each dependence.
-use borrow.Author.Rules.{rules}
 use mathlib.Core.List.{[]}
 use Prim.Native.Nat.{◌≤◌}
 use native.Mathlib.Omega.{arith}

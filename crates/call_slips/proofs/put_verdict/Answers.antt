@@ -4,7 +4,6 @@ use mathlib.Core.List.{List}
 use Prim.Native.Nat.{ℕ}
 use Rattle.paper_lines.specs.Writing.{over}
 use Rattle.call_slips.proofs.Bytes.{verdict-line}
-use borrow.Author.Rules.{rules}
 use Rattle.call_slips.proofs.put_verdict.Goals as goal
 
 pub returns : goal.returns

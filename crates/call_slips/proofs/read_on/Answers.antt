@@ -1,5 +1,4 @@
 -- `read_on` meets its contract: the text is read for the nest's points and barred gaps (`read_as`).
-use borrow.Author.Rules.{rules}
 use Rattle.paper_nests.specs.Stored.{nest_in}
 use Rattle.paper_placements.specs.Words.{gaps_in}
 use Rattle.desk.proofs.Ready.{read_as}

@@ -2,9 +2,8 @@ use mathlib.Core.Path.{sym, ◌∙◌}
 use Prim.Native.Nat.{◌-◌, ◌<◌}
 use native.Mathlib.Omega.{arith}
 use lib.ListN.{length}
-use borrow.Author.Rules.{rules}
 use Rattle.paper_nests.specs.Stored.{nest_in}
-use Rattle.call_slips.proofs.Lengths.{Measured, measure_start, measure_do, measure_skip, measure_done, point_at}
+use Rattle.call_slips.proofs.Lengths.{measure_start, measure_do, measure_skip, measure_done, point_at}
 use Rattle.call_slips.proofs.slip_length.Goals as goal
 
 pub loop-d-init : goal.loop-d-init

@@ -1,11 +1,8 @@
 -- `slip_length` meets its contract: the loops before point d are measured (`Measured`).
-use mathlib.Core.Path.{sym, ◌∙◌}
-use Prim.Native.Nat.{◌-◌, ◌<◌}
-use native.Mathlib.Omega.{arith}
+use Prim.Native.Nat.{◌-◌}
 use lib.ListN.{length}
-use borrow.Author.Rules.{rules}
 use Rattle.paper_nests.specs.Stored.{nest_in}
-use Rattle.call_slips.proofs.Lengths.{Measured, measure_start, measure_do, measure_skip, measure_done, point_at}
+use Rattle.call_slips.proofs.Lengths.{Measured}
 use Rattle.call_slips.proofs.slip_length.Given as goal
 
 abbrev pub invariant-loop-d : goal.invariant-loop-d

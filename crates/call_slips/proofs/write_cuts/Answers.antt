@@ -1,4 +1,4 @@
-use mathlib.Core.Path.{◌≡◌, refl, ◌∙◌}
+use mathlib.Core.Path.{◌≡◌, ◌∙◌}
 use mathlib.Core.List.{◌∷◌}
 use Prim.Native.Nat.{suc, ◌+◌, ◌-◌, ◌≤◌}
 use native.Mathlib.Omega.{arith}
@@ -11,7 +11,7 @@ use Rattle.paper_nests.proofs.Stored.{deps_in_at, counted_many, counted_points}
 use Rattle.paper_placements.specs.Words.{gaps_in}
 use Rattle.paper_placements.specs.Answers.{CutSays}
 use Rattle.paper_placements.proofs.Trying.{carried_by_loop}
-use Rattle.call_slips.proofs.CutLines.{CutLines, cut_start, cut_inside, cut_room, cut_Line, cut_done}
+use Rattle.call_slips.proofs.CutLines.{cut_start, cut_inside, cut_room, cut_Line, cut_done}
 use Rattle.call_slips.proofs.write_cuts.Goals as goal
 
 pub slice_bounds-points-end : goal.slice_bounds-points-end

@@ -5,7 +5,6 @@ use Prim.Native.Nat.{ℕ}
 use lib.ListN.{length}
 use Rattle.paper_lines.specs.Writing.{over}
 use Rattle.call_slips.proofs.Bytes.{first_Halves}
-use borrow.Author.Rules.{rules}
 use Rattle.call_slips.proofs.write_first.Goals as goal
 
 pub returns : goal.returns

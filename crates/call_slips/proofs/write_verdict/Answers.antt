@@ -3,7 +3,6 @@ use mathlib.Core.Path.{◌≡◌, sym, ap, subst}
 use mathlib.Core.List.{List}
 use Prim.Native.Nat.{ℕ}
 use native.Mathlib.Omega.{arith}
-use borrow.Author.Rules.{rules}
 use Rattle.desk.specs.declared.Verdict as DV
 use Rattle.desk.specs.Says.{verdict_in}
 use Rattle.call_slips.specs.Texts.{verdict_text}

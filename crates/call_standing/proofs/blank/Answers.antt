@@ -1,6 +1,5 @@
 -- `blank` meets its contract: no gap, and each table has one value, 0.
 use mathlib.Core.Path.{refl}
-use borrow.Author.Rules.{rules}
 use Rattle.laws.proofs.Copies.{copies, copies_at}
 use Rattle.paper_placements.proofs.Words.{gaps_none}
 use Rattle.call_standing.proofs.blank.Goals as goal

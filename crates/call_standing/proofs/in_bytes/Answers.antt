@@ -1,8 +1,7 @@
 use mathlib.Core.Path.{refl}
-use Prim.Native.Nat.{◌-◌, ◌≤◌}
+use Prim.Native.Nat.{◌-◌}
 use native.Mathlib.Omega.{arith}
-use borrow.Author.Rules.{rules}
-use Rattle.call_standing.proofs.Writing.{Written, write_none, write_next}
+use Rattle.call_standing.proofs.Writing.{write_none, write_next}
 use Rattle.call_standing.proofs.in_bytes.Goals as goal
 
 pub loop-i-init : goal.loop-i-init

@@ -1,10 +1,7 @@
 -- `in_bytes` meets its contract. The invariant: the entries before i are written (`Written`). The measure is how many
 -- are left.
-use mathlib.Core.Path.{refl}
 use Prim.Native.Nat.{◌-◌, ◌≤◌}
-use native.Mathlib.Omega.{arith}
-use borrow.Author.Rules.{rules}
-use Rattle.call_standing.proofs.Writing.{Written, write_none, write_next}
+use Rattle.call_standing.proofs.Writing.{Written}
 use Rattle.call_standing.proofs.in_bytes.Given as goal
 
 abbrev pub invariant-loop-i : goal.invariant-loop-i

@@ -1,5 +1,4 @@
 -- `sitting_stands` meets its contract: the two ways of the test (proofs/Answers).
-use borrow.Author.Rules.{rules}
 use Rattle.paper_nests.proofs.Stored.{counted_points}
 use Rattle.call_standing.proofs.Answers.{Sat, sat, few_counts, standing_given, standing_none}
 use Rattle.call_standing.proofs.sitting_stands.Goals as goal

@@ -1,7 +1,7 @@
-use Prim.Native.Nat.{◌+◌, ◌-◌}
+use Prim.Native.Nat.{◌-◌}
 use native.Mathlib.Omega.{arith}
 use Rattle.laws.specs.Entries.{at}
-use Rattle.call_textbook.proofs.Cutting.{Counting, counting_start, counting_cut, counting_pass, counting_done}
+use Rattle.call_textbook.proofs.Cutting.{counting_start, counting_cut, counting_pass, counting_done}
 use Rattle.call_textbook.proofs.count_cuts.Goals as goal
 
 pub loop-p-init : goal.loop-p-init

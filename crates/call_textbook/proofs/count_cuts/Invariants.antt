@@ -1,8 +1,7 @@
 -- `count_cuts` meets its contract. The invariant: the cuts so far and those from p on are all (`Counting`).
 use Prim.Native.Nat.{◌+◌, ◌-◌}
-use native.Mathlib.Omega.{arith}
 use Rattle.laws.specs.Entries.{at}
-use Rattle.call_textbook.proofs.Cutting.{Counting, counting_start, counting_cut, counting_pass, counting_done}
+use Rattle.call_textbook.proofs.Cutting.{Counting}
 use Rattle.call_textbook.proofs.count_cuts.Given as goal
 
 abbrev pub invariant-loop-p : goal.invariant-loop-p

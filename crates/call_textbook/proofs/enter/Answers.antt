@@ -3,7 +3,6 @@
 use mathlib.Core.Path.{ap}
 use Prim.Native.Nat.{◌+◌}
 use native.Mathlib.Omega.{arith}
-use borrow.Author.Rules.{rules}
 use Rattle.laws.specs.Entries.{at}
 use Rattle.paper_nests.specs.Stored.{dep_in}
 use Rattle.call_textbook.proofs.Tables.{entered_none, entered_once, entered_twice}

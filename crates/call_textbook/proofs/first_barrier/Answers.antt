@@ -1,13 +1,13 @@
 use mathlib.Core.Path.{◌≡◌}
 use mathlib.Core.Bool.{true}
-use Prim.Native.Nat.{suc, ◌-◌}
+use Prim.Native.Nat.{◌-◌}
 use native.Mathlib.Omega.{arith}
 use Rattle.laws.specs.Entries.{at}
 use Rattle.paper_placements.specs.Words.{gaps_in}
 use Rattle.paper_placements.specs.Placements.{is_free}
 use Rattle.call_textbook.specs.Places.{cuts_behind}
 use Rattle.call_textbook.proofs.Tables.{held_barred, unheld_free}
-use Rattle.call_textbook.proofs.Choosing.{Choosing, choose_start, choose_barred, choose_taken, choose_passed}
+use Rattle.call_textbook.proofs.Choosing.{choose_start, choose_barred, choose_taken, choose_passed}
 use Rattle.call_textbook.proofs.Choosing.{choose_done}
 use Rattle.call_textbook.proofs.first_barrier.Goals as goal
 

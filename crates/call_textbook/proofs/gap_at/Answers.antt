@@ -1,7 +1,6 @@
 -- `gap_at` meets its contract, by cases of its test.
 use mathlib.Core.Path.{sym}
 use native.Mathlib.Omega.{arith}
-use borrow.Author.Rules.{rules}
 use Rattle.call_textbook.proofs.Places.{gap_low, gap_high}
 use Rattle.call_textbook.proofs.gap_at.Goals as goal
 

@@ -1,9 +1,9 @@
-use Prim.Native.Nat.{suc, ◌+◌, ◌-◌, ◌<◌}
+use Prim.Native.Nat.{◌-◌, ◌<◌}
 use native.Mathlib.Omega.{arith}
 use Rattle.laws.proofs.Copies.{copies}
 use Rattle.paper_placements.specs.Words.{GAPS, gaps_in}
 use Rattle.call_textbook.proofs.Places.{gap_last}
-use Rattle.call_textbook.proofs.Tables.{held_barred, unheld_free, Freed, free_start, free_barred, free_open}
+use Rattle.call_textbook.proofs.Tables.{held_barred, unheld_free, free_start, free_barred, free_open}
 use Rattle.call_textbook.proofs.Tables.{free_done}
 use Rattle.call_textbook.proofs.last_free.Goals as goal
 

@@ -1,11 +1,7 @@
 -- `last_free` meets its contract. The invariant: the entries of the places below p are there (`Freed`).
-use Prim.Native.Nat.{suc, ◌+◌, ◌-◌, ◌<◌}
-use native.Mathlib.Omega.{arith}
-use Rattle.laws.proofs.Copies.{copies}
-use Rattle.paper_placements.specs.Words.{GAPS, gaps_in}
-use Rattle.call_textbook.proofs.Places.{gap_last}
-use Rattle.call_textbook.proofs.Tables.{held_barred, unheld_free, Freed, free_start, free_barred, free_open}
-use Rattle.call_textbook.proofs.Tables.{free_done}
+use Prim.Native.Nat.{suc, ◌+◌, ◌-◌}
+use Rattle.paper_placements.specs.Words.{gaps_in}
+use Rattle.call_textbook.proofs.Tables.{Freed}
 use Rattle.call_textbook.proofs.last_free.Given as goal
 
 abbrev pub invariant-loop-p : goal.invariant-loop-p

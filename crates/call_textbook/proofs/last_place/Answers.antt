@@ -3,7 +3,6 @@ use mathlib.Core.Path.{◌≡◌}
 use Prim.Native.Nat.{◌+◌, min}
 use native.Mathlib.Omega.{arith}
 use borrow.Author.Tests.{ne_eqb}
-use borrow.Author.Rules.{rules}
 use Rattle.paper_nests.specs.Kinds.{INDEPENDENT}
 use Rattle.paper_nests.specs.Stored.{dep_in}
 use Rattle.call_textbook.specs.Places.{last_place}

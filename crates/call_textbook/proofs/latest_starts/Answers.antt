@@ -8,7 +8,7 @@ use Rattle.paper_nests.proofs.Stored.{counted_many}
 use Rattle.paper_placements.specs.Words.{gaps_in}
 use Rattle.call_textbook.specs.Places.{last_place}
 use Rattle.call_textbook.proofs.Tables.{free_within, no_dependence}
-use Rattle.call_textbook.proofs.Tables.{Collecting, collect_start, next_placed, collect_on, collect_done}
+use Rattle.call_textbook.proofs.Tables.{collect_start, next_placed, collect_on, collect_done}
 use Rattle.call_textbook.proofs.latest_starts.Goals as goal
 
 pub last_free-free-requires : goal.last_free-free-requires

@@ -1,7 +1,7 @@
-use Prim.Native.Nat.{◌+◌, ◌-◌}
+use Prim.Native.Nat.{◌-◌}
 use native.Mathlib.Omega.{arith}
 use Rattle.laws.specs.Entries.{at}
-use Rattle.call_textbook.proofs.Cutting.{Laying, laying_start, laying_cut, laying_pass, laying_done}
+use Rattle.call_textbook.proofs.Cutting.{laying_start, laying_cut, laying_pass, laying_done}
 use Rattle.call_textbook.proofs.Places.{gap_last}
 use Rattle.call_textbook.proofs.lay.Goals as goal
 

@@ -1,9 +1,7 @@
 -- `lay` meets its contract. The invariant: the barriers laid so far and those from p on are all (`Laying`).
 use Prim.Native.Nat.{◌+◌, ◌-◌}
-use native.Mathlib.Omega.{arith}
 use Rattle.laws.specs.Entries.{at}
-use Rattle.call_textbook.proofs.Cutting.{Laying, laying_start, laying_cut, laying_pass, laying_done}
-use Rattle.call_textbook.proofs.Places.{gap_last}
+use Rattle.call_textbook.proofs.Cutting.{Laying}
 use Rattle.call_textbook.proofs.lay.Given as goal
 
 abbrev pub invariant-loop-p : goal.invariant-loop-p

@@ -1,6 +1,5 @@
 -- `raise` meets its contract: the entry is stored where it was less, and is there already where it was not.
 use native.Mathlib.Omega.{arith}
-use borrow.Author.Rules.{rules}
 use Rattle.call_textbook.proofs.Tables.{raised, raised_before}
 use Rattle.call_textbook.proofs.raise.Goals as goal
 

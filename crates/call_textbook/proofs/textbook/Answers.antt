@@ -2,7 +2,6 @@
 use mathlib.Core.Path.{◌≡◌, refl, sym, ◌∙◌}
 use mathlib.Core.Bool.{true}
 use native.Mathlib.Omega.{arith}
-use borrow.Author.Rules.{rules}
 use Rattle.paper_nests.specs.Ring.{one_loop}
 use Rattle.paper_nests.specs.Valid.{is_valid}
 use Rattle.paper_nests.specs.Stored.{nest_in}

@@ -1,7 +1,4 @@
 use Prim.Native.Nat.{◌-◌}
-use native.Mathlib.Omega.{arith}
-use borrow.Author.Rules.{rules}
-use Rattle.desk.specs.Desks.{IsMade}
 use Rattle.cases_02.proofs.after_backs.Goals as goal
 
 pub loop-i-init : goal.loop-i-init

@@ -1,7 +1,5 @@
 -- `after_turns` meets its contract: each move's desk is made by calls. The measure is how many are left.
 use Prim.Native.Nat.{◌-◌}
-use native.Mathlib.Omega.{arith}
-use borrow.Author.Rules.{rules}
 use Rattle.desk.specs.Desks.{IsMade}
 use Rattle.cases_02.proofs.after_turns.Given as goal
 

@@ -1,5 +1,4 @@
 -- `turned` meets its contract: the desk of a Put or a Lift is made by calls (`made_put`).
-use borrow.Author.Rules.{rules}
 use Rattle.call_moves.proofs.Made.{made_put}
 use Rattle.cases_02.proofs.turned.Goals as goal
 

@@ -1,7 +1,6 @@
 -- `case_8` is safe: its parts lie within the buffers.
 use native.Mathlib.Omega.{arith}
 use lib.ListN.{length-take}
-use borrow.Author.Rules.{rules}
 use Rattle.cases_argument.proofs.case_8.Goals as goal
 
 pub slice_bounds-same-end-then-more-eq30 : goal.slice_bounds-same-end-then-more-eq30

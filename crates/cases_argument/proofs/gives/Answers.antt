@@ -1,7 +1,6 @@
 -- `gives` is safe: the written part lies within the buffer, by the test.
 use native.Mathlib.Omega.{arith}
 use lib.ListN.{length-take}
-use borrow.Author.Rules.{rules}
 use Rattle.cases_argument.proofs.gives.Goals as goal
 
 pub slice_bounds-same-end : goal.slice_bounds-same-end

@@ -1,5 +1,4 @@
 -- `after_back` meets its contract: its desk is made by calls (`made_back`).
-use borrow.Author.Rules.{rules}
 use Rattle.call_moves.proofs.Made.{made_back}
 use Rattle.cases_replies.proofs.after_back.Goals as goal
 

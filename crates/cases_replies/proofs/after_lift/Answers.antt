@@ -1,5 +1,4 @@
 -- `after_lift` meets its contract: its desk is made by calls (`made_lift`).
-use borrow.Author.Rules.{rules}
 use Rattle.call_moves.proofs.Made.{made_lift}
 use Rattle.cases_replies.proofs.after_lift.Goals as goal
 

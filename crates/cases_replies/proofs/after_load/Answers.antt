@@ -1,5 +1,4 @@
 -- `after_load` meets its contract: its desk is made by calls (`made_load`).
-use borrow.Author.Rules.{rules}
 use Rattle.desk.proofs.Made.{made_load}
 use Rattle.cases_replies.proofs.after_load.Goals as goal
 

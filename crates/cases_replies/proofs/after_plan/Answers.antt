@@ -1,5 +1,4 @@
 -- `after_plan` meets its contract: its desk is made by calls (`made_plan`).
-use borrow.Author.Rules.{rules}
 use Rattle.desk.proofs.Made.{made_plan}
 use Rattle.cases_replies.proofs.after_plan.Goals as goal
 

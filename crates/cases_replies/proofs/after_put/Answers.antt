@@ -1,5 +1,4 @@
 -- `after_put` meets its contract: its desk is made by calls (`made_put`).
-use borrow.Author.Rules.{rules}
 use Rattle.call_moves.proofs.Made.{made_put}
 use Rattle.cases_replies.proofs.after_put.Goals as goal
 

@@ -1,5 +1,4 @@
 -- `after_reset` meets its contract: an empty desk is made by calls (`made_empty`).
-use borrow.Author.Rules.{rules}
 use Rattle.desk.proofs.Made.{made_empty}
 use Rattle.cases_replies.proofs.after_reset.Goals as goal
 

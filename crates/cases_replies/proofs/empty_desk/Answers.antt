@@ -1,5 +1,4 @@
 -- `empty_desk` meets its contract: a new desk is made by calls (`made_empty`).
-use borrow.Author.Rules.{rules}
 use Rattle.desk.proofs.Made.{made_empty}
 use Rattle.cases_replies.proofs.empty_desk.Goals as goal
 

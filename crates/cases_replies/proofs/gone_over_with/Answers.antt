@@ -1,6 +1,5 @@
 -- `gone_over_with` meets its contract: a made desk's nest with whatever key is a made desk of the old kind
 -- (`Made-plain`).
-use borrow.Author.Rules.{rules}
 use Rattle.desk.proofs.Over.{Made-plain, made_over}
 use Rattle.cases_replies.proofs.gone_over_with.Goals as goal
 

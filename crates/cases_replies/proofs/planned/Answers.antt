@@ -1,5 +1,4 @@
 -- `planned` meets its contract: its desk is made by calls (`made_empty`, `made_load`, `made_plan`).
-use borrow.Author.Rules.{rules}
 use Rattle.desk.proofs.Made.{made_empty, made_load, made_plan}
 use Rattle.cases_replies.proofs.planned.Goals as goal
 

@@ -1,9 +1,8 @@
 -- `put` meets its contract: the place stays within the text, whose length stays. The measure is what is left of the
 -- line.
-use mathlib.Core.Path.{◌≡◌, refl}
+use mathlib.Core.Path.{◌≡◌}
 use Prim.Native.Nat.{◌-◌, ◌≤◌}
-use native.Mathlib.Omega.{arith}
-use lib.ListN.{length, length-set}
+use lib.ListN.{length}
 use Rattle.cases_replies.proofs.put.Given as goal
 
 abbrev pub invariant-loop-i : goal.invariant-loop-i

@@ -1,8 +1,7 @@
 -- `repeat` meets its contract: the place stays within the text, whose length stays. The measure is what is left of the
 -- turns.
-use mathlib.Core.Path.{◌≡◌, refl}
+use mathlib.Core.Path.{◌≡◌}
 use Prim.Native.Nat.{◌-◌, ◌≤◌}
-use native.Mathlib.Omega.{arith}
 use lib.ListN.{length}
 use Rattle.cases_replies.proofs.repeat.Given as goal
 

@@ -1,7 +1,6 @@
 -- `case_7` is safe: its parts lie within the buffers.
 use native.Mathlib.Omega.{arith}
 use lib.ListN.{length-take}
-use borrow.Author.Rules.{rules}
 use Rattle.cases_slips.proofs.case_7.Goals as goal
 
 pub slice_bounds-same-end-then-more-eq28 : goal.slice_bounds-same-end-then-more-eq28

@@ -1,7 +1,6 @@
 -- `shows` is safe: the written part lies within the buffer, by the test.
 use native.Mathlib.Omega.{arith}
 use lib.ListN.{length-take}
-use borrow.Author.Rules.{rules}
 use Rattle.cases_slips.proofs.shows.Goals as goal
 
 pub slice_bounds-same-end : goal.slice_bounds-same-end

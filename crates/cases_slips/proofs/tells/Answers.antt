@@ -1,7 +1,6 @@
 -- `tells` is safe: the written parts lie within the buffers, by the tests.
 use native.Mathlib.Omega.{arith}
 use lib.ListN.{length-take}
-use borrow.Author.Rules.{rules}
 use Rattle.cases_slips.proofs.tells.Goals as goal
 
 pub slice_bounds-same-end : goal.slice_bounds-same-end

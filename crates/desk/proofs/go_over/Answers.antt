@@ -1,7 +1,6 @@
 -- `go_over` meets its contract: the desk without its key is made by calls (`held`, `bare_made`), and Plan gives it the
 -- key of its nest where it had one (`over_planned`, `over_bare`).
 use mathlib.Core.Path.{refl}
-use borrow.Author.Rules.{rules}
 use Rattle.paper_placements.proofs.Words.{gaps_none}
 use Rattle.desk.proofs.Held.{held}
 use Rattle.desk.proofs.Over.{bare_made, over_planned, over_bare}

@@ -6,7 +6,6 @@ use Rattle.paper_nests.proofs.Deps.{valid_is}
 use Rattle.paper_placements.specs.Answers.{difference_in}
 use Rattle.paper_placements.specs.Words.{gaps_in}
 use Rattle.desk.proofs.Judged.{uncut_is, dearer_is, best_is}
-use borrow.Author.Rules.{rules}
 use Rattle.desk.proofs.judge.Goals as goal
 
 pub returns-then-first-ne0 : goal.returns-then-first-ne0

@@ -1,6 +1,5 @@
 -- `load_nest` meets its contract: one law for a refused text, one for an accepted one (proofs/Loads).
 use mathlib.Core.Path.{refl}
-use borrow.Author.Rules.{rules}
 use Rattle.desk.proofs.Loads.{load_refused, load_accepted}
 use Rattle.desk.proofs.load_nest.Goals as goal
 

@@ -5,7 +5,6 @@ use Rattle.paper_nests.proofs.Stored.{counted_points}
 use Rattle.desk.specs.Desks.{desk_in}
 use Rattle.desk.proofs.Answers.{count_refused, count_no_do, count_is}
 use Rattle.desk.proofs.Ready.{ready}
-use borrow.Author.Rules.{rules}
 use Rattle.desk.proofs.loop_count.Goals as goal
 
 pub returns-then-number-ne0 : goal.returns-then-number-ne0

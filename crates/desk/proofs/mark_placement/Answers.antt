@@ -10,7 +10,6 @@ use Rattle.desk.specs.Desks.{desk_in, state_fault}
 use Rattle.desk.specs.Says.{read_in}
 use Rattle.desk.proofs.Answers.{mark_refused, mark_unread, mark_given}
 use Rattle.desk.proofs.Ready.{ready, read_as, read_rising}
-use borrow.Author.Rules.{rules}
 use Rattle.desk.proofs.mark_placement.Goals as goal
 
 pub returns-then-number-ne0 : goal.returns-then-number-ne0

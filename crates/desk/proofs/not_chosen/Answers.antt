@@ -1,6 +1,5 @@
 -- `not_chosen` meets its contract: the empty placement has no gap (`gaps_none`).
 use mathlib.Core.Path.{refl}
-use borrow.Author.Rules.{rules}
 use Rattle.paper_placements.proofs.Words.{gaps_none}
 use Rattle.desk.proofs.not_chosen.Goals as goal
 

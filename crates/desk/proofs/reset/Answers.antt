@@ -1,5 +1,4 @@
 -- `reset` meets its contract: the desk that it returns is a new one.
-use borrow.Author.Rules.{rules}
 use Rattle.desk.specs.Says.{EmptySays}
 use Rattle.desk.proofs.reset.Goals as goal
 

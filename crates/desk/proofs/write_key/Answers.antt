@@ -1,7 +1,6 @@
 -- `write_key` meets its contract: the state's number is that of a call that wants a key.
 use mathlib.Core.Path.{subst}
 use Prim.Native.Nat.{ℕ}
-use borrow.Author.Rules.{rules}
 use Rattle.paper_placements.specs.Words.{gaps_in}
 use Rattle.desk.specs.Says.{WrittenAs}
 use Rattle.desk.proofs.write_key.Goals as goal

@@ -3,7 +3,6 @@ use mathlib.Core.Path.{refl}
 use native.Mathlib.Omega.{arith}
 use Rattle.paper_placements.specs.Words.{gaps_in}
 use Rattle.desk.proofs.Answers.{text_refused, text_short, text_written}
-use borrow.Author.Rules.{rules}
 use Rattle.desk.proofs.write_placement.Goals as goal
 
 pub returns-then-state-ne0 : goal.returns-then-state-ne0

@@ -2,7 +2,6 @@
 use mathlib.Core.Path.{◌≡◌}
 use Prim.Native.Nat.{ℕ, ◌+◌, ◌<◌}
 use native.Mathlib.Omega.{arith}
-use borrow.Author.Rules.{rules}
 use Rattle.laws.proofs.Tests.{lt_by}
 use Rattle.desk_moves.specs.Ring.{KEPT}
 use Rattle.desk_moves.proofs.Ring.{before_next}

@@ -1,6 +1,5 @@
 -- `place_before` meets its contract: a place that is not the first follows another (`before_inner`).
 use native.Mathlib.Omega.{arith}
-use borrow.Author.Rules.{rules}
 use Rattle.desk_moves.proofs.Ring.{before_inner}
 use Rattle.desk_moves.proofs.place_before.Goals as goal
 

@@ -1,7 +1,6 @@
 -- `has_gap` meets its contract: the gaps of an independent dependence (`line_has`, `line_before`) and of a carried one
 -- (`ring_around`, `ring_within`, `ring_front`, `ring_out`).
 use mathlib.Core.Path.{sym, ◌∙◌}
-use borrow.Author.Rules.{rules}
 use Rattle.paper_nests.specs.Stored.{dep_in}
 use Rattle.paper_nests.proofs.Around.{line_has, line_before, ring_around, ring_within, ring_front, ring_out}
 use Rattle.desk_sitting.proofs.has_gap.Goals as goal

@@ -1,5 +1,4 @@
 -- `lift` meets its contract: the counts are those of `recounted`, the placement has a gap less (`lift_says`).
-use borrow.Author.Rules.{rules}
 use Rattle.desk_sitting.proofs.Outcome.{lift_says}
 use Rattle.desk_sitting.proofs.lift.Goals as goal
 

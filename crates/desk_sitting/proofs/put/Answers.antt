@@ -1,5 +1,4 @@
 -- `put` meets its contract: the counts are those of `recounted`, the placement has a gap more (`put_says`).
-use borrow.Author.Rules.{rules}
 use Rattle.desk_sitting.proofs.Outcome.{put_says}
 use Rattle.desk_sitting.proofs.put.Goals as goal
 

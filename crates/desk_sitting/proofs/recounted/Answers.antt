@@ -13,7 +13,7 @@ use Rattle.paper_nests.proofs.Stored.{counted_points}
 use Rattle.desk_sitting.specs.Counts.{cut_count}
 use Rattle.desk_sitting.specs.Kept.{barriers}
 use Rattle.desk_sitting.specs.Recounts.{after_move}
-use Rattle.desk_sitting.proofs.Moving.{Moving, Turn, Move-start, move_past, move_done}
+use Rattle.desk_sitting.proofs.Moving.{Turn, Move-start, move_past, move_done}
 use Rattle.desk_sitting.proofs.Moving.{rise_fits, rise_uncut, rise_first, rise_more}
 use Rattle.desk_sitting.proofs.Moving.{fall_fits, fall_uncut, fall_last, fall_more}
 use Rattle.desk_sitting.proofs.Turns.{dep_at, turn_of, turn_inside, gap_told}

@@ -1,11 +1,9 @@
 use Prim.Native.Nat.{◌-◌}
 use native.Mathlib.Omega.{arith}
-use lib.ListN.{length}
 use Rattle.desk.specs.Desks.{desk_in}
 use Rattle.host.specs.Records.{records_of}
 use Rattle.call_list.proofs.Steps.{steps_say}
-use Rattle.host.proofs.Bytes.{Taken, taken_none, taken_one, taken_left, taken_all}
-use borrow.Author.Rules.{rules}
+use Rattle.host.proofs.Bytes.{taken_none, taken_one, taken_left, taken_all}
 use Rattle.host.proofs.desk_list.Goals as goal
 
 pub ends_on-ends-requires : goal.ends_on-ends-requires

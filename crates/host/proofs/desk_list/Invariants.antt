@@ -1,12 +1,8 @@
 -- Each turn takes four bytes as one record (proofs/Bytes); what is left over is one of no kind.
 use Prim.Native.Nat.{◌-◌}
-use native.Mathlib.Omega.{arith}
 use lib.ListN.{length}
 use Rattle.desk.specs.Desks.{desk_in}
-use Rattle.host.specs.Records.{records_of}
-use Rattle.call_list.proofs.Steps.{steps_say}
-use Rattle.host.proofs.Bytes.{Taken, taken_none, taken_one, taken_left, taken_all}
-use borrow.Author.Rules.{rules}
+use Rattle.host.proofs.Bytes.{Taken}
 use Rattle.host.proofs.desk_list.Given as goal
 
 abbrev pub invariant-loop-at : goal.invariant-loop-at

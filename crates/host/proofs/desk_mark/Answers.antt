@@ -1,7 +1,6 @@
 -- The desk's answer, in numbers.
 use mathlib.Core.Path.{◌∙◌, ap}
 use Rattle.host.specs.Marks.{mark_out}
-use borrow.Author.Rules.{rules}
 use Rattle.host.proofs.desk_mark.Goals as goal
 
 pub returns : goal.returns

@@ -3,7 +3,6 @@ use mathlib.Core.Path.{◌≡◌, sym, ◌∙◌, ap}
 use Rattle.desk.specs.declared.Verdict as DV
 use Rattle.desk.specs.Says.{verdict_in}
 use Rattle.host.specs.Marks.{verdict_out}
-use borrow.Author.Rules.{rules}
 use Rattle.host.proofs.given.Goals as goal
 
 -- equal verdicts have equal numbers

@@ -3,7 +3,6 @@ use mathlib.Core.Path.{sym, ap}
 use Rattle.desk.specs.declared.Marked as DM
 use Rattle.desk.specs.Says.{mark_in}
 use Rattle.host.specs.Marks.{mark_out}
-use borrow.Author.Rules.{rules}
 use Rattle.host.proofs.in_numbers.Goals as goal
 
 pub returns-in-Refused : goal.returns-in-Refused

@@ -1,9 +1,7 @@
 use mathlib.Core.Path.{sym, ◌∙◌}
-use Prim.Native.Nat.{◌+◌, ◌-◌}
+use Prim.Native.Nat.{◌-◌}
 use native.Mathlib.Omega.{arith}
-use lib.ListN.{length}
-use Rattle.key.specs.Inputs.{INTERRUPTS}
-use Rattle.key.proofs.Reading.{Reading, reading_start, reading_adds, reading_on, reading_less, reading_done}
+use Rattle.key.proofs.Reading.{reading_start, reading_adds, reading_on, reading_less, reading_done}
 use Rattle.key.proofs.Reading.{reading_full}
 use Rattle.key.proofs.read_input.Goals as goal
 

@@ -1,12 +1,9 @@
 -- `read_input` meets its contract: the reads make a run (`Reading`). The measure is what is left of the buffer and of
 -- the interrupts.
-use mathlib.Core.Path.{sym, ◌∙◌}
 use Prim.Native.Nat.{◌+◌, ◌-◌}
-use native.Mathlib.Omega.{arith}
 use lib.ListN.{length}
 use Rattle.key.specs.Inputs.{INTERRUPTS}
-use Rattle.key.proofs.Reading.{Reading, reading_start, reading_adds, reading_on, reading_less, reading_done}
-use Rattle.key.proofs.Reading.{reading_full}
+use Rattle.key.proofs.Reading.{Reading}
 use Rattle.key.proofs.read_input.Given as goal
 
 abbrev pub invariant-loop-at : goal.invariant-loop-at

@@ -2,7 +2,6 @@
 use mathlib.Core.Path.{◌≡◌, sym, ◌∙◌}
 use mathlib.Core.Bool.{true}
 use native.Mathlib.Omega.{arith}
-use borrow.Author.Rules.{rules}
 use Rattle.paper_nests.specs.Valid.{is_valid}
 use Rattle.paper_nests.specs.Stored.{nest_in}
 use Rattle.key_answer.proofs.Answering.{key-gaps, line_fits, accepted_nest}

@@ -4,7 +4,6 @@ use mathlib.Core.List.{List}
 use Prim.Native.Nat.{ℕ}
 use Rattle.paper_lines.specs.Writing.{over}
 use Rattle.key_answer.proofs.Lengths.{line_halves}
-use borrow.Author.Rules.{rules}
 use Rattle.key_answer.proofs.write_refusal.Goals as goal
 
 pub returns : goal.returns

@@ -1,7 +1,6 @@
 -- `barriers_at` meets its contract: the two ways of the test.
 use mathlib.Core.Path.{sym, ◌∙◌}
 use native.Mathlib.Omega.{arith}
-use borrow.Author.Rules.{rules}
 use Rattle.paper_counts.proofs.barriers_at.Goals as goal
 
 pub returns-then-holds : goal.returns-then-holds

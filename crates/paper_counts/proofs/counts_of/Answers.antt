@@ -1,12 +1,11 @@
 use mathlib.Core.Path.{◌≡◌, refl}
-use Prim.Native.Nat.{◌-◌, ◌≤◌, ◌<◌}
+use Prim.Native.Nat.{◌-◌, ◌<◌}
 use native.Mathlib.Omega.{arith}
-use lib.ListN.{length, get_or}
+use lib.ListN.{get_or}
 use Rattle.laws.proofs.Copies.{copies, copies_at}
 use Rattle.paper_nests.specs.Loops.{owner_of}
 use Rattle.paper_nests.proofs.Loops.{owner_at_most}
-use borrow.Author.Rules.{rules}
-use Rattle.paper_counts.proofs.Tallied.{Tallied, tally_start, tally_few, tally_on, tally_done}
+use Rattle.paper_counts.proofs.Tallied.{tally_start, tally_few, tally_on, tally_done}
 use Rattle.paper_counts.proofs.counts_of.Goals as goal
 
 pub loop-g-init : goal.loop-g-init

@@ -1,9 +1,7 @@
 use mathlib.Core.Path.{refl}
 use Prim.Native.Nat.{◌-◌}
 use native.Mathlib.Omega.{arith}
-use borrow.Author.Rules.{rules}
-use lib.ListN.{length}
-use Rattle.paper_counts.proofs.Walk.{Walked, walk_start, walk_do, walk_end, walk_plain, walk_done}
+use Rattle.paper_counts.proofs.Walk.{walk_start, walk_do, walk_end, walk_plain, walk_done}
 use Rattle.paper_counts.proofs.owners_of.Goals as goal
 
 pub loop-g-init : goal.loop-g-init

@@ -1,10 +1,7 @@
 -- `owners_of` meets its contract: each turn notes the loop of one more gap (`Walked`).
-use mathlib.Core.Path.{refl}
 use Prim.Native.Nat.{◌-◌}
-use native.Mathlib.Omega.{arith}
-use borrow.Author.Rules.{rules}
 use lib.ListN.{length}
-use Rattle.paper_counts.proofs.Walk.{Walked, walk_start, walk_do, walk_end, walk_plain, walk_done}
+use Rattle.paper_counts.proofs.Walk.{Walked}
 use Rattle.paper_counts.proofs.owners_of.Given as goal
 
 abbrev pub invariant-loop-g : goal.invariant-loop-g

@@ -1,8 +1,7 @@
 -- `with_range` meets its contract. The invariant: the gaps before g are put (`Ranged`). The measure is how many are
 -- left.
 use Prim.Native.Nat.{◌+◌, ◌-◌}
-use native.Mathlib.Omega.{arith}
-use Rattle.paper_gaps.proofs.Ranges.{Ranged, range_start, range_on, range_done}
+use Rattle.paper_gaps.proofs.Ranges.{Ranged}
 use Rattle.paper_gaps.proofs.with_range.Given as goal
 
 abbrev pub invariant-loop-g : goal.invariant-loop-g

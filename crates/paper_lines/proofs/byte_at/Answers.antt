@@ -2,7 +2,6 @@
 use Prim.Native.Nat.{◌+◌, ◌*◌}
 use native.Mathlib.Omega.{arith}
 use Rattle.paper_lines.proofs.Digits.{hex_at, frame_at, frame_past}
-use borrow.Author.Rules.{rules}
 use Rattle.paper_lines.proofs.byte_at.Goals as goal
 
 pub returns-then-i-line : goal.returns-then-i-line

@@ -1,6 +1,5 @@
 -- A value below 16 is a number or a letter.
 use Rattle.paper_lines.proofs.Writing.{digit_number, digit_letter}
-use borrow.Author.Rules.{rules}
 use Rattle.paper_lines.proofs.digit.Goals as goal
 
 pub returns-then-v-lt10 : goal.returns-then-v-lt10

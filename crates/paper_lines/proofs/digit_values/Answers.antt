@@ -1,8 +1,8 @@
-use Prim.Native.Nat.{◌-◌, ◌≤◌}
+use Prim.Native.Nat.{◌-◌}
 use native.Mathlib.Omega.{arith}
 use borrow.Author.Rules.{rules}
 use Rattle.laws.proofs.Copies.{copies}
-use Rattle.paper_lines.proofs.Values.{Filling, fill_none, fill_value, fill_all}
+use Rattle.paper_lines.proofs.Values.{fill_none, fill_value, fill_all}
 use Rattle.paper_lines.proofs.digit_values.Goals as goal
 
 pub loop-v-init : goal.loop-v-init

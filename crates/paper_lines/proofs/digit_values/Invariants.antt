@@ -1,9 +1,6 @@
 -- `digit_values` meets its contract. The invariant: the values passed are in the table (`Filling`).
 use Prim.Native.Nat.{◌-◌, ◌≤◌}
-use native.Mathlib.Omega.{arith}
-use borrow.Author.Rules.{rules}
-use Rattle.laws.proofs.Copies.{copies}
-use Rattle.paper_lines.proofs.Values.{Filling, fill_none, fill_value, fill_all}
+use Rattle.paper_lines.proofs.Values.{Filling}
 use Rattle.paper_lines.proofs.digit_values.Given as goal
 
 abbrev pub invariant-loop-v : goal.invariant-loop-v

@@ -1,10 +1,9 @@
 use mathlib.Core.Path.{◌≡◌, sym, ◌∙◌}
 use mathlib.Core.Bool.{true, false}
-use Prim.Native.Nat.{◌+◌, ◌-◌, ◌≤◌}
+use Prim.Native.Nat.{◌-◌}
 use native.Mathlib.Omega.{arith}
-use lib.ListN.{length, get_or, drop}
+use lib.ListN.{get_or}
 use Rattle.paper_lines.specs.Lines.{is_hex}
-use Rattle.paper_lines.specs.Reading.{take_digits}
 use Rattle.paper_lines.proofs.Reading.{end_on, end_here, end_past}
 use Rattle.paper_lines.proofs.digits_from.Goals as goal
 

@@ -1,12 +1,8 @@
 -- The digits from i on end where those from the known ones on do.
-use mathlib.Core.Path.{◌≡◌, sym, ◌∙◌}
-use mathlib.Core.Bool.{true, false}
+use mathlib.Core.Path.{◌≡◌}
 use Prim.Native.Nat.{◌+◌, ◌-◌, ◌≤◌}
-use native.Mathlib.Omega.{arith}
-use lib.ListN.{length, get_or, drop}
-use Rattle.paper_lines.specs.Lines.{is_hex}
+use lib.ListN.{length, drop}
 use Rattle.paper_lines.specs.Reading.{take_digits}
-use Rattle.paper_lines.proofs.Reading.{end_on, end_here, end_past}
 use Rattle.paper_lines.proofs.digits_from.Given as goal
 
 abbrev pub invariant-loop-i : goal.invariant-loop-i

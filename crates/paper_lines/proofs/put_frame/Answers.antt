@@ -1,9 +1,7 @@
-use mathlib.Core.Path.{◌≡◌, refl}
-use Prim.Native.Nat.{◌-◌, ◌≤◌}
+use mathlib.Core.Path.{refl}
+use Prim.Native.Nat.{◌-◌}
 use native.Mathlib.Omega.{arith}
-use lib.ListN.{length, take, length-set}
-use Rattle.paper_lines.specs.Lines.{digits_of}
-use Rattle.paper_lines.specs.Writing.{over}
+use lib.ListN.{length-set}
 use Rattle.paper_lines.proofs.Writing.{text-length, byte_on, feed_on}
 use Rattle.paper_lines.proofs.put_frame.Goals as goal
 

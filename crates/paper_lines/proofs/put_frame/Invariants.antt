@@ -1,11 +1,9 @@
 -- After i bytes the buffer holds their digits over what it held.
-use mathlib.Core.Path.{◌≡◌, refl}
+use mathlib.Core.Path.{◌≡◌}
 use Prim.Native.Nat.{◌-◌, ◌≤◌}
-use native.Mathlib.Omega.{arith}
-use lib.ListN.{length, take, length-set}
+use lib.ListN.{length, take}
 use Rattle.paper_lines.specs.Lines.{digits_of}
 use Rattle.paper_lines.specs.Writing.{over}
-use Rattle.paper_lines.proofs.Writing.{text-length, byte_on, feed_on}
 use Rattle.paper_lines.proofs.put_frame.Given as goal
 
 abbrev pub invariant-loop-i : goal.invariant-loop-i

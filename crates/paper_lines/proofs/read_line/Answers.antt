@@ -5,7 +5,6 @@ use mathlib.Core.Bool.{true}
 use Prim.Native.Nat.{◌+◌, ◌-◌}
 use native.Mathlib.Omega.{arith}
 use lib.ListN.{length, take, drop, length-drop}
-use borrow.Author.Rules.{rules}
 use Rattle.paper_lines.specs.Lines.{all_hex}
 use Rattle.paper_lines.specs.Reading.{take_digits, AreValues}
 use Rattle.paper_lines.proofs.Reading.{digits_fit, end_in_part, past_end, front_hex, unended, other_behind}

@@ -1,7 +1,6 @@
 -- `deeper` meets its contract: each way out is one case of the definition.
 use native.Mathlib.Omega.{arith}
 use native.Mathlib.Numerals.{add-one}
-use borrow.Author.Rules.{rules}
 use borrow.Author.Tests.{eq-eqb, ne_eqb}
 use Rattle.paper_nests.proofs.deeper.Goals as goal
 

@@ -1,6 +1,5 @@
 -- `dep_fault` meets its contract: each way out is one case of the refusals (`Faults`).
 use mathlib.Core.Path.{sym, ◌∙◌}
-use borrow.Author.Rules.{rules}
 use Rattle.paper_nests.specs.Stored.{dep_in}
 use Rattle.paper_nests.proofs.Faults.{no_source, no_target, no_loop}
 use Rattle.paper_nests.proofs.Faults.{back_inside, source_outside, target_outside, line_forward, line_back}

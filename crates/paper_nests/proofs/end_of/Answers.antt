@@ -1,8 +1,7 @@
 use Prim.Native.Nat.{◌-◌}
-use mathlib.Core.Logic.{⊎_elim, inl, inr}
+use mathlib.Core.Logic.{inl, inr}
 use native.Mathlib.Omega.{arith}
-use lib.ListN.{length}
-use Rattle.paper_nests.proofs.Scan.{Scanned, scan_start, scan_found, scan_on, scan_done}
+use Rattle.paper_nests.proofs.Scan.{scan_start, scan_found, scan_on, scan_done}
 use Rattle.paper_nests.proofs.end_of.Goals as goal
 use Rattle.paper_nests.proofs.end_of.Goals.{then-p-eq-ENDDO+else-depth-eq1, else-p-eq-ENDDO}
 

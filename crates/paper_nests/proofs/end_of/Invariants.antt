@@ -1,10 +1,8 @@
 -- `end_of` meets its contract. The invariant: the scan from here finds what the scan from d finds (`Scanned`).
 -- The measure is what is left of the points.
 use Prim.Native.Nat.{◌-◌}
-use mathlib.Core.Logic.{⊎_elim, inl, inr}
-use native.Mathlib.Omega.{arith}
 use lib.ListN.{length}
-use Rattle.paper_nests.proofs.Scan.{Scanned, scan_start, scan_found, scan_on, scan_done}
+use Rattle.paper_nests.proofs.Scan.{Scanned}
 use Rattle.paper_nests.proofs.end_of.Given as goal
 
 abbrev pub invariant-loop-i : goal.invariant-loop-i

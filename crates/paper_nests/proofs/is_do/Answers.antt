@@ -1,5 +1,4 @@
 -- `is_do` meets its contract: past the end there is no point.
-use borrow.Author.Rules.{rules}
 use lib.ListN.{get_or-eq_default}
 use Rattle.paper_nests.proofs.is_do.Goals as goal
 

@@ -1,8 +1,5 @@
-use mathlib.Core.Path.{◌≡◌, refl}
 use Prim.Native.Nat.{◌-◌}
 use native.Mathlib.Omega.{arith}
-use lib.ListN.{length, drop}
-use Rattle.paper_nests.specs.Ring.{no_do, one_loop}
 use Rattle.paper_nests.proofs.Scan.{do_found, no_do_on, no_do_left}
 use Rattle.paper_nests.proofs.is_one_loop.Goals as goal
 

@@ -1,11 +1,9 @@
 -- `is_one_loop` meets its contract. The invariant: the points from i on decide. The measure is what is left of the
 -- points.
-use mathlib.Core.Path.{◌≡◌, refl}
+use mathlib.Core.Path.{◌≡◌}
 use Prim.Native.Nat.{◌-◌}
-use native.Mathlib.Omega.{arith}
 use lib.ListN.{length, drop}
 use Rattle.paper_nests.specs.Ring.{no_do, one_loop}
-use Rattle.paper_nests.proofs.Scan.{do_found, no_do_on, no_do_left}
 use Rattle.paper_nests.proofs.is_one_loop.Given as goal
 
 abbrev pub invariant-loop-i : goal.invariant-loop-i

@@ -1,5 +1,4 @@
 -- `is_source` meets its contract: each way out is one case of the definition.
-use borrow.Author.Rules.{rules}
 use borrow.Author.Tests.{eq-eqb, ne_eqb, lt-ltb, le-ltb}
 use lib.ListN.{length, get_or}
 use Rattle.paper_nests.proofs.is_source.Goals as goal

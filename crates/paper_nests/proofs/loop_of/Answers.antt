@@ -1,5 +1,5 @@
 use native.Mathlib.Omega.{arith}
-use Rattle.paper_nests.proofs.Backward.{Back, back_start, back_found, back_ends}
+use Rattle.paper_nests.proofs.Backward.{back_start, back_found, back_ends}
 use Rattle.paper_nests.proofs.Backward.{back_over_do, back_over_end, back_over_other}
 use Rattle.paper_nests.proofs.loop_of.Goals as goal
 

@@ -1,7 +1,5 @@
 -- `loop_of` meets its contract. The invariant: back to i no level is below the gap's (`Back`). The measure is i.
-use native.Mathlib.Omega.{arith}
-use Rattle.paper_nests.proofs.Backward.{Back, back_start, back_found, back_ends}
-use Rattle.paper_nests.proofs.Backward.{back_over_do, back_over_end, back_over_other}
+use Rattle.paper_nests.proofs.Backward.{Back}
 use Rattle.paper_nests.proofs.loop_of.Given as goal
 
 abbrev pub invariant-loop-i : goal.invariant-loop-i

@@ -2,7 +2,7 @@ use mathlib.Core.Path.{◌≡◌, sym, ◌∙◌}
 use mathlib.Core.Bool.{true}
 use Prim.Native.Nat.{◌-◌}
 use native.Mathlib.Omega.{arith}
-use lib.ListN.{length, get_or}
+use lib.ListN.{get_or}
 use borrow.Author.Tests.{eq-eqb}
 use Rattle.paper_nests.specs.Nests.{Nest}
 use Rattle.paper_nests.specs.Loops.{is_end}
@@ -11,7 +11,7 @@ use Rattle.paper_nests.proofs.Loops.{end_has_do, owner_is_do}
 use Rattle.paper_placements.specs.Placements.{loop_count}
 use Rattle.paper_placements.specs.Words.{gaps_in}
 use Rattle.paper_placements.proofs.Masked.{count_masked}
-use Rattle.paper_placements.proofs.Comparing.{Compares, compare_start, compare_other, compare_done}
+use Rattle.paper_placements.proofs.Comparing.{compare_start, compare_other, compare_done}
 use Rattle.paper_placements.proofs.Comparing.{compare_same, compare_differ}
 use Rattle.paper_placements.proofs.compare.Goals as goal
 

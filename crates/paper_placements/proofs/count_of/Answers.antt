@@ -1,6 +1,5 @@
 -- `count_of` meets its contract: the ones under the mask of the loop's own gaps (`count_masked`).
 use mathlib.Core.Path.{◌∙◌}
-use borrow.Author.Rules.{rules}
 use Rattle.paper_placements.proofs.Masked.{count_masked}
 use Rattle.paper_placements.proofs.count_of.Goals as goal
 

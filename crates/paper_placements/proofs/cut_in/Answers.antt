@@ -2,7 +2,6 @@
 -- lower gap counts.
 use mathlib.Core.Path.{refl}
 use mathlib.Core.Logic.{inl, inr}
-use borrow.Author.Rules.{rules}
 use Rattle.paper_nests.specs.Stored.{dep_in}
 use Rattle.paper_placements.proofs.CutTest.{answer, cut_Line, cut_back}
 use Rattle.paper_placements.proofs.cut_in.Goals as goal

@@ -1,6 +1,5 @@
 -- `loop_count` meets its contract: the shared ones of the four words, one after another (`words_tally`).
 use native.Mathlib.Omega.{arith}
-use borrow.Author.Rules.{rules}
 use Rattle.paper_placements.proofs.Masked.{words_tally}
 use Rattle.paper_placements.proofs.loop_count.Goals as goal
 

@@ -1,9 +1,9 @@
-use Prim.Native.Nat.{suc, ◌-◌, ◌≤◌, ◌<◌}
+use Prim.Native.Nat.{◌-◌, ◌≤◌, ◌<◌}
 use native.Mathlib.Omega.{arith}
 use lib.ListN.{length}
 use Rattle.paper_nests.specs.Loops.{end_of}
 use Rattle.paper_nests.proofs.Levels.{point_in}
-use Rattle.paper_placements.proofs.Mask.{Masking, mask_start, mask_there, mask_depth, mask_put, mask_skip, mask_done}
+use Rattle.paper_placements.proofs.Mask.{mask_start, mask_there, mask_depth, mask_put, mask_skip, mask_done}
 use Rattle.paper_placements.proofs.loop_mask.Goals as goal
 
 pub overflow_add-g : goal.overflow_add-g

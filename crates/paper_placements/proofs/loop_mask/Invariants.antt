@@ -1,11 +1,7 @@
 -- `loop_mask` meets its contract. The invariant: the own gaps passed are in the mask (`Masking`). The measure is what
 -- is left of the loop's range.
-use Prim.Native.Nat.{suc, ◌-◌, ◌≤◌, ◌<◌}
-use native.Mathlib.Omega.{arith}
-use lib.ListN.{length}
-use Rattle.paper_nests.specs.Loops.{end_of}
-use Rattle.paper_nests.proofs.Levels.{point_in}
-use Rattle.paper_placements.proofs.Mask.{Masking, mask_start, mask_there, mask_depth, mask_put, mask_skip, mask_done}
+use Prim.Native.Nat.{suc, ◌-◌}
+use Rattle.paper_placements.proofs.Mask.{Masking}
 use Rattle.paper_placements.proofs.loop_mask.Given as goal
 
 abbrev pub invariant-loop-g : goal.invariant-loop-g

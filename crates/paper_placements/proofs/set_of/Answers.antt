@@ -1,7 +1,6 @@
 use Prim.Native.Nat.{◌-◌}
 use native.Mathlib.Omega.{arith}
-use borrow.Author.Rules.{rules}
-use Rattle.paper_placements.proofs.Sets.{SetFrom, set_none, set_on, set_done}
+use Rattle.paper_placements.proofs.Sets.{set_none, set_on, set_done}
 use Rattle.paper_placements.proofs.set_of.Goals as goal
 
 pub loop-i-init : goal.loop-i-init

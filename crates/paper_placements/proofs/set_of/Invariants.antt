@@ -1,8 +1,6 @@
 -- `set_of` meets its contract: from the last number to the first, each is put into the set (`SetFrom`).
 use Prim.Native.Nat.{◌-◌}
-use native.Mathlib.Omega.{arith}
-use borrow.Author.Rules.{rules}
-use Rattle.paper_placements.proofs.Sets.{SetFrom, set_none, set_on, set_done}
+use Rattle.paper_placements.proofs.Sets.{SetFrom}
 use Rattle.paper_placements.proofs.set_of.Given as goal
 
 abbrev pub invariant-loop-i : goal.invariant-loop-i

@@ -7,7 +7,6 @@ use lib.Seq.{length-take-le}
 use Rattle.paper_nests.specs.Valid.{bar_fault}
 use Rattle.paper_texts.specs.Reads.{closed_by}
 use Rattle.paper_texts.proofs.Faults.{closed_deep, barred_open, barred_full, barred_own}
-use borrow.Author.Rules.{rules}
 use Rattle.paper_texts.proofs.barred_fault.Goals as goal
 
 pub returns-then-bars-ge-BARS : goal.returns-then-bars-ge-BARS

@@ -3,7 +3,6 @@ use mathlib.Core.Path.{refl, sym, ◌∙◌, ap}
 use mathlib.Core.List.{[]}
 use Rattle.paper_texts.specs.NestTexts.{got}
 use Rattle.paper_texts.proofs.BlankPaper.{blank_read, blank_made}
-use borrow.Author.Rules.{rules}
 use Rattle.paper_texts.proofs.blank.Goals as goal
 
 pub returns : goal.returns

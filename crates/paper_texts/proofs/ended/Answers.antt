@@ -1,6 +1,5 @@
 -- At the end all points are there, or the refusal is 4.
 use mathlib.Core.Path.{sym, ◌∙◌}
-use borrow.Author.Rules.{rules}
 use Rattle.paper_texts.proofs.ended.Goals as goal
 
 pub returns-then-is_closed : goal.returns-then-is_closed

@@ -1,7 +1,6 @@
 -- The first points are a part of all.
 use mathlib.Core.Path.{sym}
 use lib.Seq.{length-take-le}
-use borrow.Author.Rules.{rules}
 use Rattle.paper_texts.proofs.is_single.Goals as goal
 
 pub slice_bounds-points-end : goal.slice_bounds-points-end

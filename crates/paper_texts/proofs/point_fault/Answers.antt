@@ -3,7 +3,6 @@ use mathlib.Core.Path.{sym, ◌∙◌}
 use borrow.Author.Tests.{le-leb, lt-leb}
 use native.Mathlib.Omega.{arith}
 use Rattle.paper_texts.proofs.Faults.{point_is}
-use borrow.Author.Rules.{rules}
 use Rattle.paper_texts.proofs.point_fault.Goals as goal
 
 pub returns-then-many-ge1 : goal.returns-then-many-ge1

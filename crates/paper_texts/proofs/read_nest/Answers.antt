@@ -1,10 +1,10 @@
 use mathlib.Core.Path.{◌≡◌, refl, sym, ◌∙◌}
 use Prim.Native.Nat.{◌-◌, ◌%◌, ◌<◌}
 use native.Mathlib.Omega.{arith}
-use lib.ListN.{length, length-set}
+use lib.ListN.{length-set}
 use borrow.Author.Rules.{rules}
 use Rattle.paper_nests.specs.Kinds.{POINTS, DEPENDENCES, BARS}
-use Rattle.paper_texts.proofs.Loading.{Loading, Turn, at_blank, begun, count-inside, deep_fits, at_end, at_refusal}
+use Rattle.paper_texts.proofs.Loading.{Turn, at_blank, begun, count-inside, deep_fits, at_end, at_refusal}
 use Rattle.paper_texts.proofs.Loading.{at_unknown, at_point, at_dependence, at_barred, at_flagged, room_for_point}
 use Rattle.paper_texts.proofs.Loading.{room_for_dependence, room_for_bar, room_for_flagged, next_inside, on_point}
 use Rattle.paper_texts.proofs.Loading.{on_dependence, on_bar, on_flagged}

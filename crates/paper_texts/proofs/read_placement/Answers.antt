@@ -1,10 +1,8 @@
-use borrow.Author.Rules.{rules}
 use mathlib.Core.Path.{sym, ◌∙◌}
 use Prim.Native.Nat.{◌-◌}
 use native.Mathlib.Omega.{arith}
-use lib.ListN.{length}
 use Rattle.paper_placements.specs.Words.{gaps_in}
-use Rattle.paper_texts.proofs.Placing.{Placing, placing, placed_all, placed_bad, placed-fault, next_inside, place_on}
+use Rattle.paper_texts.proofs.Placing.{placing, placed_all, placed_bad, placed-fault, next_inside, place_on}
 use Rattle.paper_texts.proofs.read_placement.Goals as goal
 
 pub loop-number-init : goal.loop-number-init

@@ -1,11 +1,8 @@
 -- Each turn reads one line: it keeps the gaps so far, or is the text's refusal, or its end.
-use borrow.Author.Rules.{rules}
-use mathlib.Core.Path.{sym, ◌∙◌}
 use Prim.Native.Nat.{◌-◌}
-use native.Mathlib.Omega.{arith}
 use lib.ListN.{length}
 use Rattle.paper_placements.specs.Words.{gaps_in}
-use Rattle.paper_texts.proofs.Placing.{Placing, placing, placed_all, placed_bad, placed-fault, next_inside, place_on}
+use Rattle.paper_texts.proofs.Placing.{Placing}
 use Rattle.paper_texts.proofs.read_placement.Given as goal
 
 abbrev pub invariant-loop-number : goal.invariant-loop-number

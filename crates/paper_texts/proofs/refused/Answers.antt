@@ -1,7 +1,6 @@
 -- A refused text gives the empty nest.
 use mathlib.Core.Path.{ap}
 use Rattle.paper_texts.specs.NestTexts.{got}
-use borrow.Author.Rules.{rules}
 use Rattle.paper_texts.proofs.refused.Goals as goal
 
 pub returns : goal.returns

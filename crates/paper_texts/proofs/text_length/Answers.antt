@@ -1,7 +1,6 @@
-use Prim.Native.Nat.{◌*◌, ◌-◌, ◌≤◌}
+use Prim.Native.Nat.{◌-◌}
 use native.Mathlib.Omega.{arith}
-use borrow.Author.Rules.{rules}
-use Rattle.paper_texts.proofs.Written.{LengthInv, lowest_up, length_begin, length_on, length_done}
+use Rattle.paper_texts.proofs.Written.{lowest_up, length_begin, length_on, length_done}
 use Rattle.paper_texts.proofs.text_length.Goals as goal
 
 pub loop-g-init : goal.loop-g-init

@@ -1,8 +1,6 @@
 -- The barriers passed and those left add up to the whole text.
 use Prim.Native.Nat.{◌*◌, ◌-◌, ◌≤◌}
-use native.Mathlib.Omega.{arith}
-use borrow.Author.Rules.{rules}
-use Rattle.paper_texts.proofs.Written.{LengthInv, lowest_up, length_begin, length_on, length_done}
+use Rattle.paper_texts.proofs.Written.{LengthInv}
 use Rattle.paper_texts.proofs.text_length.Given as goal
 
 abbrev pub invariant-loop-g : goal.invariant-loop-g

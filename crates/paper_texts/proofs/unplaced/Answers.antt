@@ -2,7 +2,6 @@
 use mathlib.Core.Path.{ap}
 use Rattle.paper_placements.proofs.Words.{gaps_none}
 use Rattle.paper_texts.specs.PlacementTexts.{placed}
-use borrow.Author.Rules.{rules}
 use Rattle.paper_texts.proofs.unplaced.Goals as goal
 
 pub returns : goal.returns

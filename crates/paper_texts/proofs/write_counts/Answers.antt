@@ -1,10 +1,10 @@
-use mathlib.Core.Path.{◌≡◌, refl}
+use mathlib.Core.Path.{◌≡◌}
 use Prim.Native.Nat.{◌+◌, ◌-◌, ◌≤◌}
 use native.Mathlib.Omega.{arith}
 use lib.ListN.{length, length-take, length-drop}
 use borrow.Author.Rules.{rules}
 use Rattle.paper_placements.specs.Words.{gaps_in}
-use Rattle.paper_texts.proofs.Counting.{Given, Counting, count_begin, count_length, count_within}
+use Rattle.paper_texts.proofs.Counting.{Given, count_begin, count_length, count_within}
 use Rattle.paper_texts.proofs.Counting.{count_room, count_skip, count_on, count_done}
 use Rattle.paper_texts.proofs.write_counts.Goals as goal
 

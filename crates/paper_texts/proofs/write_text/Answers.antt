@@ -1,10 +1,10 @@
-use mathlib.Core.Path.{◌≡◌, refl, ap}
+use mathlib.Core.Path.{◌≡◌, ap}
 use Prim.Native.Nat.{ℕ, ◌+◌, ◌-◌, ◌%◌, ◌≤◌, ◌<◌}
 use native.Mathlib.Omega.{arith}
 use mathlib.Core.List.{[], ◌∷◌}
 use lib.ListN.{length, length-take, length-drop}
 use borrow.Author.Rules.{rules}
-use Rattle.paper_texts.proofs.Written.{WriteInv, lowest_up, write_in, write_begin, write_room, write_on, write_done}
+use Rattle.paper_texts.proofs.Written.{lowest_up, write_in, write_begin, write_room, write_on, write_done}
 use Rattle.paper_texts.proofs.write_text.Goals as goal
 
 pub loop-g-init : goal.loop-g-init

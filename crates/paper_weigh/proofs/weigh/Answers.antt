@@ -1,10 +1,9 @@
 use Prim.Native.Nat.{ℕ, ◌-◌, ◌<◌}
 use native.Mathlib.Omega.{arith}
-use lib.ListN.{length, get_or}
+use lib.ListN.{get_or}
 use Rattle.paper_placements.specs.Words.{gaps_in}
-use Rattle.paper_weigh.proofs.ByTables.{Weighs, Turn, Ending, in_tables}
+use Rattle.paper_weigh.proofs.ByTables.{Turn, Ending, in_tables}
 use Rattle.paper_weigh.proofs.ByTables.{by_start, by_other, by_hidden, by_same, by_less, by_more, by_done}
-use borrow.Author.Rules.{rules}
 use Rattle.paper_weigh.proofs.weigh.Goals as goal
 
 pub owners_of-owners-requires : goal.owners_of-owners-requires

@@ -3,12 +3,11 @@ use mathlib.Core.List.{List}
 use Prim.Native.Nat.{ℕ, ◌+◌, ◌-◌, ◌*◌, ◌≤◌, ◌<◌}
 use native.Mathlib.Omega.{arith}
 use lib.ListN.{length, set, length-set}
-use borrow.Author.Rules.{rules}
 use Rattle.laws.specs.Entries.{at}
 use Rattle.plan_sweeps.specs.Listed.{row}
 use Rattle.plan_lay.proofs.Calls.{Call, called, picked}
 use Rattle.plan_lay.proofs.Sharing.{lowered_kept}
-use Rattle.plan_lay.proofs.Turns.{Laying, begin, on_put, on_skip, child_long, child_asked, on_child}
+use Rattle.plan_lay.proofs.Turns.{begin, on_put, on_skip, child_long, child_asked, on_child}
 use Rattle.plan_lay.proofs.Whole.{Lowered, lowered_size, blank, done}
 use Rattle.plan_lay.proofs.+lay.Goals as goal
 

@@ -1,17 +1,7 @@
 -- `lay` meets its contract; the height falls at each call. The invariant of its loop: the placement holds what the
 -- sweep has laid so far (`Laying`). At its end that is what the loop lays (`done`).
-use mathlib.Core.Path.{◌≡◌, refl, ◌∙◌, ap}
-use mathlib.Core.List.{List}
-use Prim.Native.Nat.{ℕ, ◌+◌, ◌-◌, ◌*◌, ◌≤◌, ◌<◌}
-use native.Mathlib.Omega.{arith}
-use lib.ListN.{length, set, length-set}
-use borrow.Author.Rules.{rules}
-use Rattle.laws.specs.Entries.{at}
-use Rattle.plan_sweeps.specs.Listed.{row}
-use Rattle.plan_lay.proofs.Calls.{Call, called, picked}
-use Rattle.plan_lay.proofs.Sharing.{lowered_kept}
-use Rattle.plan_lay.proofs.Turns.{Laying, begin, on_put, on_skip, child_long, child_asked, on_child}
-use Rattle.plan_lay.proofs.Whole.{Lowered, lowered_size, blank, done}
+use Prim.Native.Nat.{◌-◌}
+use Rattle.plan_lay.proofs.Turns.{Laying}
 use Rattle.plan_lay.proofs.+lay.Given as goal
 
 abbrev pub invariant-loop-p : goal.invariant-loop-p

@@ -1,6 +1,5 @@
 -- `put_where` meets its contract.
 use mathlib.Core.Path.{refl}
-use borrow.Author.Rules.{rules}
 use borrow.Author.Tests.{lt-ltb, le-ltb}
 use Rattle.plan_lay.proofs.put_where.Goals as goal
 

@@ -5,7 +5,7 @@ use lib.ListN.{get_or}
 use mir.Syntax.{w8}
 use mir.Val.{Fits}
 use Rattle.laws.proofs.Copies.{copies}
-use Rattle.plan_paper.proofs.Ranking.{FreeFrom, free_start, free_on, free_done}
+use Rattle.plan_paper.proofs.Ranking.{free_start, free_on, free_done}
 use Rattle.plan_paper.proofs.free_of.Goals as goal
 
 pub loop-i-init : goal.loop-i-init

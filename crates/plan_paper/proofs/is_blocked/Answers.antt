@@ -1,7 +1,6 @@
 -- `is_blocked` meets its contract: a nest with nothing barred is open (`open_paper`), and one with barred gaps has one
 -- loop (`one_loop_paper`).
 use mathlib.Core.Path.{sym}
-use borrow.Author.Rules.{rules}
 use Rattle.plan_paper.proofs.Papers.{open_paper, one_loop_paper}
 use Rattle.plan_paper.proofs.is_blocked.Goals as goal
 

@@ -1,5 +1,4 @@
 -- `plan_paper` meets its contract: one law for each way through it (proofs/Papers).
-use borrow.Author.Rules.{rules}
 use Rattle.paper_placements.proofs.Words.{gaps_none}
 use Rattle.plan_paper.proofs.Papers.{one_loop_paper, paper_plain, paper_blocked, ring_valid, paper_barred}
 use Rattle.plan_paper.proofs.plan_paper.Goals as goal

@@ -1,14 +1,9 @@
 -- `ranks_of` meets its contract: before gap g the table has ranks, from g on what each gap adds (`RanksTo`), if that was
 -- so at the start.
-use mathlib.Core.Path.{◌≡◌}
 use mathlib.Core.List.{List}
 use Prim.Native.Nat.{ℕ, ◌-◌}
-use native.Mathlib.Omega.{arith}
-use borrow.Author.Rules.{rules}
-use lib.ListN.{length}
 use Rattle.paper_nests.specs.Kinds.{POINTS}
-use Rattle.paper_nests.specs.Stored.{nest_in}
-use Rattle.plan_paper.proofs.Ranking.{RanksTo, ranks_start, rank_fits, ranks_on, ranks_done}
+use Rattle.plan_paper.proofs.Ranking.{RanksTo}
 use Rattle.plan_paper.proofs.ranks_of.Given as goal
 
 abbrev pub invariant-loop-g : goal.invariant-loop-g

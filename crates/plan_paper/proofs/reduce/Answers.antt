@@ -1,13 +1,12 @@
 use mathlib.Core.Path.{◌≡◌, sym, ap, ◌∙◌}
 use Prim.Native.Nat.{◌-◌, ◌<◌}
 use native.Mathlib.Omega.{arith}
-use borrow.Author.Rules.{rules}
 use lib.ListN.{set}
 use Rattle.laws.specs.Entries.{at}
 use Rattle.paper_nests.specs.Kinds.{POINTS}
 use Rattle.plan_paper.specs.Renumbering.{ring_end}
-use Rattle.plan_paper.proofs.Rings.{top_of, IsRing, some_gap, top_is, end_fits, ring_start, ring_kept}
-use Rattle.plan_paper.proofs.Reducing.{DepsFrom, Turn, dep_at, from_point, to_point, deps_start, reduce_done}
+use Rattle.plan_paper.proofs.Rings.{top_of, some_gap, top_is, end_fits, ring_start, ring_kept}
+use Rattle.plan_paper.proofs.Reducing.{Turn, dep_at, from_point, to_point, deps_start, reduce_done}
 use Rattle.plan_paper.proofs.Reducing.{turn_within, source_fits, target_fits}
 use Rattle.plan_paper.proofs.Reducing.{reduce_kept, reduce_stretch, reduce_shut}
 use Rattle.plan_paper.proofs.reduce.Goals as goal

@@ -1,6 +1,5 @@
 -- `stretch` meets its contract: each way out is one case of the definition.
 use native.Mathlib.Omega.{arith}
-use borrow.Author.Rules.{rules}
 use borrow.Author.Tests.{eq-eqb, ne_eqb, le-leb, lt-leb}
 use Rattle.plan_paper.proofs.stretch.Goals as goal
 

@@ -1,14 +1,13 @@
 use mathlib.Core.Path.{◌≡◌, sym, ◌∙◌}
 use Prim.Native.Nat.{◌-◌, ◌<◌}
 use native.Mathlib.Omega.{arith}
-use borrow.Author.Rules.{rules}
 use Rattle.laws.specs.Entries.{at}
 use Rattle.paper_nests.specs.Kinds.{POINTS}
 use Rattle.paper_nests.specs.Stored.{nest_in}
 use Rattle.paper_placements.specs.Words.{GAPS}
 use Rattle.paper_barred.specs.Ranks.{rank}
 use Rattle.paper_barred.proofs.Ranks.{rank_le}
-use Rattle.plan_paper.proofs.TakingBack.{Taking, take_start, taken, passed, take_done}
+use Rattle.plan_paper.proofs.TakingBack.{take_start, taken, passed, take_done}
 use Rattle.plan_paper.proofs.taken_back.Goals as goal
 
 pub loop-g-init : goal.loop-g-init

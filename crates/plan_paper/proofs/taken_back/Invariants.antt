@@ -1,15 +1,8 @@
 -- `taken_back` meets its contract: before gap g the gaps are taken back, and `rank` is the key's next rank (`Taking`).
-use mathlib.Core.Path.{◌≡◌, sym, ◌∙◌}
-use Prim.Native.Nat.{◌-◌, ◌<◌}
-use native.Mathlib.Omega.{arith}
-use borrow.Author.Rules.{rules}
-use Rattle.laws.specs.Entries.{at}
-use Rattle.paper_nests.specs.Kinds.{POINTS}
+use Prim.Native.Nat.{◌-◌}
 use Rattle.paper_nests.specs.Stored.{nest_in}
-use Rattle.paper_placements.specs.Words.{GAPS}
 use Rattle.paper_barred.specs.Ranks.{rank}
-use Rattle.paper_barred.proofs.Ranks.{rank_le}
-use Rattle.plan_paper.proofs.TakingBack.{Taking, take_start, taken, passed, take_done}
+use Rattle.plan_paper.proofs.TakingBack.{Taking}
 use Rattle.plan_paper.proofs.taken_back.Given as goal
 
 abbrev pub invariant-loop-g : goal.invariant-loop-g

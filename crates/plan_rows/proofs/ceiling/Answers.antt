@@ -1,5 +1,4 @@
 -- `ceiling` meets its contract, by its test.
-use borrow.Author.Rules.{rules}
 use native.Mathlib.Omega.{arith}
 use Rattle.plan_rows.proofs.ceiling.Goals as goal
 

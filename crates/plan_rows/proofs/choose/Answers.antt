@@ -1,6 +1,5 @@
 use native.Mathlib.Omega.{arith}
-use borrow.Author.Rules.{rules}
-use Rattle.plan_rows.proofs.Choosing.{Choosing, choosing_none, choosing_more, choosing_all}
+use Rattle.plan_rows.proofs.Choosing.{choosing_none, choosing_more, choosing_all}
 use Rattle.plan_rows.proofs.choose.Goals as goal
 
 pub loop-q-init : goal.loop-q-init

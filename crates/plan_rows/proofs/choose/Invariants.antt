@@ -1,7 +1,5 @@
 -- `choose` meets its contract. The invariant: the suffixes after q are chosen from (`Choosing`).
-use native.Mathlib.Omega.{arith}
-use borrow.Author.Rules.{rules}
-use Rattle.plan_rows.proofs.Choosing.{Choosing, choosing_none, choosing_more, choosing_all}
+use Rattle.plan_rows.proofs.Choosing.{Choosing}
 use Rattle.plan_rows.proofs.choose.Given as goal
 
 abbrev pub invariant-loop-q : goal.invariant-loop-q

@@ -1,8 +1,7 @@
 use mathlib.Core.Path.{◌≡◌, refl, ◌∙◌}
-use Prim.Native.Nat.{◌+◌, ◌-◌, ◌≤◌}
+use Prim.Native.Nat.{◌+◌, ◌-◌}
 use native.Mathlib.Omega.{arith}
-use lib.ListN.{length, length-set}
-use Rattle.plan_rows.specs.Made.{Cleared}
+use lib.ListN.{length-set}
 use Rattle.plan_rows.proofs.Copying.{cleared_none, cleared_more}
 use Rattle.plan_rows.proofs.clear.Goals as goal
 

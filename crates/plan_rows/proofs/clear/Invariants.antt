@@ -1,10 +1,8 @@
 -- `clear` meets its contract. The invariant: the entries up to p are cleared.
-use mathlib.Core.Path.{◌≡◌, refl, ◌∙◌}
-use Prim.Native.Nat.{◌+◌, ◌-◌, ◌≤◌}
-use native.Mathlib.Omega.{arith}
-use lib.ListN.{length, length-set}
+use mathlib.Core.Path.{◌≡◌}
+use Prim.Native.Nat.{◌-◌, ◌≤◌}
+use lib.ListN.{length}
 use Rattle.plan_rows.specs.Made.{Cleared}
-use Rattle.plan_rows.proofs.Copying.{cleared_none, cleared_more}
 use Rattle.plan_rows.proofs.clear.Given as goal
 
 abbrev pub invariant-loop-p : goal.invariant-loop-p

@@ -1,9 +1,6 @@
 use mathlib.Core.Path.{◌≡◌, refl, ◌∙◌}
-use Prim.Native.Nat.{◌-◌, ◌≤◌}
+use Prim.Native.Nat.{◌-◌}
 use native.Mathlib.Omega.{arith}
-use borrow.Author.Rules.{rules}
-use lib.ListN.{length}
-use Rattle.plan_rows.specs.Made.{RowsCleared}
 use Rattle.plan_rows.proofs.Copying.{rows_none, rows_more}
 use Rattle.plan_rows.proofs.clear_rows.Goals as goal
 

@@ -1,11 +1,8 @@
 -- `clear_rows` meets its contract: after r turns the rows 1 to r are cleared.
-use mathlib.Core.Path.{◌≡◌, refl, ◌∙◌}
+use mathlib.Core.Path.{◌≡◌}
 use Prim.Native.Nat.{◌-◌, ◌≤◌}
-use native.Mathlib.Omega.{arith}
-use borrow.Author.Rules.{rules}
 use lib.ListN.{length}
 use Rattle.plan_rows.specs.Made.{RowsCleared}
-use Rattle.plan_rows.proofs.Copying.{rows_none, rows_more}
 use Rattle.plan_rows.proofs.clear_rows.Given as goal
 
 abbrev pub invariant-loop-r : goal.invariant-loop-r

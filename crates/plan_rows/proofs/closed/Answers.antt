@@ -1,5 +1,4 @@
 -- `closed` meets its contract, by its test (Suffix).
-use borrow.Author.Rules.{rules}
 use native.Mathlib.Omega.{arith}
 use Rattle.plan_rows.proofs.Suffix.{close_low, close_high}
 use Rattle.plan_rows.proofs.closed.Goals as goal

@@ -1,6 +1,6 @@
 use Prim.Native.Nat.{◌+◌, ◌-◌}
 use native.Mathlib.Omega.{arith}
-use Rattle.plan_rows.proofs.Copying.{Copying, copied_none, Copied-more}
+use Rattle.plan_rows.proofs.Copying.{copied_none, Copied-more}
 use Rattle.plan_rows.proofs.copy_row.Goals as goal
 
 pub loop-p-init : goal.loop-p-init

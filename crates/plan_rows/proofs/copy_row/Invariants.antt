@@ -1,7 +1,6 @@
 -- `copy_row` meets its contract. The invariant: the entries up to p are copied.
-use Prim.Native.Nat.{◌+◌, ◌-◌}
-use native.Mathlib.Omega.{arith}
-use Rattle.plan_rows.proofs.Copying.{Copying, copied_none, Copied-more}
+use Prim.Native.Nat.{◌-◌}
+use Rattle.plan_rows.proofs.Copying.{Copying}
 use Rattle.plan_rows.proofs.copy_row.Given as goal
 
 abbrev pub invariant-loop-p : goal.invariant-loop-p

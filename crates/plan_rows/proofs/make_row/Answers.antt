@@ -1,5 +1,4 @@
 -- `make_row` meets its contract: the values, then the choice among them; or zeros where nothing is to cut (Making).
-use borrow.Author.Rules.{rules}
 use native.Mathlib.Omega.{arith}
 use Rattle.plan_rows.proofs.Making.{starts_room, values_room, values_are, made_Some, made_none}
 use Rattle.plan_rows.proofs.make_row.Goals as goal

@@ -1,9 +1,8 @@
 use mathlib.Core.Path.{◌∙◌}
 use Prim.Native.Nat.{◌-◌}
 use native.Mathlib.Omega.{arith}
-use borrow.Author.Rules.{rules}
-use Rattle.plan_rows.proofs.Valuing.{EarlyValuing, first_small, early_none, early_low, early_high}
-use Rattle.plan_rows.proofs.Valuing.{LateValuing, late_none, late_small, late_more, late_all}
+use Rattle.plan_rows.proofs.Valuing.{first_small, early_none, early_low, early_high}
+use Rattle.plan_rows.proofs.Valuing.{late_none, late_small, late_more, late_all}
 use Rattle.plan_rows.proofs.values.Goals as goal
 
 pub ceiling-m-requires : goal.ceiling-m-requires

@@ -1,12 +1,9 @@
 -- `values` meets its contract. The invariant of both loops: the values up to p stand in place of what is made from each
 -- start on, and the rest is untouched (`Valuing`). In the first the least is that of `first` or one more
 -- (`EarlyValuing`); in the second no start with a line in the loop lies after p + 1 (`LateValuing`).
-use mathlib.Core.Path.{◌∙◌}
 use Prim.Native.Nat.{◌-◌}
-use native.Mathlib.Omega.{arith}
-use borrow.Author.Rules.{rules}
-use Rattle.plan_rows.proofs.Valuing.{EarlyValuing, first_small, early_none, early_low, early_high}
-use Rattle.plan_rows.proofs.Valuing.{LateValuing, late_none, late_small, late_more, late_all}
+use Rattle.plan_rows.proofs.Valuing.{EarlyValuing}
+use Rattle.plan_rows.proofs.Valuing.{LateValuing}
 use Rattle.plan_rows.proofs.values.Given as goal
 
 abbrev pub invariant-loop-p : goal.invariant-loop-p

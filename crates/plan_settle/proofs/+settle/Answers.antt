@@ -1,11 +1,10 @@
 use mathlib.Core.Path.{◌∙◌}
-use Prim.Native.Nat.{ℕ, ◌+◌, ◌-◌, ◌*◌, ◌<◌}
+use Prim.Native.Nat.{◌+◌, ◌-◌, ◌*◌}
 use native.Mathlib.Omega.{arith}
-use borrow.Author.Rules.{rules}
 use Rattle.plan_rows.specs.Made.{ListsRoom}
 use Rattle.plan_settle.proofs.Calls.{Call, called}
-use Rattle.plan_settle.proofs.Lists.{Lent, lent_all, lent_on, lent_room}
-use Rattle.plan_settle.proofs.Turns.{Settling, begin, on_plain, child_asked, child_long, child_short, on_child}
+use Rattle.plan_settle.proofs.Lists.{lent_all, lent_on, lent_room}
+use Rattle.plan_settle.proofs.Turns.{begin, on_plain, child_asked, child_long, child_short, on_child}
 use Rattle.plan_settle.proofs.Own.{done}
 use Rattle.plan_settle.proofs.Quiet.{quiet_done}
 use Rattle.plan_settle.proofs.Grounded.{row_room}

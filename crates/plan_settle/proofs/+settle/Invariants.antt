@@ -1,17 +1,9 @@
 -- `settle` meets its contract; the height falls at each call. The invariant of its loop: the loops inside d that lie
 -- before i are settled (`Settling`). At its end the loop's own row is made (`done`). Where nothing is to be cut the
 -- rows stay as they are (`quiet_done`).
-use mathlib.Core.Path.{◌∙◌}
-use Prim.Native.Nat.{ℕ, ◌+◌, ◌-◌, ◌*◌, ◌<◌}
-use native.Mathlib.Omega.{arith}
-use borrow.Author.Rules.{rules}
-use Rattle.plan_rows.specs.Made.{ListsRoom}
-use Rattle.plan_settle.proofs.Calls.{Call, called}
-use Rattle.plan_settle.proofs.Lists.{Lent, lent_all, lent_on, lent_room}
-use Rattle.plan_settle.proofs.Turns.{Settling, begin, on_plain, child_asked, child_long, child_short, on_child}
-use Rattle.plan_settle.proofs.Own.{done}
-use Rattle.plan_settle.proofs.Quiet.{quiet_done}
-use Rattle.plan_settle.proofs.Grounded.{row_room}
+use Prim.Native.Nat.{◌-◌}
+use Rattle.plan_settle.proofs.Lists.{Lent}
+use Rattle.plan_settle.proofs.Turns.{Settling}
 use Rattle.plan_settle.proofs.+settle.Given as goal
 
 abbrev pub invariant-loop-i : goal.invariant-loop-i

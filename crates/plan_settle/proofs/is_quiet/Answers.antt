@@ -1,7 +1,5 @@
-use Prim.Native.Nat.{◌-◌, ◌≤◌}
+use Prim.Native.Nat.{◌-◌}
 use native.Mathlib.Omega.{arith}
-use borrow.Author.Rules.{rules}
-use Rattle.plan_settle.specs.Settled.{Quiet}
 use Rattle.plan_settle.proofs.Quiet.{quiet_more, quiet_all, quiet_not}
 use Rattle.plan_settle.proofs.is_quiet.Goals as goal
 

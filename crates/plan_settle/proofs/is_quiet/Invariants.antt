@@ -1,9 +1,6 @@
 -- `is_quiet` meets its contract: the loops passed are no homes, and the first that is one ends the search.
 use Prim.Native.Nat.{◌-◌, ◌≤◌}
-use native.Mathlib.Omega.{arith}
-use borrow.Author.Rules.{rules}
 use Rattle.plan_settle.specs.Settled.{Quiet}
-use Rattle.plan_settle.proofs.Quiet.{quiet_more, quiet_all, quiet_not}
 use Rattle.plan_settle.proofs.is_quiet.Given as goal
 
 abbrev pub invariant-loop-i : goal.invariant-loop-i

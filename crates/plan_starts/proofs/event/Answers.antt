@@ -1,5 +1,4 @@
 -- `event` meets its contract: the loop inside cuts all, or a barrier stands after it (Happenings).
-use borrow.Author.Rules.{rules}
 use native.Mathlib.Omega.{arith}
 use mathlib.Core.Path.{sym}
 use Rattle.plan_sweeps.specs.Listed.{row}

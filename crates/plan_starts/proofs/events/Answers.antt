@@ -1,10 +1,9 @@
 use mathlib.Core.Path.{◌≡◌}
 use Prim.Native.Nat.{◌-◌}
 use native.Mathlib.Omega.{arith}
-use borrow.Author.Rules.{rules}
 use Rattle.laws.specs.Entries.{at}
 use Rattle.plan_sweeps.proofs.Steps.{seek_high}
-use Rattle.plan_starts.proofs.Eventing.{Eventing, eventing_none, eventing_plain, eventing_child, child_room}
+use Rattle.plan_starts.proofs.Eventing.{eventing_none, eventing_plain, eventing_child, child_room}
 use Rattle.plan_starts.proofs.events.Goals as goal
 
 pub loop-p-init : goal.loop-p-init

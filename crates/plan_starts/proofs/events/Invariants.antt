@@ -1,11 +1,6 @@
 -- `events` meets its contract. The invariant: the events above the boundary p are there (`Eventing`).
-use mathlib.Core.Path.{◌≡◌}
 use Prim.Native.Nat.{◌-◌}
-use native.Mathlib.Omega.{arith}
-use borrow.Author.Rules.{rules}
-use Rattle.laws.specs.Entries.{at}
-use Rattle.plan_sweeps.proofs.Steps.{seek_high}
-use Rattle.plan_starts.proofs.Eventing.{Eventing, eventing_none, eventing_plain, eventing_child, child_room}
+use Rattle.plan_starts.proofs.Eventing.{Eventing}
 use Rattle.plan_starts.proofs.events.Given as goal
 
 abbrev pub invariant-loop-p : goal.invariant-loop-p

@@ -1,17 +1,10 @@
 -- `events_child` meets its contract: the gap after the loop, then the gaps of the loop from the right. The invariant: the
 -- gaps after x are filled (`Filling`), and `outer` is the front of a barrier after the loop.
-use Prim.Native.Nat.{ℕ, suc, ◌+◌, ◌≤◌}
-use native.Mathlib.Omega.{arith}
-use borrow.Author.Rules.{rules}
-use mathlib.Core.Path.{◌≡◌, ◌∙◌, ap}
-use lib.ListN.{set}
+use Prim.Native.Nat.{suc, ◌≤◌}
+use mathlib.Core.Path.{◌≡◌}
 use Rattle.plan_sweeps.specs.Listed.{row}
 use Rattle.laws.specs.Choice.{first_of}
-use Rattle.laws.specs.Entries.{at}
-use Rattle.plan_sweeps.proofs.Steps.{seek_high}
-use Rattle.plan_starts.specs.Started.{front_or}
-use Rattle.plan_starts.proofs.Filling.{Filling, outer_is, filling_after, filling_more}
-use Rattle.plan_starts.proofs.Filling.{rebased, room_on, said_on, filled}
+use Rattle.plan_starts.proofs.Filling.{Filling}
 use Rattle.plan_starts.proofs.events_child.Given as goal
 
 abbrev pub invariant-loop-x : goal.invariant-loop-x

@@ -1,9 +1,8 @@
 use Prim.Native.Nat.{◌+◌, ◌-◌}
 use native.Mathlib.Omega.{arith}
-use borrow.Author.Rules.{rules}
 use mathlib.Core.Path.{◌≡◌}
 use Rattle.laws.specs.Entries.{at}
-use Rattle.plan_starts.proofs.Following.{Following, Next, following_none, next, following_more}
+use Rattle.plan_starts.proofs.Following.{Next, following_none, next, following_more}
 use Rattle.plan_starts.proofs.follow.Goals as goal
 
 pub loop-p-init : goal.loop-p-init

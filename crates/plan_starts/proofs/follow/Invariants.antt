@@ -1,10 +1,6 @@
 -- `follow` meets its contract. The invariant: the starts up to p are followed (`Following`).
-use Prim.Native.Nat.{◌+◌, ◌-◌}
-use native.Mathlib.Omega.{arith}
-use borrow.Author.Rules.{rules}
-use mathlib.Core.Path.{◌≡◌}
-use Rattle.laws.specs.Entries.{at}
-use Rattle.plan_starts.proofs.Following.{Following, Next, following_none, next, following_more}
+use Prim.Native.Nat.{◌-◌}
+use Rattle.plan_starts.proofs.Following.{Following}
 use Rattle.plan_starts.proofs.follow.Given as goal
 
 abbrev pub invariant-loop-p : goal.invariant-loop-p

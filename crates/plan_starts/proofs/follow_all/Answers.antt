@@ -1,6 +1,5 @@
 -- `follow_all` meets its contract: the events, followed from left to right, are what the sweeps make (Whole).
 use mathlib.Core.Path.{◌∙◌}
-use borrow.Author.Rules.{rules}
 use lib.ListN.{length-set}
 use Rattle.plan_starts.proofs.Whole.{follow_room, joined}
 use Rattle.plan_starts.proofs.follow_all.Goals as goal

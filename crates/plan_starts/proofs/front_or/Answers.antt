@@ -1,6 +1,5 @@
 -- `front_or` meets its contract.
 use mathlib.Core.Path.{sym}
-use borrow.Author.Rules.{rules}
 use Rattle.laws.proofs.Choices.{first_set}
 use Rattle.plan_starts.proofs.front_or.Goals as goal
 

@@ -1,7 +1,6 @@
 use Prim.Native.Nat.{◌+◌, ◌-◌}
 use native.Mathlib.Omega.{arith}
-use borrow.Author.Rules.{rules}
-use Rattle.plan_starts.proofs.Marking.{Marking, marking_none, marking_do, marking_other, marking_all}
+use Rattle.plan_starts.proofs.Marking.{marking_none, marking_do, marking_other, marking_all}
 use Rattle.plan_starts.proofs.mark.Goals as goal
 
 pub loop-p-init : goal.loop-p-init

@@ -1,8 +1,6 @@
 -- `mark` meets its contract. The invariant: the gaps up to p are marked (`Marking`).
-use Prim.Native.Nat.{◌+◌, ◌-◌}
-use native.Mathlib.Omega.{arith}
-use borrow.Author.Rules.{rules}
-use Rattle.plan_starts.proofs.Marking.{Marking, marking_none, marking_do, marking_other, marking_all}
+use Prim.Native.Nat.{◌-◌}
+use Rattle.plan_starts.proofs.Marking.{Marking}
 use Rattle.plan_starts.proofs.mark.Given as goal
 
 abbrev pub invariant-loop-p : goal.invariant-loop-p

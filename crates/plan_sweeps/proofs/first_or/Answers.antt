@@ -1,6 +1,5 @@
 -- `first_or` meets its contract.
 use mathlib.Core.Path.{sym}
-use borrow.Author.Rules.{rules}
 use Rattle.laws.proofs.Choices.{first_set}
 use Rattle.plan_sweeps.proofs.first_or.Goals as goal
 

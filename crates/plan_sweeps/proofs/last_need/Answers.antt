@@ -1,9 +1,7 @@
-use mathlib.Core.Path.{◌≡◌, refl, sym, ◌∙◌}
-use Prim.Native.Nat.{◌≤◌}
+use mathlib.Core.Path.{refl, sym, ◌∙◌}
 use native.Mathlib.Omega.{arith}
 use borrow.Author.Rules.{rules}
 use Rattle.laws.specs.Entries.{at}
-use Rattle.plan_method.specs.Sweep.{seek}
 use Rattle.plan_sweeps.proofs.Seek.{seek_here, seek_on, seek_none}
 use Rattle.plan_sweeps.proofs.last_need.Goals as goal
 

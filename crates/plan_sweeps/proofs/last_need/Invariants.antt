@@ -1,11 +1,8 @@
 -- `last_need` meets its contract. The invariant: what is sought from p is still sought from a.
-use mathlib.Core.Path.{◌≡◌, refl, sym, ◌∙◌}
+use mathlib.Core.Path.{◌≡◌}
 use Prim.Native.Nat.{◌≤◌}
-use native.Mathlib.Omega.{arith}
-use borrow.Author.Rules.{rules}
 use Rattle.laws.specs.Entries.{at}
 use Rattle.plan_method.specs.Sweep.{seek}
-use Rattle.plan_sweeps.proofs.Seek.{seek_here, seek_on, seek_none}
 use Rattle.plan_sweeps.proofs.last_need.Given as goal
 
 abbrev pub invariant-loop-a : goal.invariant-loop-a

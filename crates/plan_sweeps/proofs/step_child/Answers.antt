@@ -1,7 +1,6 @@
 -- `step_child` meets its contract, in each of the three cases of a step over a child (Steps).
 use Prim.Native.Nat.{◌+◌, ◌≤◌}
 use native.Mathlib.Omega.{arith}
-use borrow.Author.Rules.{rules}
 use Rattle.plan_sweeps.proofs.Steps.{step_free, step_inner, step_outer}
 use Rattle.plan_sweeps.proofs.step_child.Goals as goal
 

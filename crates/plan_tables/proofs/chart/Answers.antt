@@ -1,9 +1,8 @@
-use mathlib.Core.Path.{◌≡◌, refl}
+use mathlib.Core.Path.{refl}
 use Prim.Native.Nat.{◌-◌}
 use native.Mathlib.Omega.{arith}
-use borrow.Author.Rules.{rules}
-use lib.ListN.{length, length-set}
-use Rattle.plan_tables.proofs.Charting.{Charting, chart_start, chart_done, on_do, on_end, on_plain, height_there}
+use lib.ListN.{length-set}
+use Rattle.plan_tables.proofs.Charting.{chart_start, chart_done, on_do, on_end, on_plain, height_there}
 use Rattle.plan_tables.proofs.chart.Goals as goal
 
 pub loop-i-init : goal.loop-i-init

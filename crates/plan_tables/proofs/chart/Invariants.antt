@@ -1,10 +1,8 @@
 -- `chart` meets its contract: each turn notes the loop of one more gap, and what the point there says (`Charting`).
-use mathlib.Core.Path.{◌≡◌, refl}
+use mathlib.Core.Path.{◌≡◌}
 use Prim.Native.Nat.{◌-◌}
-use native.Mathlib.Omega.{arith}
-use borrow.Author.Rules.{rules}
-use lib.ListN.{length, length-set}
-use Rattle.plan_tables.proofs.Charting.{Charting, chart_start, chart_done, on_do, on_end, on_plain, height_there}
+use lib.ListN.{length}
+use Rattle.plan_tables.proofs.Charting.{Charting}
 use Rattle.plan_tables.proofs.chart.Given as goal
 
 abbrev pub invariant-loop-i : goal.invariant-loop-i

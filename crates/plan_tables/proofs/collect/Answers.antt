@@ -1,6 +1,4 @@
-use borrow.Author.Rules.{rules}
-use Rattle.paper_nests.specs.Stored.{nest_in}
-use Rattle.plan_tables.proofs.Collecting.{Collecting, collect_start, fits_here, collect_on, collect_done}
+use Rattle.plan_tables.proofs.Collecting.{collect_start, fits_here, collect_on, collect_done}
 use Rattle.plan_tables.proofs.collect.Goals as goal
 
 pub loop-i-init : goal.loop-i-init

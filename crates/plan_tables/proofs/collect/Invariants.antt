@@ -1,8 +1,7 @@
 -- `collect` meets its contract: from the last dependence to the first, each is entered in front of those after it
 -- (`Collecting`).
-use borrow.Author.Rules.{rules}
 use Rattle.paper_nests.specs.Stored.{nest_in}
-use Rattle.plan_tables.proofs.Collecting.{Collecting, collect_start, fits_here, collect_on, collect_done}
+use Rattle.plan_tables.proofs.Collecting.{Collecting}
 use Rattle.plan_tables.proofs.collect.Given as goal
 
 abbrev pub invariant-loop-i : goal.invariant-loop-i

@@ -2,7 +2,6 @@
 -- what goes back at its source (`back_entered`).
 use Prim.Native.Nat.{◌+◌, ◌<◌}
 use native.Mathlib.Omega.{arith}
-use borrow.Author.Rules.{rules}
 use Rattle.paper_nests.specs.Kinds.{POINTS}
 use Rattle.paper_nests.specs.Stored.{dep_in}
 use Rattle.paper_nests.proofs.Deps.{Line, Back, is-line, is-back}

@@ -1,6 +1,4 @@
-use mathlib.Core.Logic.{⊎_elim}
-use borrow.Author.Rules.{rules}
-use Rattle.plan_tables.proofs.Climbing.{Call, Climbing, climb_from_do, climb_from_owner, climb_falls}
+use Rattle.plan_tables.proofs.Climbing.{Call, climb_from_do, climb_from_owner, climb_falls}
 use Rattle.plan_tables.proofs.Climbing.{climb_on, climb_done}
 use Rattle.plan_tables.proofs.home_of.Goals as goal
 use Rattle.plan_tables.proofs.home_of.Goals.{then-points-s-eq-DO, else-points-s-eq-DO}

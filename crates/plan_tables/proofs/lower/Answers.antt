@@ -1,5 +1,4 @@
 -- `lower` meets its contract: the lesser of the two is stored, or already there.
-use borrow.Author.Rules.{rules}
 use Rattle.plan_tables.proofs.Entries.{lowered, left_low}
 use Rattle.plan_tables.proofs.lower.Goals as goal
 

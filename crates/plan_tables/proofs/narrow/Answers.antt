@@ -1,9 +1,6 @@
-use mathlib.Core.Logic.{⊎_elim}
 use Prim.Native.Nat.{◌-◌}
 use native.Mathlib.Omega.{arith}
-use borrow.Author.Rules.{rules}
-use lib.ListN.{length}
-use Rattle.plan_tables.proofs.Limits.{Ended, LimitingAll, row_there, limits_start, limits_on, limits_skip}
+use Rattle.plan_tables.proofs.Limits.{Ended, row_there, limits_start, limits_on, limits_skip}
 use Rattle.plan_tables.proofs.Limits.{limits_done}
 use Rattle.plan_tables.proofs.narrow.Goals as goal
 use Rattle.plan_tables.proofs.narrow.Goals.{then-points-d-eq-DO, else-points-d-eq-DO}

@@ -1,5 +1,4 @@
-use borrow.Author.Rules.{rules}
-use Rattle.plan_tables.proofs.Narrowing.{Narrowing, narrow_start, narrow_lower, narrow_store, narrow_done}
+use Rattle.plan_tables.proofs.Narrowing.{narrow_start, narrow_lower, narrow_store, narrow_done}
 use Rattle.plan_tables.proofs.narrow_row.Goals as goal
 
 pub loop-q-init : goal.loop-q-init

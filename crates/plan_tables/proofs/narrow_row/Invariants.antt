@@ -1,6 +1,5 @@
 -- `narrow_row` meets its contract: the places passed hold the least from there on (`Narrowing`).
-use borrow.Author.Rules.{rules}
-use Rattle.plan_tables.proofs.Narrowing.{Narrowing, narrow_start, narrow_lower, narrow_store, narrow_done}
+use Rattle.plan_tables.proofs.Narrowing.{Narrowing}
 use Rattle.plan_tables.proofs.narrow_row.Given as goal
 
 abbrev pub invariant-loop-q : goal.invariant-loop-q

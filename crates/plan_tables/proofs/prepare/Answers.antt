@@ -1,7 +1,6 @@
 -- `prepare` meets its contract: what `chart`, `collect` and `narrow` promise is all that is asked (`all_prepared`).
 use native.Mathlib.Omega.{arith}
 use Rattle.plan_tables.proofs.Preparing.{count_there, all_prepared}
-use borrow.Author.Rules.{rules}
 use Rattle.plan_tables.proofs.prepare.Goals as goal
 
 pub slice_bounds-points-end : goal.slice_bounds-points-end

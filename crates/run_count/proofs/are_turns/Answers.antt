@@ -1,8 +1,6 @@
 use Prim.Native.Nat.{◌-◌}
 use native.Mathlib.Omega.{arith}
-use lib.ListN.{length}
-use borrow.Author.Rules.{rules}
-use Rattle.run_count.proofs.Fitting.{Tested, test_start, test_low, test_high, test_on, test_done}
+use Rattle.run_count.proofs.Fitting.{test_start, test_low, test_high, test_on, test_done}
 use Rattle.run_count.proofs.are_turns.Goals as goal
 
 pub loop-i-init : goal.loop-i-init

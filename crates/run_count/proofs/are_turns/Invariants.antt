@@ -1,9 +1,7 @@
 -- `are_turns` meets its contract: the turns before i are within their bounds (`Tested`).
 use Prim.Native.Nat.{◌-◌}
-use native.Mathlib.Omega.{arith}
 use lib.ListN.{length}
-use borrow.Author.Rules.{rules}
-use Rattle.run_count.proofs.Fitting.{Tested, test_start, test_low, test_high, test_on, test_done}
+use Rattle.run_count.proofs.Fitting.{Tested}
 use Rattle.run_count.proofs.are_turns.Given as goal
 
 abbrev pub invariant-loop-i : goal.invariant-loop-i

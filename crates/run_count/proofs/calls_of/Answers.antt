@@ -1,7 +1,6 @@
 -- `calls_of` meets its contract: the table's entries at the placement's gaps are its calls (`calls_told`).
 use mathlib.Core.Path.{◌∙◌}
 use native.Mathlib.Omega.{arith}
-use borrow.Author.Rules.{rules}
 use Rattle.paper_placements.specs.Words.{gaps_in}
 use Rattle.run_barriers.proofs.Sizes.{calls_in_fit}
 use Rattle.run_count.proofs.Summing.{calls_told}

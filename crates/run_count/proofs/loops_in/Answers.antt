@@ -1,8 +1,7 @@
 use mathlib.Core.Path.{◌≡◌, refl, ap, ◌∙◌}
-use Prim.Native.Nat.{◌-◌, ◌≤◌}
+use Prim.Native.Nat.{◌-◌}
 use native.Mathlib.Omega.{arith}
 use lib.ListN.{length}
-use borrow.Author.Rules.{rules}
 use Rattle.run_barriers.specs.Calls.{dos_before}
 use Rattle.run_count.proofs.Fitting.{dos_on, dos_skip, dos_few}
 use Rattle.run_count.proofs.loops_in.Goals as goal

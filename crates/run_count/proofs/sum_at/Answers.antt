@@ -1,7 +1,7 @@
 use mathlib.Core.Path.{sym, ◌∙◌}
 use Prim.Native.Nat.{◌-◌}
 use native.Mathlib.Omega.{arith}
-use Rattle.run_count.proofs.Summing.{Summing, sum_start, sum_held, sum_free, sum_fits, sum_done}
+use Rattle.run_count.proofs.Summing.{sum_start, sum_held, sum_free, sum_fits, sum_done}
 use Rattle.run_count.proofs.sum_at.Goals as goal
 
 pub loop-g-init : goal.loop-g-init

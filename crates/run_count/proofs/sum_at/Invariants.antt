@@ -1,9 +1,7 @@
 -- `sum_at` meets its contract. The invariant: what is summed and what is left give the whole (`Summing`). The measure
 -- is how many gaps are left.
-use mathlib.Core.Path.{sym, ◌∙◌}
 use Prim.Native.Nat.{◌-◌}
-use native.Mathlib.Omega.{arith}
-use Rattle.run_count.proofs.Summing.{Summing, sum_start, sum_held, sum_free, sum_fits, sum_done}
+use Rattle.run_count.proofs.Summing.{Summing}
 use Rattle.run_count.proofs.sum_at.Given as goal
 
 abbrev pub invariant-loop-g : goal.invariant-loop-g

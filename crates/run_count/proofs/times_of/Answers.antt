@@ -2,10 +2,9 @@ use mathlib.Core.Path.{refl}
 use Prim.Native.Nat.{◌+◌, ◌*◌, ◌-◌, ◌^◌, ◌≤◌, ◌<◌}
 use native.Mathlib.Omega.{arith}
 use lib.ListN.{length, get_or}
-use borrow.Author.Rules.{rules}
 use Rattle.paper_nests.specs.Kinds.{DEPTH}
 use Rattle.run_barriers.specs.Calls.{TURNS}
-use Rattle.run_count.proofs.Timing.{Timed, time_start, next_in, inside_most, time_do, around_before, time_other}
+use Rattle.run_count.proofs.Timing.{time_start, next_in, inside_most, time_do, around_before, time_other}
 use Rattle.run_count.proofs.Timing.{time_done}
 use Rattle.run_count.proofs.times_of.Goals as goal
 

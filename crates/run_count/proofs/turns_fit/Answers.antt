@@ -1,6 +1,5 @@
 -- `turns_fit` meets its contract: the length first, then the bounds.
 use native.Mathlib.Omega.{arith}
-use borrow.Author.Rules.{rules}
 use Rattle.run_count.proofs.Fitting.{fit_by, fit_length}
 use Rattle.run_count.proofs.turns_fit.Goals as goal
 

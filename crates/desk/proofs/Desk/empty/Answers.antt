@@ -1,5 +1,4 @@
 use mathlib.Core.Path.{refl}
-use borrow.Author.Rules.{rules}
 use Rattle.desk.proofs.Held.{held_empty}
 use Rattle.desk.proofs.Desk.empty.Goals as goal
 

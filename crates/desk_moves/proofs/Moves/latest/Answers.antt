@@ -1,5 +1,4 @@
 -- `Moves::latest` meets its contract: the move at the head is the first (`back_first`).
-use borrow.Author.Rules.{rules}
 use Rattle.desk_moves.proofs.Ring.{back_first}
 use Rattle.desk_moves.proofs.Moves.latest.Goals as goal
 

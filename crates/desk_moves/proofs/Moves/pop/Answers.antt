@@ -1,6 +1,5 @@
 -- `Moves::pop` meets its contract: one place back, one move less (`back_rest`).
 use native.Mathlib.Omega.{arith}
-use borrow.Author.Rules.{rules}
 use Rattle.desk_moves.proofs.Ring.{back_rest}
 use Rattle.desk_moves.proofs.Moves.pop.Goals as goal
 

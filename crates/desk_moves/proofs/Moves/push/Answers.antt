@@ -1,8 +1,8 @@
 -- `Moves::push` meets its contract: the move is written at the place after the head, where none of the latest 63 stands
 -- (`push_more`, `push_full`).
-use mathlib.Core.Path.{◌≡◌, sym, ◌∙◌}
+use mathlib.Core.Path.{◌≡◌}
 use native.Mathlib.Omega.{arith}
-use lib.ListN.{length, length-map}
+use lib.ListN.{length}
 use borrow.Author.Rules.{rules}
 use Rattle.desk_moves.specs.Ring.{KEPT}
 use Rattle.desk_moves.proofs.Ring.{push_more, push_full}

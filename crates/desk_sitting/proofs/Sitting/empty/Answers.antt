@@ -1,6 +1,5 @@
 -- `Sitting::empty` meets its contract: an empty placement, an array of zeros.
 use mathlib.Core.Path.{refl}
-use borrow.Author.Rules.{rules}
 use Rattle.laws.proofs.Copies.{copies, copies_at}
 use Rattle.paper_placements.proofs.Words.{gaps_none}
 use Rattle.desk_sitting.proofs.Sitting.empty.Goals as goal

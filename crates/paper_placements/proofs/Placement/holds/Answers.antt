@@ -2,7 +2,6 @@
 use Prim.Native.Nat.{◌/◌, ◌%◌, ◌^◌}
 use lib.Bits.{and_mask}
 use lib.ListN.{get_or}
-use borrow.Author.Rules.{rules}
 use Rattle.laws.specs.Bits.{bit}
 use Rattle.paper_placements.specs.Words.{holds}
 use Rattle.paper_placements.proofs.Placement.holds.Goals as goal

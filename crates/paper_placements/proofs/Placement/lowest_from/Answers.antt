@@ -1,10 +1,10 @@
-use Prim.Native.Nat.{ℕ, ◌-◌, ◌*◌, ◌^◌, ◌<◌}
+use Prim.Native.Nat.{ℕ, ◌-◌, ◌^◌, ◌<◌}
 use native.Mathlib.Omega.{arith}
 use mir.Syntax.{w64}
 use mir.Val.{Fits}
 use lib.ListN.{get_or}
 use borrow.Author.Rules.{rules}
-use Rattle.paper_placements.proofs.Lowest.{Passed, First, Later, low_beyond, low_none}
+use Rattle.paper_placements.proofs.Lowest.{First, Later, low_beyond, low_none}
 use Rattle.paper_placements.proofs.Lowest.{low_first, pass_first, low_later, pass_later}
 use Rattle.paper_placements.proofs.Placement.lowest_from.Goals as goal
 

@@ -1,5 +1,4 @@
 -- `Placement::lowest_in` meets its contract: the lowest gap from lo on, if it is at most hi.
-use borrow.Author.Rules.{rules}
 use Rattle.paper_placements.proofs.CutTest.{lowest_between, lowest_over}
 use Rattle.paper_placements.proofs.Placement.lowest_in.Goals as goal
 
