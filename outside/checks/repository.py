@@ -19,13 +19,18 @@ UNREAD = 'plan_method/specs/'
 @functools.cache
 def edges() -> dict[str, list[str]]:
     """The crates in the order of crates.txt, each with those that it lists."""
-    rows = re.findall(r'^(\w+):(.*)$', (ROOT / 'crates.txt').read_text(), re.M)
+    rows = re.findall(r'^(\w+)[^:#\n]*:(.*)$', (ROOT / 'crates.txt').read_text(), re.M)
     return {name: words.split() for name, words in rows}
 
 
 def crates() -> list[str]:
     """The crates in the order of crates.txt."""
     return [*edges()]
+
+
+def edits_of(crate: str) -> list[str]:
+    """The labels of the edits of a crate that must be refused."""
+    return sorted(path.stem for path in (CRATES / crate / 'must-fail').glob('*.edit'))
 
 
 MODIFIERS = r'^[ \t]*(?:(?:abbrev|unfoldable)[ \t]+)*(pub[ \t]+)?'
