@@ -7,42 +7,15 @@ Each is tried over what a check of the crate proved. One is tried in a copy of t
 import contextlib
 import pathlib
 import re
-import shutil
 import subprocess
 import sys
-import tempfile
-from collections.abc import Iterator
 
-from outside.checks.repository import CRATES, edges, edits_of
+from outside.checks.repository import crates, edits_of
+from outside.copies import copied
 from outside.trying import ROOT
 
 # What rt says of an edit, and that it is refused at a place.
 SAID, REFUSED = re.compile(r'rt: must-fail (\w+)/(\S+)\.edit: (.*)'), 'refused, as it must be'
-
-
-def below(crate: str) -> list[str]:
-    """A crate and all that it uses, by others too."""
-    found = [crate]
-    for name in found:
-        found += [used for used in edges().get(name, []) if used in edges() and used not in found]
-    return found
-
-
-@contextlib.contextmanager
-def copied(crate: str, label: str) -> Iterator[pathlib.Path]:
-    """A copy of a crate and of those below it, with what is proved of them, and with one edit alone."""
-    with tempfile.TemporaryDirectory() as name:
-        copy = pathlib.Path(name)
-        (copy / '.git').mkdir()
-        rows = [line for line in (ROOT / 'crates.txt').read_text().splitlines()
-                if re.split(r'[\s:]', line)[0] in below(crate)]
-        (copy / 'crates.txt').write_text('\n'.join([*rows, '']))
-        for one in below(crate):
-            kept = shutil.ignore_patterns('must-fail', *([] if one == crate else ['incremental']))
-            shutil.copytree(CRATES / one, copy / 'crates' / one, ignore=kept)
-        (copy / 'crates' / crate / 'must-fail').mkdir()
-        shutil.copy2(CRATES / crate / 'must-fail' / f'{label}.edit', copy / 'crates' / crate / 'must-fail')
-        yield copy
 
 
 def tried(crate: str, place: pathlib.Path) -> tuple[int, int]:
@@ -59,7 +32,7 @@ def tried(crate: str, place: pathlib.Path) -> tuple[int, int]:
 def main(words: list[str]) -> None:
     crate, *labels = words
     label = labels[0].removesuffix('.edit') if labels else ''
-    if not edits_of(crate) or label and label not in edits_of(crate):
+    if crate not in crates() or not edits_of(crate) or label and label not in edits_of(crate):
         sys.exit(f'there is no edit {" ".join(words)}')
     with copied(crate, label) if label else contextlib.nullcontext(ROOT) as place:
         passed, failed = tried(crate, place)

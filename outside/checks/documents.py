@@ -273,7 +273,7 @@ def apart(_: Documents) -> Iterator[Check]:
     the pages on arguments also what an argument is and what its text claims."""
     cites = {word for crate in CALLS for _, contract in contracts(crate) for word in re.findall(r"[\w′-]+", contract)}
     for path in sorted(CRATES.glob('pages*/specs/*.antt')):
-        for crate, file, names in re.findall(r'^use Rattle·(\w+)[·\w]*\.specs\.(\w+)(.*)$', path.read_text(), re.M):
+        for crate, file, names in re.findall(r'^use Rattle\.(\w+)\.specs\.(\w+)(.*)$', path.read_text(), re.M):
             used = set(re.findall(r"[\w′-]+", names))
             argued = path.parts[-3] == 'pages_arguments' and crate in ('argue_claims', 'argue_texts')
             held = file == 'declared' or crate.startswith('pages') or argued or used <= cites

@@ -13,7 +13,7 @@ from typing import Any
 
 from office.built import LIBRARY, build
 from outside.checks.repository import CRATES as FOLDER
-from outside.checks.repository import edges
+from outside.copies import below
 
 CRATES = ['plan_tables', 'plan_sweeps', 'plan_starts', 'plan_rows', 'plan_settle', 'plan_lay', 'plan_nest',
           'desk_moves']
@@ -49,14 +49,6 @@ def functions_in(part: Any) -> list[tuple[str, Any]]:
             return [(part[0], part[1])]
         return [pair for one in part for pair in functions_in(one)]
     return [pair for one in part.values() for pair in functions_in(one)] if isinstance(part, dict) else []
-
-
-def below(crate: str) -> list[str]:
-    """A crate and all that it uses, by others too."""
-    found = [crate]
-    for name in found:
-        found += [used for used in edges()[name] if used in edges() and used not in found]
-    return found
 
 
 def reached(crate: str) -> dict[str, int]:

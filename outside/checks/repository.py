@@ -6,6 +6,8 @@ import re
 from outside.trying import ROOT
 
 CRATES = ROOT / 'crates'
+# What of a crate is its own: beside it lies what rt made of it.
+PARTS = ('src', 'specs', 'proofs')
 
 # The crates whose public functions are calls, and the statement that joins them.
 CALLS = ['desk', 'call_moves', 'call_list', 'call_textbook', 'call_shape', 'call_gaps', 'call_standing', 'call_slips',
@@ -52,7 +54,8 @@ def defined(path: pathlib.Path) -> dict[str, bool]:
 @functools.cache
 def sources() -> list[pathlib.Path]:
     """The code, specs and proofs of all crates."""
-    return [path for crate in crates() for kind in ('antt', 'rt') for path in (CRATES / crate).glob(f'*/**/*.{kind}')]
+    return [path for crate in crates() for part in PARTS for kind in ('antt', 'rt')
+            for path in (CRATES / crate / part).glob(f'**/*.{kind}')]
 
 
 @functools.cache
@@ -80,8 +83,8 @@ def cited() -> list[tuple[str, str, str, str]]:
 @functools.cache
 def specs_used(path: pathlib.Path) -> list[str]:
     """The specs files, as CRATE/specs/FILE, that a source file uses."""
-    found = re.findall(r'^(?:ghost )?use Rattle·(\w+)[·\w]*\.specs\.(\w+)', path.read_text(), re.M)
-    return [f'{crate}/specs/{file}' for crate, file in found if file != 'declared']
+    found = re.findall(r'^(?:ghost )?use Rattle\.(\w+)\.specs\.(\w+)', path.read_text(), re.M)
+    return [f'{crate}/specs/{file}' for crate, file in found if file != 'declared' and crate in crates()]
 
 
 @functools.cache
@@ -99,9 +102,10 @@ def calls() -> list[str]:
 def contracts_cite(crate: str) -> set[str]:
     """The specs files that the contracts of a crate's public functions cite."""
     text = (CRATES / crate / 'src/lib.rt').read_text()
-    words = set(re.findall(r'[\w-]+', ' '.join(contract for _, contract in contracts(crate))))
-    uses = re.findall(r'^ghost use Rattle·(\w+)[·\w]*\.specs\.(\w+)\.\{(.*)\}', text, re.M)
-    return {f'{owner}/specs/{file}' for owner, file, names in uses if words & set(names.split(', '))}
+    words = set(re.findall(r"[\w'-]+", ' '.join(contract for _, contract in contracts(crate))))
+    uses = re.findall(r'^ghost use Rattle\.(\w+)\.specs\.(\w+)\.\{(.*)\}', text, re.M)
+    return {f'{owner}/specs/{file}' for owner, file, names in uses
+            if owner in crates() and words & set(names.split(', '))}
 
 
 def must_be_read() -> set[str]:
