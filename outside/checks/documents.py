@@ -15,7 +15,7 @@ What is checked:
   - the kit that is here is one that README names; the folders of outside/ say what is there;
   - a fault put into a copy of the documents is noticed.
 
-Needs target/bin/key, which `rt ci` builds.
+Needs target/bin/key, which ./key builds.
 """
 import pathlib
 import re
@@ -24,10 +24,9 @@ import sys
 from typing import Iterator, NamedTuple
 
 from outside.checks import families
-from outside.checks.repository import (CALLS, CRATES, UNREAD, calls, cited, contracts, crates, defined, known,
+from outside.checks.repository import (CALLS, CRATES, UNREAD, calls, cited, contracts, crates, defined, edits_of, known,
                                        must_be_read, specs_used)
-from outside.edits.edit import edits_of
-from outside.parts import EDITS, parts
+from outside.parts import parts
 from outside.trying import ROOT
 
 Documents = dict[str, str]
@@ -38,7 +37,7 @@ KIT = set('''abbrev cc count_ones declared ensures gcc length-set let main omega
 # The headings of PROOFS on what to believe: the pages, and the definitions for those who want more.
 BELIEVED, BEHIND = 'What a reader must believe', 'The definitions behind the contracts'
 STAND_IN = set('CRATE EDIT FUNCTION GAPS LABEL NAME PART SECONDS'.split())
-RT = set('check ci dev doc fmt goals mir must-fail prove staticlib try version'.split())
+RT = set('all check ci doc expand fmt help lemma lib must-fail plant run test tidy try verdict version'.split())
 
 
 class Check(NamedTuple):
@@ -147,8 +146,8 @@ def is_path(word: str) -> bool:
 def is_part(words: list[str]) -> bool:
     """The words behind ./test: seconds, parts, or edits of a crate."""
     if words[0] == 'edit':
-        return STAND_IN.issuperset(words[1:]) or {*words[2:]} <= {edit.label for edit in edits_of(words[1])}
-    return all(word.isdecimal() or word in ('--help', 'quick', EDITS) or word in parts() or word in STAND_IN
+        return STAND_IN.issuperset(words[1:]) or words[1] in crates() and {*words[2:]} <= {*edits_of(words[1])}
+    return all(word.isdecimal() or word in ('--help', 'quick') or word in parts() or word in STAND_IN
                for word in words)
 
 
@@ -160,7 +159,9 @@ def is_command(words: list[str]) -> bool:
     if first == 'python3' and rest[0] == '-m':
         return is_path(rest[1].replace('.', '/') + '.py')
     if first == 'rt':
-        return rest[0] in RT and all(word in crates() or word in STAND_IN for word in rest[1:] if word[0] != '-')
+        # What rt does with all crates is another of its commands.
+        named = rest[2:] if rest[0] == 'all' and rest[1:2] and rest[1] in RT else rest[1:]
+        return rest[0] in RT and all(word in crates() or word in STAND_IN for word in named if word[0] != '-')
     named = [word for word in ([first] if '/' in first else []) + rest if '/' in word]
     return all(is_path(word.removeprefix('./')) for word in named)
 
@@ -176,7 +177,7 @@ def is_there(span: str) -> bool | None:
         return is_command(words)
     if re.fullmatch(r'[\w.*-]+(?:/[\w.*-]*)+', span):
         return is_path(span) or bool(STAND_IN & set(re.split(r'[/.]', span)))
-    name = re.fullmatch(r'(?:(\w+)::)?([A-Za-z_][\w′-]*)(?:\(.*\))?', span)
+    name = re.fullmatch(r"(?:(\w+)::)?([A-Za-z_][\w'-]*)(?:\(.*\))?", span)
     return all(map(is_name, filter(None, name.groups()))) if name else None
 
 
@@ -271,12 +272,12 @@ def accounted(docs: Documents) -> Iterator[Check]:
 def apart(_: Documents) -> Iterator[Check]:
     """A page uses the structs, other pages, and names that the contracts of calls cite, so that it can be read alone;
     the pages on arguments also what an argument is and what its text claims."""
-    cites = {word for crate in CALLS for _, contract in contracts(crate) for word in re.findall(r"[\w′-]+", contract)}
+    cites = {word for crate in CALLS for _, contract in contracts(crate) for word in re.findall(r"[\w'-]+", contract)}
     for path in sorted(CRATES.glob('pages*/specs/*.antt')):
         for crate, file, names in re.findall(r'^use Rattle\.(\w+)\.specs\.(\w+)(.*)$', path.read_text(), re.M):
-            used = set(re.findall(r"[\w′-]+", names))
+            used = set(re.findall(r"[\w'-]+", names))
             argued = path.parts[-3] == 'pages_arguments' and crate in ('argue_claims', 'argue_texts')
-            held = file == 'declared' or crate.startswith('pages') or argued or used <= cites
+            held = file == 'declared' or crate not in crates() or crate.startswith('pages') or argued or used <= cites
             yield Check(str(path.relative_to(ROOT)), f'{crate}/specs/{file}: {used} stand in contracts', held)
 
 
