@@ -14,7 +14,7 @@ CALLS = ['desk', 'call_moves', 'call_list', 'call_textbook', 'call_shape', 'call
          'call_compare', 'call_argument', 'call_argue', 'call_missing', 'call_skipped', 'call_runs', 'call_improve',
          'call_join', 'call_sheet', 'host', 'key_answer']
 STATEMENTS = ['desk/specs/Since']
-# Specs that no reader needs: `key-first` and `first-only` say which placement the key is, whatever the planner does.
+# Specs that no reader needs: `key_first` and `first_only` say which placement the key is, whatever the planner does.
 UNREAD = 'plan_method/specs/'
 
 
