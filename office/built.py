@@ -20,7 +20,7 @@ from office.records import dataclass
 
 STAMPS, LIST = f'{TARGET}/built', f'{ROOT}/crates.txt'
 # What of a crate the prover reads, or a program is run on.
-PARTS = ('src', 'specs', 'proofs', 'stdin', 'stdout', 'args', 'data')
+PARTS = ('src', 'specs', 'proofs', 'stdin', 'stdout', 'args', 'status', 'data')
 # A file that was changed so shortly before it was noted may be changed again without another time, in nanoseconds.
 SETTLED = 2 * 10 ** 9
 # Digits of a hash.
