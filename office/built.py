@@ -20,7 +20,7 @@ from office.records import dataclass
 
 STAMPS, LIST = f'{TARGET}/built', f'{ROOT}/crates.txt'
 # What of a crate the prover reads, or a program is run on.
-PARTS = ('src', 'specs', 'proofs', 'stdin', 'stdout', 'args', 'data')
+PARTS = ('src', 'specs', 'proofs', 'stdin', 'stdout', 'args', 'status', 'data')
 # A file that was changed so shortly before it was noted may be changed again without another time, in nanoseconds.
 SETTLED = 2 * 10 ** 9
 # Digits of a hash.
@@ -81,7 +81,8 @@ class Made:
 def rows_of(crate: str) -> dict[str, list[str]]:
     """A crate and all below it in the list of crates, each with those that it uses."""
     with open(LIST) as opened:
-        listed = {name: used.split() for name, used in re.findall(r'^(\w+):(.*)$', opened.read(), re.M)}
+        # Between a crate's name and the colon may stand what kind it is.
+        listed = {name: used.split() for name, used in re.findall(r'^(\w+)[^:#\n]*:(.*)$', opened.read(), re.M)}
     names = [crate]
     for name in names:
         names += [used for used in listed.get(name, []) if used in listed and used not in names]
@@ -98,8 +99,7 @@ def places_in(folder: str, parts: Collection[str] = ()) -> Iterator[str]:
 
 
 def prove_archive(name: str) -> None:
-    prove_below('host', name)
-    step('rt', 'staticlib', 'host')
+    by_rt('host', ['rt', 'lib'], ARCHIVE, name)
 
 
 def link(_: str) -> None:
@@ -107,20 +107,21 @@ def link(_: str) -> None:
 
 
 def prove_program(name: str) -> None:
-    prove_below('key', name)
-    step('rt', 'check', 'key')
-    if not os.path.exists(PROGRAM):
-        # The prover knows that it has built this before, and not that it is gone.
-        remove(f'{TARGET}/stamp/key')
-        step('rt', 'check', 'key')
+    # rt builds a program to run it: with no input it gives the key of the blank paper.
+    by_rt('key', ['rt', 'run'], PROGRAM, name)
 
 
-def prove_below(crate: str, name: str) -> None:
-    """Proves what a crate uses, so that it alone is left."""
-    from office.proving import prove
-    rows = rows_of(crate)
-    del rows[crate]
-    prove(rows, name)
+def by_rt(crate: str, command: list[str], file: str, name: str) -> None:
+    """Proves and builds a crate, and takes what was made of it to its place. The one before goes first, as it is of
+    other sources, and rt makes again what is gone."""
+    import shutil
+    from office.proving import built_by_rt
+    made = f'{ROOT}/crates/{crate}/out/{os.path.basename(file)}'
+    remove(made)
+    built_by_rt(command, crate, rows_of(crate), name)
+    if os.path.exists(made):
+        os.makedirs(os.path.dirname(file), exist_ok=True)
+        shutil.copy2(made, file)
 
 
 LIBRARY = (Made('library', ARCHIVE, 'host', 'rt', prove_archive), Made('library', SHARED, ARCHIVE, 'gcc', link))
@@ -306,8 +307,7 @@ def noted_at(began: int, sha256: str, state: tuple[int, int]) -> Noted:
 def step(*command: str) -> None:
     """A step of a build. What it says is told only if it fails."""
     import subprocess
-    from office.proving import environment
-    done = subprocess.run(command, cwd=ROOT, env=environment(), stdin=subprocess.DEVNULL, stdout=subprocess.PIPE,
+    done = subprocess.run(command, cwd=ROOT, stdin=subprocess.DEVNULL, stdout=subprocess.PIPE,
                           stderr=subprocess.STDOUT, check=False)
     if done.returncode != 0:
         say('\n' + done.stdout.decode('utf-8', 'replace'))

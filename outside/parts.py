@@ -18,11 +18,9 @@ RUSTC = ['rustc', '-O', '--edition', '2021', 'outside/judge/main.rs', '-L', str(
 CLOSING = re.compile(r'(\d+) passed, (\d+) failed')
 # How long the judge plays scripts, and how long it does in a quick test; the same of the program beside it.
 SCRIPTS, PROGRAMS, QUICK = 25, 60, 10
-# All edits that must be refused: a part of the test that is many jobs.
-EDITS = 'edits'
 # What is longer than any part, so that it is started before them.
 FIRST = 10_000
-# What parts need: the proofs of all crates, with the edits that rt tries, and what is built of them.
+# What parts need: the proofs of all crates, by rt, and what is built of them.
 PROOFS, LIBRARY, KEY, JUDGING = 'every proof', 'the library', 'the program', 'the judge'
 NOTHING, DESK, ALL = frozenset[str](), frozenset([LIBRARY]), frozenset([LIBRARY, KEY])
 # Of the jobs of a lane one runs at a time: the parts of the hall, which mostly wait, and all that calls rt, of which
@@ -42,11 +40,6 @@ class Part:
     lane: str = ''
 
 
-def proof_of(crate: str) -> str:
-    """What needs a crate proved."""
-    return f'the proof of {crate}'
-
-
 def module(about: str, name: str, needs: frozenset[str] = DESK, length: int = 10, lane: str = '') -> Part:
     return Part(about, [sys.executable, '-m', f'outside.{name}'], needs, length, lane=lane)
 
@@ -54,14 +47,12 @@ def module(about: str, name: str, needs: frozenset[str] = DESK, length: int = 10
 def parts(scripts: int = SCRIPTS, programs: int = PROGRAMS) -> dict[str, Part]:
     judge, judged, proved = str(JUDGE), frozenset([LIBRARY, JUDGING]), frozenset([PROOFS])
     return {
-        'layout': Part('rt fmt has nothing to change', ['rt', 'fmt', '--check'], length=20, counts=False),
         'imports': module('no import that its file does not use', 'checks.imports', NOTHING),
         'types': module('the types of the office', 'checks.types', NOTHING, 60),
         'arguments': module('the checker of arguments', 'tests.arguments', NOTHING),
         'faults': Part('the faults that the judge must catch fit the code',
                        [sys.executable, '-m', 'outside.faults.faults', '--fit']),
-        'refusals': module('how edits that must be refused are judged', 'edits.readings',
-                           frozenset([proof_of('paper_order')])),
+        'gate': module("what is made of the gate's words", 'checks.gate', NOTHING),
         'no_division': module('no division in the planner and in the ring of moves', 'checks.no_division', proved,
                               lane=BY_RT),
         'edges': module('crates.txt lists what a crate uses', 'checks.edges', proved, 30, BY_RT),
@@ -95,7 +86,7 @@ def parts(scripts: int = SCRIPTS, programs: int = PROGRAMS) -> dict[str, Part]:
 def quick() -> dict[str, Part]:
     """What a change is tried by before it is tried whole, beside the proofs that are not up to date."""
     some = parts(QUICK, QUICK)
-    return {name: some[name] for name in ('layout', 'imports', 'types', 'reading', 'scripts', 'judge', 'documents')}
+    return {name: some[name] for name in ('imports', 'types', 'reading', 'scripts', 'judge', 'documents')}
 
 
 def job_of(name: str, part: Part) -> Job:
@@ -136,7 +127,7 @@ def builds(jobs: Jobs) -> list[Job]:
             jobs.reach(what)
             return 0, 0
         return Job(what, do, frozenset([need]), FIRST, lane=lane)
-    return [made(LIBRARY, lambda: built.build_library('test'), proof_of('host'), BY_RT),
+    return [made(LIBRARY, lambda: built.build_library('test'), PROOFS, BY_RT),
             made(KEY, lambda: built.build(built.KEY, 'test'), PROOFS, BY_RT),
             made(JUDGING, compile_judge, LIBRARY, '')]
 

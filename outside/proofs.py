@@ -1,40 +1,49 @@
-"""The proofs of all crates, as `rt` makes them: from nothing, or those that are not up to date."""
+"""The proofs of all crates, as `rt` makes them: the gate with every edit that must be refused, or what is not up to
+date."""
 import re
 import subprocess
-import time
 from typing import TextIO
 
-from office.proving import environment
 from outside.checks.repository import crates
 from outside.jobs import Job, Jobs
-from outside.parts import CLOSING, FIRST, PROOFS, proof_of
+from outside.parts import CLOSING, FIRST, PROOFS
 from outside.trying import ROOT
 
-# What the table calls the two parts of rt's work.
-PROVED, REFUSED = 'crates proved', 'edits tried whole, by rt'
-CRATE, EDIT = re.compile(r'rt: (\w+) proved \('), re.compile(r'rt: must-fail .*: refused')
+# The gate, and what a quick test proves by.
+GATE, UPDATE = ['rt', 'ci'], ['rt', 'all', 'check']
+# What the table calls rt's work.
+PROVED = 'proofs, edits and programs, by rt'
+# The gate's line where all is well, and how many edits it calls bad there: they show nothing, and it goes on.
+WELL, BAD = re.compile(r'rt: ok\b'), re.compile(r', (\d+) bad\b')
+
+
+def counted_gate(status: int, said: list[str]) -> tuple[int, int]:
+    """How much passed and failed by what the gate said. It has failed where its status or its closing line says so,
+    where it has no line that all is well, and for each edit that could not be tried."""
+    closing = [found for found in map(CLOSING.match, said) if found]
+    well = [line for line in said if WELL.match(line)]
+    passed, failed = (int(closing[-1][1]), int(closing[-1][2])) if closing else (0, 1)
+    bad = sum(int(number) for line in well for number in BAD.findall(line))
+    return passed, failed + bad if status == 0 and well else max(failed + bad, 1)
+
+
+def counted_update(status: int) -> tuple[int, int]:
+    """The same of what is brought up to date, which goes by its status."""
+    return (len(crates()), 0) if status == 0 else (0, 1)
 
 
 def proofs(jobs: Jobs, command: list[str], processors: int) -> Job:
-    """All crates, proved by rt, on all processors. What is proved is noted as it is said, so that others can start."""
+    """All crates, proved by rt, on all processors. Whatever else calls rt waits until it is done; where a crate is not
+    proved, a build over it says so."""
     def do(shown: TextIO) -> tuple[int, int]:
-        begun, edits, closing = time.monotonic(), 0, None
-        since = begun
-        with subprocess.Popen(command, cwd=ROOT, stdin=subprocess.DEVNULL, stdout=subprocess.PIPE,
-                              stderr=subprocess.STDOUT, text=True, errors='replace',
-                              env={'RT_JOBS': str(processors), **environment()}) as ran:
-            for line in ran.stdout or ():
-                print(line, end='', file=shown, flush=True)
-                closing = CLOSING.match(line) or closing
-                if found := CRATE.match(line):
-                    jobs.reach(proof_of(found[1]))
-                    since = time.monotonic()
-                edits += bool(EDIT.match(line))
-        if jobs.there.issuperset(map(proof_of, crates())):
+        said = []
+        try:
+            with subprocess.Popen(command, cwd=ROOT, stdin=subprocess.DEVNULL, stdout=subprocess.PIPE,
+                                  stderr=subprocess.STDOUT, text=True, errors='replace') as ran:
+                for line in ran.stdout or ():
+                    print(line, end='', file=shown, flush=True)
+                    said.append(line)
+        finally:
             jobs.reach(PROOFS)
-        # The edits come after the crates, so this time is theirs.
-        jobs.count(REFUSED, edits, 0, time.monotonic() - since)
-        jobs.count(PROVED, 0, 0, since - time.monotonic())
-        passed, failed = (int(closing[1]), int(closing[2])) if closing else (len(crates()), 0)
-        return passed - edits, failed if ran.returncode == 0 else max(failed, 1)
+        return counted_gate(ran.returncode, said) if command == GATE else counted_update(ran.returncode)
     return Job(PROVED, do, length=2 * FIRST, places=processors, live=True)

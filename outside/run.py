@@ -1,24 +1,22 @@
 """usage: ./test [SECONDS]            everything from nothing, with every edit that must be refused
-       ./test quick                the layout, every proof that is not up to date, the judge for some seconds, documents
+       ./test quick                every proof that is not up to date, the judge for some seconds, the documents
        ./test PART [PART...]       single parts, on what is built
        ./test edit CRATE [EDIT]    the edits of a crate that must be refused, or one of them
 
 SECONDS: how long the program is compared with the judge, 60 if none is named.
-Things run side by side, one more than there are processors, each as soon as what it needs is proved or built; what a
-part prints is shown when it is done. At the end a table says how long each took. The last line counts all,
-'N passed, M failed', and the status is 0 only if nothing failed.
+Things run side by side, one more than there are processors, each as soon as what it needs is proved or built, and
+nothing that calls rt beside the gate, `rt ci`; what a part prints is shown when it is done. At the end a table says how
+long each took. The last line counts all, 'N passed, M failed', and the status is 0 only if nothing failed.
 
 The parts:"""
 import os
 import sys
 import time
 
-from outside.checks.repository import crates
-from outside.edits import trial
-from outside.edits.tasks import Trials
+from outside import single
 from outside.jobs import Job, Jobs
-from outside.parts import EDITS, PROOFS, Part, builds, job_of, parts, proof_of, quick
-from outside.proofs import proofs
+from outside.parts import PROOFS, Part, builds, job_of, parts, quick
+from outside.proofs import GATE, UPDATE, proofs
 
 PROCESSORS = os.cpu_count() or 1
 
@@ -27,14 +25,12 @@ def chosen(words: list[str], jobs: Jobs) -> list[Job] | None:
     """What is asked for, as jobs; none where it cannot be read."""
     every = parts(programs=int(words[0])) if words and words[0].isdecimal() else parts()
     if not words or words[0].isdecimal() and len(words) == 1:
-        return [proofs(jobs, ['rt', 'ci'], PROCESSORS), *Trials(jobs, by_rt=True).tasks(), *with_builds(jobs, every)]
+        return [proofs(jobs, GATE, PROCESSORS), *with_builds(jobs, every)]
     if words == ['quick']:
-        return [proofs(jobs, ['rt', 'check'], PROCESSORS), *with_builds(jobs, quick())]
-    if words == [EDITS]:
-        return [proofs(jobs, ['rt', 'check'], PROCESSORS), *Trials(jobs, by_rt=False).tasks()]
+        return [proofs(jobs, UPDATE, PROCESSORS), *with_builds(jobs, quick())]
     if all(word in every for word in words):
         # What is not proved yet is proved when it is built.
-        jobs.reach(PROOFS, *map(proof_of, crates()))
+        jobs.reach(PROOFS)
         return with_builds(jobs, {word: every[word] for word in words})
     return None
 
@@ -57,16 +53,14 @@ def table(jobs: Jobs, took: float) -> str:
 def main() -> None:
     words, begun = sys.argv[1:], time.monotonic()
     if words[:1] == ['edit'] and len(words) in (2, 3):
-        sys.argv[1:] = words[1:]
-        trial.main()
+        single.main(words[1:])
     # One more at a time than there are processors: none then waits for the longer of two.
     jobs = Jobs(PROCESSORS + 1)
     asked = chosen(words, jobs)
     if asked is None:
         every, help_asked = parts(), words == ['--help']
-        width = max(map(len, [*every, EDITS]))
-        print(__doc__, *(f'  {name:{width}}  {part.about}' for name, part in every.items()),
-              f'  {EDITS:{width}}  every edit that must be refused', sep='\n',
+        width = max(map(len, every))
+        print(__doc__, *(f'  {name:{width}}  {part.about}' for name, part in every.items()), sep='\n',
               file=sys.stdout if help_asked else sys.stderr)
         sys.exit(0 if help_asked else 2)
     jobs.run(asked)

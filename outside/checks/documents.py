@@ -15,7 +15,7 @@ What is checked:
   - the kit that is here is one that README names; the folders of outside/ say what is there;
   - a fault put into a copy of the documents is noticed.
 
-Needs target/bin/key, which `rt ci` builds.
+Needs target/bin/key, which ./key builds.
 """
 import pathlib
 import re
@@ -24,10 +24,9 @@ import sys
 from typing import Iterator, NamedTuple
 
 from outside.checks import families
-from outside.checks.repository import (CALLS, CRATES, UNREAD, calls, cited, contracts, crates, defined, known,
+from outside.checks.repository import (CALLS, CRATES, UNREAD, calls, cited, contracts, crates, defined, edits_of, known,
                                        must_be_read, specs_used)
-from outside.edits.edit import edits_of
-from outside.parts import EDITS, parts
+from outside.parts import parts
 from outside.trying import ROOT
 
 Documents = dict[str, str]
@@ -38,7 +37,7 @@ KIT = set('''abbrev cc count_ones declared ensures gcc length-set let main omega
 # The headings of PROOFS on what to believe: the pages, and the definitions for those who want more.
 BELIEVED, BEHIND = 'What a reader must believe', 'The definitions behind the contracts'
 STAND_IN = set('CRATE EDIT FUNCTION GAPS LABEL NAME PART SECONDS'.split())
-RT = set('check ci dev doc fmt goals mir must-fail prove staticlib try version'.split())
+RT = set('all check ci doc expand fmt help lemma lib must-fail plant run test tidy try verdict version'.split())
 
 
 class Check(NamedTuple):
@@ -147,8 +146,8 @@ def is_path(word: str) -> bool:
 def is_part(words: list[str]) -> bool:
     """The words behind ./test: seconds, parts, or edits of a crate."""
     if words[0] == 'edit':
-        return STAND_IN.issuperset(words[1:]) or {*words[2:]} <= {edit.label for edit in edits_of(words[1])}
-    return all(word.isdecimal() or word in ('--help', 'quick', EDITS) or word in parts() or word in STAND_IN
+        return STAND_IN.issuperset(words[1:]) or words[1] in crates() and {*words[2:]} <= {*edits_of(words[1])}
+    return all(word.isdecimal() or word in ('--help', 'quick') or word in parts() or word in STAND_IN
                for word in words)
 
 
@@ -160,7 +159,9 @@ def is_command(words: list[str]) -> bool:
     if first == 'python3' and rest[0] == '-m':
         return is_path(rest[1].replace('.', '/') + '.py')
     if first == 'rt':
-        return rest[0] in RT and all(word in crates() or word in STAND_IN for word in rest[1:] if word[0] != '-')
+        # What rt does with all crates is another of its commands.
+        named = rest[2:] if rest[0] == 'all' and rest[1:2] and rest[1] in RT else rest[1:]
+        return rest[0] in RT and all(word in crates() or word in STAND_IN for word in named if word[0] != '-')
     named = [word for word in ([first] if '/' in first else []) + rest if '/' in word]
     return all(is_path(word.removeprefix('./')) for word in named)
 
@@ -176,7 +177,7 @@ def is_there(span: str) -> bool | None:
         return is_command(words)
     if re.fullmatch(r'[\w.*-]+(?:/[\w.*-]*)+', span):
         return is_path(span) or bool(STAND_IN & set(re.split(r'[/.]', span)))
-    name = re.fullmatch(r'(?:(\w+)::)?([A-Za-z_][\w′-]*)(?:\(.*\))?', span)
+    name = re.fullmatch(r"(?:(\w+)::)?([A-Za-z_][\w'-]*)(?:\(.*\))?", span)
     return all(map(is_name, filter(None, name.groups()))) if name else None
 
 
@@ -271,12 +272,12 @@ def accounted(docs: Documents) -> Iterator[Check]:
 def apart(_: Documents) -> Iterator[Check]:
     """A page uses the structs, other pages, and names that the contracts of calls cite, so that it can be read alone;
     the pages on arguments also what an argument is and what its text claims."""
-    cites = {word for crate in CALLS for _, contract in contracts(crate) for word in re.findall(r"[\w′-]+", contract)}
+    cites = {word for crate in CALLS for _, contract in contracts(crate) for word in re.findall(r"[\w'-]+", contract)}
     for path in sorted(CRATES.glob('pages*/specs/*.antt')):
-        for crate, file, names in re.findall(r'^use Rattle·(\w+)[·\w]*\.specs\.(\w+)(.*)$', path.read_text(), re.M):
-            used = set(re.findall(r"[\w′-]+", names))
+        for crate, file, names in re.findall(r'^use Rattle\.(\w+)\.specs\.(\w+)(.*)$', path.read_text(), re.M):
+            used = set(re.findall(r"[\w'-]+", names))
             argued = path.parts[-3] == 'pages_arguments' and crate in ('argue_claims', 'argue_texts')
-            held = file == 'declared' or crate.startswith('pages') or argued or used <= cites
+            held = file == 'declared' or crate not in crates() or crate.startswith('pages') or argued or used <= cites
             yield Check(str(path.relative_to(ROOT)), f'{crate}/specs/{file}: {used} stand in contracts', held)
 
 
@@ -349,17 +350,17 @@ FAULTS = [
     ('README.md', '`./desk draw ', '`./desks draw '),
     ('README.md', '`put_gap(', '`put_gaps('),
     ('README.md', '`lift_gap(desk, gap)`', 'Take back'),
-    ('docs/CONTRIBUTING.md', '`./test edit paper_lines fifteen_digits`', '`./test edit paper_lines fifteen_digit`'),
+    ('docs/CONTRIBUTING.md', '`rt must-fail paper_lines`', '`rt must-fail paper_line`'),
     ('README.md', '`./test telling`', '`./test tellings`'),
     ('README.md', '`python3 -m outside.faults.faults`', '`python3 -m outside.faults.fault`'),
     ('docs/CONTRIBUTING.md', 'outside/checks/repository.py', 'outside/repositories.py'),
     ('docs/changes/05.md', '(../../crates/call_moves/specs/Runs.antt)', '(../../crates/call_moves/specs/Says.antt)'),
     ('README.md', '$ ./key examples/p.hex', '$ ./key example/p.hex'),
-    ('docs/PROOFS.md', '| `reads-back` |', '| `read-back` |'),
-    ('docs/PROOFS.md', '| `reads-back` | [paper_texts/proofs/ReadsBack](../crates/paper_texts/proofs/ReadsBack.antt)',
-     '| `reads-back` | [paper_texts/proofs/Accepted](../crates/paper_texts/proofs/Accepted.antt)'),
+    ('docs/PROOFS.md', '| `reads_back` |', '| `read_back` |'),
+    ('docs/PROOFS.md', '| `reads_back` | [paper_texts/proofs/ReadsBack](../crates/paper_texts/proofs/ReadsBack.antt)',
+     '| `reads_back` | [paper_texts/proofs/Accepted](../crates/paper_texts/proofs/Accepted.antt)'),
     ('docs/PROOFS.md', 'plan_method/proofs/FirstSweep.antt', 'plan_method/proofs/FirstExchange.antt'),
-    ('docs/PROOFS.md', '`nest-key`.', '`key-is-key`.'),
+    ('docs/PROOFS.md', '`nest_key`.', '`key_is_key`.'),
     ('docs/PROOFS.md', 'rate `plan_theorem` joins', 'rate `along` joins'),
     ('docs/PROOFS.md', 'desk/specs/Desks.antt) | ', 'desk/specs/Desks.antt) | 1'),
     ('docs/PROOFS.md', '| [plan_theorem/specs/OneKey](../crates/plan_theorem/specs/OneKey.antt)',
@@ -367,7 +368,7 @@ FAULTS = [
     ('docs/PROOFS.md', '(../crates/desk_moves/specs/Game.antt)', '(../crates/desk_moves/specs/Games.antt)'),
     ('docs/PROOFS.md', '(../crates/laws/specs/Entries.antt)', '(../crates/laws/specs/Bits.antt)'),
     ('docs/ARCHITECTURE.md', '(../crates/paper_nests/specs/Loops.antt)', '(../crates/paper_nests/specs/Gaps.antt)'),
-    ('docs/ARCHITECTURE.md', '[`asGood`](../crates/paper_order/specs/LoopOrder.antt)', '`asGood`'),
+    ('docs/ARCHITECTURE.md', '[`as_good`](../crates/paper_order/specs/LoopOrder.antt)', '`as_good`'),
     ('docs/ARCHITECTURE.md', '| [plan_nest](../crates/plan_nest) |', '| [plan_method](../crates/plan_nest) |'),
 ]
 

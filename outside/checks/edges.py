@@ -5,15 +5,13 @@ only where the prover refuses without it, since a value is reached whose type co
 
 Needs every crate proved (rt check).
 """
-import concurrent.futures
-import os
 import re
+import subprocess
 
-from outside.checks.repository import CRATES, crates, edges
-from outside.edits import prover
+from outside.checks.repository import CRATES, PARTS, crates, edges
+from outside.copies import copied
 from outside.trying import Tally
 
-REFUSAL = 'cannot name, since no library that'
 # A crate, and one that it could list for nothing.
 NEEDLESS = ('plan_exchange', 'paper_lines')
 
@@ -21,19 +19,20 @@ NEEDLESS = ('plan_exchange', 'paper_lines')
 def named(crate: str) -> set[str]:
     """The crates that the files of a crate name."""
     found: set[str] = set()
-    for path in (CRATES / crate).glob('*/**/*.antt'):
-        found.update(re.findall(r'Rattle·(\w+)', path.read_text()))
+    for path in (path for part in PARTS for path in (CRATES / crate / part).glob('**/*.antt')):
+        found.update(re.findall(r'\bRattle\.(\w+)', path.read_text()))
     for path in (CRATES / crate).glob('src/*.rt'):
         code = re.sub(r'//.*', '', path.read_text())
-        found.update(re.findall(r'Rattle·(\w+)', code), re.findall(r'(?<![\w:.])(\w+)::', code))
+        found.update(re.findall(r'\bRattle\.(\w+)', code), re.findall(r'(?<![\w:.])(\w+)::', code))
     return found
 
 
 def is_needed(crate: str, edge: str) -> bool:
-    """Whether the prover refuses the crate without an edge, as it cannot name a type."""
-    others = [other for other in edges()[crate] if other != edge]
-    ran = prover.checked(crate, CRATES / crate, prover.modules_of(crate), others)
-    return ran.status == 1 and REFUSAL in ran.said
+    """Whether the prover refuses a copy of the crate that does not list another."""
+    with copied(crate, without=edge) as copy:
+        ran = subprocess.run(['rt', 'check'], cwd=copy / 'crates' / crate, stdin=subprocess.DEVNULL,
+                             stdout=subprocess.DEVNULL, stderr=subprocess.DEVNULL, check=False)
+    return ran.returncode != 0
 
 
 def main() -> None:
@@ -43,10 +42,12 @@ def main() -> None:
     for crate, edge in listed:
         later = edge in order and order.index(edge) >= order.index(crate)
         tally.check(f'crates.txt: {crate} stands above {edge}', not later)
-    unnamed = [(crate, edge) for crate, edge in listed if edge not in named(crate)]
-    with concurrent.futures.ThreadPoolExecutor(os.cpu_count()) as several:
-        for (crate, edge), needed in zip(unnamed, several.map(is_needed, *zip(*unnamed))):
-            tally.check(f'crates.txt: {crate} uses {edge}', needed)
+    for crate, edge in listed:
+        if edge not in named(crate):
+            tally.check(f'crates.txt: {crate} uses {edge}', is_needed(crate, edge), 'it is proved without it')
+    for crate in order:
+        lacking = sorted((named(crate) & {*order}) - {crate, *edges()[crate]})
+        tally.check(f'crates.txt: {crate} lists what it names', not lacking, lacking)
     tally.check('an edge too many would be noticed', not is_needed(*NEEDLESS) and NEEDLESS[1] not in named(NEEDLESS[0]))
     tally.close()
 

@@ -10,11 +10,13 @@ from outside.trying import ROOT, Tally
 
 # A use of several names, of one thing under another name, or of one name of the code.
 USE = re.compile(r'^(?:ghost )?use ([^\n{;]*?)(?:\.\{([^}\n]*)\}| as (\S+?))?;?$', re.M)
+# Where an operand stands in the name of an operator.
+PLACE = '◌'
 COMMENT = {'.antt': '--', '.rt': '//'}
 WORD, JOINED = re.compile(r'[^\s(){}\[\].,;\\]+|\[\]'), re.compile(r'[⌜⌝«»@&*!|:]+')
 # Texts with an import too many, and that import.
 SEEN = [('.antt', 'use lib.Dec.{eqb, ltb}\nf a = eqb a 0\n', ['ltb']), ('.antt', 'use a.B as C\n', ['C']),
-        ('.antt', 'use lib.N.{_+_, _∸_}\nf a = a + 1 -- ∸\n', ['_∸_']),
+        ('.antt', 'use lib.N.{◌+◌, ◌∸◌}\nf a = a + 1 -- ∸\n', ['◌∸◌']),
         ('.rt', 'use desk::Desk;\nuse desk::Nest;\nNest', ['Desk'])]
 
 
@@ -40,8 +42,7 @@ def imported(kind: str, text: str) -> list[str]:
 def unused(kind: str, text: str) -> list[str]:
     """The names that a file imports and does not use."""
     there = words(re.sub(rf'(?m)(^|\s){COMMENT[kind]}.*$', '', USE.sub('', text)))
-    signs = {name: name.strip('_').split('_') if '_' in (name[0], name[-1]) else [name]
-             for name in imported(kind, text)}
+    signs = {name: name.replace(PLACE, ' ').split() if PLACE in name else [name] for name in imported(kind, text)}
     return [name for name in signs if name not in there and not there.issuperset(signs[name])]
 
 

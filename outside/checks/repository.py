@@ -6,26 +6,33 @@ import re
 from outside.trying import ROOT
 
 CRATES = ROOT / 'crates'
+# What of a crate is its own: beside it lies what rt made of it.
+PARTS = ('src', 'specs', 'proofs')
 
 # The crates whose public functions are calls, and the statement that joins them.
 CALLS = ['desk', 'call_moves', 'call_list', 'call_textbook', 'call_shape', 'call_gaps', 'call_standing', 'call_slips',
          'call_compare', 'call_argument', 'call_argue', 'call_missing', 'call_skipped', 'call_runs', 'call_improve',
          'call_join', 'call_sheet', 'host', 'key_answer']
 STATEMENTS = ['desk/specs/Since']
-# Specs that no reader needs: `key-first` and `first-only` say which placement the key is, whatever the planner does.
+# Specs that no reader needs: `key_first` and `first_only` say which placement the key is, whatever the planner does.
 UNREAD = 'plan_method/specs/'
 
 
 @functools.cache
 def edges() -> dict[str, list[str]]:
     """The crates in the order of crates.txt, each with those that it lists."""
-    rows = re.findall(r'^(\w+):(.*)$', (ROOT / 'crates.txt').read_text(), re.M)
+    rows = re.findall(r'^(\w+)[^:#\n]*:(.*)$', (ROOT / 'crates.txt').read_text(), re.M)
     return {name: words.split() for name, words in rows}
 
 
 def crates() -> list[str]:
     """The crates in the order of crates.txt."""
     return [*edges()]
+
+
+def edits_of(crate: str) -> list[str]:
+    """The labels of the edits of a crate that must be refused."""
+    return sorted(path.stem for path in (CRATES / crate / 'must-fail').glob('*.edit'))
 
 
 MODIFIERS = r'^[ \t]*(?:(?:abbrev|unfoldable)[ \t]+)*(pub[ \t]+)?'
@@ -47,7 +54,8 @@ def defined(path: pathlib.Path) -> dict[str, bool]:
 @functools.cache
 def sources() -> list[pathlib.Path]:
     """The code, specs and proofs of all crates."""
-    return [path for crate in crates() for kind in ('antt', 'rt') for path in (CRATES / crate).glob(f'*/**/*.{kind}')]
+    return [path for crate in crates() for part in PARTS for kind in ('antt', 'rt')
+            for path in (CRATES / crate / part).glob(f'**/*.{kind}')]
 
 
 @functools.cache
@@ -75,8 +83,8 @@ def cited() -> list[tuple[str, str, str, str]]:
 @functools.cache
 def specs_used(path: pathlib.Path) -> list[str]:
     """The specs files, as CRATE/specs/FILE, that a source file uses."""
-    found = re.findall(r'^(?:ghost )?use Rattle·(\w+)[·\w]*\.specs\.(\w+)', path.read_text(), re.M)
-    return [f'{crate}/specs/{file}' for crate, file in found if file != 'declared']
+    found = re.findall(r'^(?:ghost )?use Rattle\.(\w+)\.specs\.(\w+)', path.read_text(), re.M)
+    return [f'{crate}/specs/{file}' for crate, file in found if file != 'declared' and crate in crates()]
 
 
 @functools.cache
@@ -94,9 +102,10 @@ def calls() -> list[str]:
 def contracts_cite(crate: str) -> set[str]:
     """The specs files that the contracts of a crate's public functions cite."""
     text = (CRATES / crate / 'src/lib.rt').read_text()
-    words = set(re.findall(r'[\w-]+', ' '.join(contract for _, contract in contracts(crate))))
-    uses = re.findall(r'^ghost use Rattle·(\w+)[·\w]*\.specs\.(\w+)\.\{(.*)\}', text, re.M)
-    return {f'{owner}/specs/{file}' for owner, file, names in uses if words & set(names.split(', '))}
+    words = set(re.findall(r"[\w'-]+", ' '.join(contract for _, contract in contracts(crate))))
+    uses = re.findall(r'^ghost use Rattle\.(\w+)\.specs\.(\w+)\.\{(.*)\}', text, re.M)
+    return {f'{owner}/specs/{file}' for owner, file, names in uses
+            if owner in crates() and words & set(names.split(', '))}
 
 
 def must_be_read() -> set[str]:

@@ -67,7 +67,10 @@ def crates() -> dict[str, list[str]]:
 def without_contracts(source: str) -> str:
     """What is left for Rust: no ghosts, no contracts; every value may be copied."""
     source = re.sub(r'(?m)^ghost use .*;\n', '', source)
-    source = re.sub(r'(?m)^( *)(requires|ensures) \{(?:.|\n)*?(?=^\1?(?:requires|ensures) \{|^ *\{\n)', '', source)
+    # Attributes of the prover's own, and derives, which are put before every type below.
+    source = re.sub(r'(?m)^ *#!?\[(?:tactic|cycle|derive)\b.*\]\n', '', source)
+    clause = r'(?:requires|ensures)(?: \w+)? \{'
+    source = re.sub(rf'(?m)^( *){clause}(?:.|\n)*?(?=^\1?{clause}|^ *\{{\n)', '', source)
     return re.sub(r'(?m)^(pub )?(struct|enum) ', r'#[derive(Clone, Copy)]\n\1\2 ', source)
 
 

@@ -1,7 +1,7 @@
 """The hall's log and what a start makes of it: the chain, lists and tickets, other programs, bad disks, the
 clock, kills.
 
-Needs the library's archive (rt staticlib host) and gcc. The last line is 'N passed, M failed'.
+Needs the library's archive (rt lib in crates/host) and gcc. The last line is 'N passed, M failed'.
 """
 import pathlib
 import tempfile

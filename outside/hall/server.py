@@ -1,7 +1,7 @@
 """The hall without a browser: a hundred candidates at once, from handing in to the register, the person in charge,
 several papers, connections of every sort and in any number, how it is called, bad requests.
 
-Needs the library's archive (rt staticlib host). The last line is 'N passed, M failed'.
+Needs the library's archive (rt lib in crates/host). The last line is 'N passed, M failed'.
 """
 import csv
 import pathlib

@@ -3,7 +3,7 @@
   python3 -m outside.hall.sitting                       the last line is 'N passed, M failed'
   python3 -m outside.hall.sitting --screenshots DIR     pictures of the page, for the documents
 
-Needs the library's archive (rt staticlib host) and a browser, which is installed where that may be done. Without one
+Needs the library's archive (rt lib in crates/host) and a browser, which is installed where that may be done. Without one
 the page is not tried, which is told; where CI is true it is a failure. Where Firefox is there, a short sitting is tried
 in it too.
 """

@@ -3,7 +3,7 @@ shares nothing with them: of all examples, of random papers and of full-size one
 ./desk why tells of them. What the desk gives is that of arguer.py, byte by byte, where nothing is barred. The last line
 is 'N passed, M failed'.
 
-Needs the library's archive (rt staticlib host).
+Needs the library's archive (rt lib in crates/host).
 """
 import base64
 import hashlib

@@ -1,5 +1,5 @@
 """The register: what it takes and refuses, who may replace what, several desks at a time, faults of the disk, kills,
-and a register that somebody changed by hand. Needs gcc and the library's archive (rt staticlib host). The last line is
+and a register that somebody changed by hand. Needs gcc and the library's archive (rt lib in crates/host). The last line is
 'N passed, M failed'.
 """
 import contextlib

@@ -1,6 +1,6 @@
 """./desk over the calls of requests 10 to 14. The last line is 'N passed, M failed'.
 
-Needs the library's archive (rt staticlib host).
+Needs the library's archive (rt lib in crates/host).
 """
 import pathlib
 import tempfile

@@ -1,5 +1,5 @@
 """A sitting taken into the register: who handed in, who was collected, who never came and who is not done; logs that
-are changed, in their folder or in the register. Needs the library's archive (rt staticlib host). The last line is
+are changed, in their folder or in the register. Needs the library's archive (rt lib in crates/host). The last line is
 'N passed, M failed'.
 """
 import hashlib

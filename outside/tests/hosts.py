@@ -1,6 +1,6 @@
 """The C boundary from outside: the header beside the archive, and the examples in C, Rust and Python.
 
-  python3 -m outside.tests.hosts    needs target/staticlib/libhost.a (rt staticlib host), gcc, rustc and nm
+  python3 -m outside.tests.hosts    needs target/staticlib/libhost.a (rt lib in crates/host), gcc, rustc and nm
 
 The last line is 'N passed, M failed', and the status is 0 only if nothing failed.
 """
@@ -134,7 +134,7 @@ def main() -> None:
             check_examples(tally, pathlib.Path(name))
             check_stack(tally, pathlib.Path(name))
     else:
-        tally.check(f'{ARCHIVE} is there: rt staticlib host builds it', False)
+        tally.check(f'{ARCHIVE} is there: ./test hosts builds it', False)
     tally.close()
 
 

@@ -1,6 +1,6 @@
 """What people get wrong, and what they are told: one cause, its place and a cure.
 
-The last line is 'N passed, M failed'. Needs target/bin/key and the library's archive (rt staticlib host).
+The last line is 'N passed, M failed'. Needs target/bin/key and the library's archive (rt lib in crates/host).
 """
 import json
 import os

@@ -149,7 +149,8 @@ def other_machines(tally: Tally, folder: pathlib.Path) -> None:
         (tools / 'rt').write_text('\n'.join([f'#!{shutil.which("bash")}', 'echo noise', *lines, '']))
         (tools / 'rt').chmod(0o755)
 
-    builds = ['mkdir -p target/bin', f'cp {PROGRAM} target/bin/key']
+    # rt runs in the crate's folder, and leaves the program in out/.
+    builds = ['[ "$*" = run ] || exit 1', 'mkdir -p out', f'cp {PROGRAM} out/key']
     answered = Seen(P_ANSWER, '', 0)
     tally.check('no python3', asked().failed('there is no python3'), asked())
     (tools / 'python3').symlink_to(python_for_all())
@@ -157,7 +158,7 @@ def other_machines(tally: Tally, folder: pathlib.Path) -> None:
     rt('exit 1')
     seen = asked()
     tally.check('a build that fails', (seen.out, seen.status) == (b'', 2), seen)
-    tally.check('what it said', '\nnoise\n' in seen.err and 'rt check key failed with status 1' in seen.err, seen)
+    tally.check('what it said', '\nnoise\n' in seen.err and 'rt run in crates/key failed with status 1' in seen.err, seen)
     rt(*builds)
     seen = asked()
     tally.check('a build', (seen.out, seen.status, seen.err.count('\n')) == (P_ANSWER, 0, 2), seen)
@@ -186,7 +187,7 @@ def other_machines(tally: Tally, folder: pathlib.Path) -> None:
     tally.check('a source that came', seen.out == P_ANSWER and 'proofs/Lib.antt came since' in seen.err, seen)
     seen = asked(b'05\n')
     tally.check('refused', (seen.out, seen.status) == (b'2f020001\n', 1) and 'number 2' in seen.err, seen)
-    rt(*builds, 'echo "// three" > crates/key/src/main.rt')
+    rt(*builds, 'echo "// three" > src/main.rt')
     source.write_text('// other\n')
     seen = asked()
     tally.check('changed while it is built', seen.out == b'' and 'try again' in seen.err and seen.status == 2, seen)
@@ -196,7 +197,7 @@ def other_machines(tally: Tally, folder: pathlib.Path) -> None:
     program.write_text(f'#!{shutil.which("bash")}\n')
     seen = asked()
     tally.check('a program that was not built', seen.out == P_ANSWER and 'target/bin/key was changed' in seen.err, seen)
-    rt('mkdir -p target/bin', f'echo "#!{shutil.which("bash")}" > target/bin/key', 'chmod +x target/bin/key')
+    rt('mkdir -p out', f'echo "#!{shutil.which("bash")}" > out/key', 'chmod +x out/key')
     source.write_text('// mute\n')
     asked()
     tally.check('a mute program', asked().failed('the program gave no answer'), asked())

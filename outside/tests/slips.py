@@ -1,5 +1,5 @@
 """Slips, notes and certificates, as people get them: what stands on them, who may read them, and which are handed out
-no more. Needs the library's archive (rt staticlib host). The last line is 'N passed, M failed'.
+no more. Needs the library's archive (rt lib in crates/host). The last line is 'N passed, M failed'.
 """
 import hashlib
 import html

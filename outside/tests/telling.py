@@ -1,6 +1,6 @@
 """What ./desk tells: usage, numbers in words, listings, keys, reasons. The last line is 'N passed, M failed'.
 
-Needs gcc, target/bin/key and the library's archive (rt staticlib host).
+Needs gcc, target/bin/key and the library's archive (rt lib in crates/host).
 """
 import base64
 import ctypes

@@ -1,11 +1,12 @@
 """./desk in trouble: faults of input, output and disk, files that are no answers, at a terminal and on a machine that
-lacks tools. Needs the library's archive (rt staticlib host). The last line is 'N passed, M failed'.
+lacks tools. Needs the library's archive (rt lib in crates/host). The last line is 'N passed, M failed'.
 """
 import contextlib
 import hashlib
 import os
 import pathlib
 import pty
+import re
 import shutil
 import subprocess
 import sys
@@ -130,12 +131,12 @@ def elsewhere(tally: Tally, folder: pathlib.Path) -> None:
     """A machine that lacks rt or gcc, and a library that is missing, or of other sources."""
     root, tools = folder / 'copy', folder / 'tools'
     for part in ['office', 'crates/host']:
-        shutil.copytree(ROOT / part, root / part, ignore=shutil.ignore_patterns('__pycache__'))
+        shutil.copytree(ROOT / part, root / part, ignore=shutil.ignore_patterns('__pycache__', 'out'))
     tools.mkdir()
     (tools / 'python3').symlink_to(sys.executable)
     for file in ['desk', 'VERSION']:
         shutil.copy(ROOT / file, root / file)
-    (root / 'crates.txt').write_text('host:\n')
+    (root / 'crates.txt').write_text('host staticlib:\n')
     source, built = root / 'crates' / 'host' / 'src' / 'lib.rt', ROOT / 'target' / 'staticlib' / 'libhost.a'
     answered = Seen(b'2101\n2104\n220002\n', '', 0)
 
@@ -153,7 +154,8 @@ def elsewhere(tally: Tally, folder: pathlib.Path) -> None:
     tally.check('what it said', '\nnoise\n' in seen.err, seen)
     for tool in ['mkdir', 'cp']:
         (tools / tool).symlink_to(shutil.which(tool))
-    rt('mkdir -p target/staticlib', f'cp {built} target/staticlib/libhost.a')
+    # rt runs in the crate's folder, and leaves the archive in out/.
+    rt('[ "$*" = lib ] || exit 1', 'mkdir -p out', f'cp {built} out/libhost.a')
     seen = asked()
     tally.check('not linked, no gcc', seen.status == 2 and 'there is no gcc' in seen.err, seen)
     tally.check('built in two lines', seen.err.count('\n') == 3 and ' is built, in ' in seen.err, seen)
@@ -169,7 +171,7 @@ def elsewhere(tally: Tally, folder: pathlib.Path) -> None:
     tally.check('linked once', asked() == answered, asked())
     source.write_bytes(source.read_bytes())
     (root / 'crates' / 'host' / 'desk.h').touch()
-    (root / 'crates' / 'host' / 'edits' / 'more.edit').touch()
+    (root / 'crates' / 'host' / 'must-fail' / 'more.edit').touch()
     tally.check('touched, no rt', asked() == answered, asked())
     looked(tally, root, asked, answered)
     source.write_bytes(source.read_bytes() + b'// one more\n')
@@ -177,35 +179,36 @@ def elsewhere(tally: Tally, folder: pathlib.Path) -> None:
     tally.check('changed, no rt', seen.failed('src/lib.rt was changed since, and there is no rt'), seen)
 
 
-def side_by_side(tally: Tally, folder: pathlib.Path) -> None:
-    """The first time: what the library uses is proved before it, each crate after those that it uses."""
+def below(tally: Tally, folder: pathlib.Path) -> None:
+    """The first time: rt proves what the library uses before it, and it is seen how far it is."""
     root, tools, log = folder / 'first', folder / 'kit', folder / 'asked'
     for part in ['office', 'crates/host']:
-        shutil.copytree(ROOT / part, root / part, ignore=shutil.ignore_patterns('__pycache__'))
+        shutil.copytree(ROOT / part, root / part, ignore=shutil.ignore_patterns('__pycache__', 'out'))
     for file in ['desk', 'VERSION']:
         shutil.copy(ROOT / file, root / file)
-    (root / 'crates.txt').write_text('# First.\nlow:\nleft: low\nright: low\nhost: left right\n')
+    (root / 'crates.txt').write_text('# First.\nhost staticlib: left right\nlow:\nleft: low\nright: low\n')
     for crate in ['low', 'left', 'right']:
         (root / 'crates' / crate / 'src').mkdir(parents=True)
         (root / 'crates' / crate / 'src' / 'lib.rt').touch()
     tools.mkdir()
-    for tool in ['gcc', 'ld', 'as', 'cat', 'mkdir', 'cp']:
+    for tool in ['gcc', 'ld', 'as', 'cat', 'mkdir', 'cp', 'pwd']:
         (tools / tool).symlink_to(shutil.which(tool))
     (tools / 'python3').symlink_to(sys.executable)
+    says = [f'echo "rt: chose --jobs 2 for {crate}"; echo "logic=proved functions=1"'
+            for crate in ['low', 'left', 'right', 'host']]
 
     def rt(*lines: str) -> None:
-        (tools / 'rt').write_text('\n'.join(['#!/bin/sh', f'echo "$1 $2: $(cat crates.txt)" >> {log}', *lines, '']))
+        (tools / 'rt').write_text('\n'.join(['#!/bin/sh', f'echo "$* in $(pwd)" >> {log}', *lines, '']))
         (tools / 'rt').chmod(0o755)
 
     command = [str(tools / 'python3'), '-S', str(root / 'desk'), 'key', str(folder / 'p.hex')]
-    rt('[ "$2" != right ]')
+    rt(*says[:2], 'echo "rt: chose --jobs 2 for right"', 'echo noise', 'exit 1')
     seen = run(*command, PATH=str(tools))
-    tally.check('a crate below fails', seen.status == 2 and 'rt check right failed with status 1' in seen.err, seen)
-    asked = log.read_text()
-    tally.check('no more is asked', asked.startswith('check low: low:\n') and 'staticlib' not in asked, asked)
+    told = '\nnoise\n' in seen.err and 'rt lib in crates/host failed with status 1' in seen.err
+    tally.check('a crate below fails', seen.status == 2 and told, seen)
+    tally.check('no more is asked', log.read_text() == f'lib in {root}/crates/host\n', log.read_text())
     log.unlink()
-    rt('[ "$1" = check ] || mkdir -p target/staticlib',
-       f'[ "$1" = check ] || cp {ROOT}/target/staticlib/libhost.a target/staticlib/libhost.a')
+    rt(*says, '[ "$1" != lib ] || mkdir -p out', f'[ "$1" != lib ] || cp {ROOT}/target/staticlib/libhost.a out/libhost.a')
     ours, theirs = pty.openpty()
     desk = subprocess.Popen(command, stdout=subprocess.PIPE, stderr=theirs, env={**os.environ, 'PATH': str(tools)})
     os.close(theirs)
@@ -215,11 +218,12 @@ def side_by_side(tally: Tally, folder: pathlib.Path) -> None:
             shown += data
     out, _ = desk.communicate()
     tally.check('an answer', out.startswith(b'2105\n210b\n') and desk.returncode == 0, (out, shown))
-    tally.check('a bar', b' of 3 crates proved in ' in shown and b'low' in shown, shown)
-    first, *middle, last = log.read_text().replace('\n\n', '\n').split('\n', 3)
-    tally.check('the lowest first', first == 'check low: low:', first)
-    tally.check('the library last', last.startswith('staticlib host: '), last)
-    tally.check('each listed alone', sorted(middle) == ['check left: left: low', 'check right: right: low'], middle)
+    for at, crate in enumerate(['low', 'left', 'right', 'host']):
+        tally.check(f'a bar at {crate}', re.search(rf'{at} of 4 crates proved in \d+ s: {crate}'.encode(), shown) is not None,
+                    shown)
+    first, *more = log.read_text().splitlines()
+    tally.check('the library', first == f'lib in {root}/crates/host', first)
+    tally.check('and nothing else', all(line.startswith('version ') for line in more), more)
 
 
 def looked(tally: Tally, root: pathlib.Path, asked: Callable[[], Seen], answered: Seen) -> None:
@@ -256,7 +260,7 @@ def looked(tally: Tally, root: pathlib.Path, asked: Callable[[], Seen], answered
              lambda: shutil.rmtree(host / 'data'), 'data/one came since'),
             ('a file less', lambda: source.rename(root / 'lib.rt'), lambda: (root / 'lib.rt').rename(source),
              'src/lib.rt went since'),
-            ('other rows', lambda: rewritten(root / 'crates.txt', b'host: \nmore:\nhost: more\n'),
+            ('other rows', lambda: rewritten(root / 'crates.txt', b'host staticlib: \nmore:\nhost staticlib: more\n'),
              lambda: rewritten(root / 'crates.txt', bytes_of[root / 'crates.txt']), 'the library'),
             ('another library', lambda: rewritten(root / 'target' / 'libdesk.so', b'none'),
              lambda: rewritten(root / 'target' / 'libdesk.so', bytes_of[root / 'target' / 'libdesk.so']),
@@ -278,7 +282,7 @@ def main() -> None:
         nobody(tally, folder)
         terminal(tally, folder)
         elsewhere(tally, folder)
-        side_by_side(tally, folder)
+        below(tally, folder)
     tally.close()
 
 

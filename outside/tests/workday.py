@@ -2,7 +2,7 @@
 
 Three papers are set as listings, checked and planned; forty answers of every sort, and three that cannot be read, are
 marked as they come in, and who has none is absent; the same day in another order gives the same marks and slips; then
-ten thousand answers at once. Needs the library's archive (rt staticlib host). The last line is 'N passed, M failed'.
+ten thousand answers at once. Needs the library's archive (rt lib in crates/host). The last line is 'N passed, M failed'.
 """
 import csv
 import hashlib

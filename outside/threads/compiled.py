@@ -1,7 +1,7 @@
 """./desk program: what it writes, compiled without a warning and run with real threads, names the dependences that the
 desk says are uncut, and calls barriers as often as the desk counts. The last line is 'N passed, M failed'.
 
-Needs gcc and the library's archive (rt staticlib host). Clang and ThreadSanitizer are tried where they are; that
+Needs gcc and the library's archive (rt lib in crates/host). Clang and ThreadSanitizer are tried where they are; that
 ThreadSanitizer is not is told, and where CI is true it is a failure.
 """
 import pathlib

@@ -7,7 +7,7 @@ All small nests, with every dependence that a text may have and with every place
 gaps and two to four threads; flagged loops that are skipped (request 10); barrier calls counted by the threads (request
 11). Wrong rules are held beside the same runs, and each must be seen to differ.
 
-Needs gcc with ThreadSanitizer and the library's archive (rt staticlib host). Where ThreadSanitizer is missing or cannot
+Needs gcc with ThreadSanitizer and the library's archive (rt lib in crates/host). Where ThreadSanitizer is missing or cannot
 run nothing is tried, which is told; where CI is true it is a failure.
 """
 import contextlib
