@@ -28,11 +28,12 @@ def named(crate: str) -> set[str]:
 
 
 def is_needed(crate: str, edge: str) -> bool:
-    """Whether the prover refuses a copy of the crate that does not list another."""
+    """Whether the prover refuses a copy of the crate that does not list another; a check that came to no verdict shows
+    nothing."""
     with copied(crate, without=edge) as copy:
         ran = subprocess.run(['rt', 'check'], cwd=copy / 'crates' / crate, stdin=subprocess.DEVNULL,
                              stdout=subprocess.DEVNULL, stderr=subprocess.DEVNULL, check=False)
-    return ran.returncode != 0
+    return ran.returncode == 1
 
 
 def main() -> None:
