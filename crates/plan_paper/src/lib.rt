@@ -76,6 +76,7 @@ pub fn is_blocked(nest: Nest) -> bool
 }
 
 // Of each gap how many up to it are not barred.
+#[inline(never)]
 pub fn ranks_of(nest: Nest) -> [u8; Nest::POINTS]
     requires { IsCounted nest }
     ensures { HasRanks (nest_in nest).barred result }
@@ -109,6 +110,7 @@ fn free_of(nest: Nest) -> [u8; Nest::POINTS]
 
 // The nest of the unbarred gaps of a nest of one loop, renumbered by their ranks. Its points are there already, but for
 // the ENDDO; of a dependence that stays only the two points are new.
+#[inline(never)]
 pub fn reduce(nest: Nest, ranks: &[u8; Nest::POINTS]) -> Reduced
     requires counted { IsCounted nest }
     requires nest_value { is_valid (nest_in nest) ≡ true }
@@ -213,6 +215,7 @@ fn line(s: u8, t: u8) -> Dependence
 }
 
 // The gaps that are not barred and whose rank the key holds.
+#[inline(never)]
 pub fn taken_back(nest: Nest, ranks: &[u8; Nest::POINTS], key: Placement) -> Placement
     requires counted { IsCounted nest }
     requires has_ranks { HasRanks (nest_in nest).barred ranks.now }

@@ -1,5 +1,4 @@
 use mathlib.Core.Path.{sym, ◌∙◌}
-use Prim.Native.Nat.{◌-◌}
 use native.Mathlib.Omega.{arith}
 use Rattle.argue_trace.proofs.Finding.{search_start, search_found, search_on, search_done}
 use Rattle.argue_trace.proofs.find_claim.Goals as goal

@@ -1,5 +1,4 @@
 -- `current_of` meets its contract. The invariant: from i on the dependences are chained (`Chaining`). The measure is i.
-use Prim.Native.Nat.{◌-◌}
 use Rattle.paper_nests.specs.Stored.{nest_in}
 use Rattle.paper_placements.specs.Words.{gaps_in}
 use Rattle.call_improve.proofs.Chains.{Chaining}

@@ -1,5 +1,4 @@
 use mathlib.Core.Path.{ap}
-use Prim.Native.Nat.{◌-◌}
 use native.Mathlib.Omega.{arith}
 use Rattle.paper_nests.specs.Stored.{nest_in}
 use Rattle.paper_placements.specs.Answers.{is_cut}

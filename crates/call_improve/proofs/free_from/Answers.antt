@@ -1,5 +1,4 @@
 use mathlib.Core.Path.{sym, ◌∙◌}
-use Prim.Native.Nat.{◌-◌}
 use native.Mathlib.Omega.{arith}
 use Rattle.call_improve.proofs.PlaceSearch.{free_start, free_held, free_found, free_none}
 use Rattle.call_improve.proofs.free_from.Goals as goal

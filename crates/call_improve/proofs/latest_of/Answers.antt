@@ -1,5 +1,4 @@
 use mathlib.Core.Path.{refl, sym, ◌∙◌}
-use Prim.Native.Nat.{◌-◌}
 use Rattle.laws.proofs.Copies.{copies}
 use Rattle.call_improve.proofs.PlaceSearch.{latest_start, latest_held, latest_free, latest_done}
 use Rattle.call_improve.proofs.latest_of.Goals as goal

@@ -1,4 +1,3 @@
-use Prim.Native.Nat.{◌-◌}
 use native.Mathlib.Omega.{arith}
 use Rattle.call_improve.proofs.GapRanges.{least_start, least_less, least_same}
 use mathlib.Core.Path.{◌≡◌}

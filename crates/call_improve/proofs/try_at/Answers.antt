@@ -1,5 +1,4 @@
 use mathlib.Core.Path.{refl, ap}
-use Prim.Native.Nat.{◌-◌}
 use native.Mathlib.Omega.{arith}
 use Rattle.paper_placements.specs.Answers.{is_cut}
 use Rattle.call_improve.proofs.TryTurns.{gap_below, turn_start, turn_below, turn_up, turn_cut, turn_sum, turn_kept}

@@ -1,4 +1,4 @@
-use Prim.Native.Nat.{◌-◌, ◌<◌}
+use Prim.Native.Nat.{◌<◌}
 use native.Mathlib.Omega.{arith}
 use Rattle.paper_placements.specs.Words.{GAPS}
 use Rattle.call_missing.proofs.Covering.{cover_start, cover_on, cover_bare, cover_done, step_on}

@@ -1,6 +1,5 @@
 -- `listed_loops` meets its contract: the dependences are gone through from the last to the first, and the loops that
 -- each has listed are added (`Gathered`). The measure is i.
-use Prim.Native.Nat.{◌-◌}
 use Rattle.paper_nests.specs.Stored.{nest_in}
 use Rattle.call_missing.proofs.Gathering.{Gathered}
 use Rattle.call_missing.proofs.listed_loops.Given as goal

@@ -1,5 +1,4 @@
 use mathlib.Core.Path.{sym, ◌∙◌}
-use Prim.Native.Nat.{◌-◌}
 use native.Mathlib.Omega.{arith}
 use Rattle.call_sheet.proofs.Checking.{checked_start, checked_bad, checked_on, checked_done}
 use Rattle.call_sheet.proofs.are_sets.Goals as goal

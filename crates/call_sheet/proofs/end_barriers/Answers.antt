@@ -1,5 +1,4 @@
 use mathlib.Core.Path.{◌≡◌, ◌∙◌}
-use Prim.Native.Nat.{◌-◌}
 use native.Mathlib.Omega.{arith}
 use Rattle.call_sheet.proofs.Ending.{row_in, summed_start, summed_on}
 use Rattle.call_sheet.proofs.end_barriers.Goals as goal

@@ -1,5 +1,4 @@
 use mathlib.Core.Path.{refl, sym}
-use Prim.Native.Nat.{◌-◌}
 use native.Mathlib.Omega.{arith}
 use Rattle.call_sheet.specs.Sheets.{Sheet, sheet}
 use Rattle.call_sheet.proofs.Sets.{Sized, sized_is}

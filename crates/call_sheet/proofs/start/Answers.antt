@@ -1,5 +1,4 @@
 use mathlib.Core.Path.{refl}
-use Prim.Native.Nat.{◌-◌}
 use native.Mathlib.Omega.{arith}
 use Rattle.call_sheet.specs.Says.{time_at}
 use Rattle.call_sheet.proofs.Passing.{timed_none, timed_more, timed_to}

@@ -1,5 +1,4 @@
 use mathlib.Core.Path.{refl}
-use Prim.Native.Nat.{◌-◌}
 use native.Mathlib.Omega.{arith}
 use Rattle.call_standing.proofs.Writing.{write_none, write_next}
 use Rattle.call_standing.proofs.in_bytes.Goals as goal

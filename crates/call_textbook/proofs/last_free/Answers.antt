@@ -1,4 +1,4 @@
-use Prim.Native.Nat.{◌-◌, ◌<◌}
+use Prim.Native.Nat.{◌<◌}
 use native.Mathlib.Omega.{arith}
 use Rattle.laws.proofs.Copies.{copies}
 use Rattle.paper_placements.specs.Words.{GAPS, gaps_in}

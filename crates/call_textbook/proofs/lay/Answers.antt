@@ -1,4 +1,3 @@
-use Prim.Native.Nat.{◌-◌}
 use native.Mathlib.Omega.{arith}
 use Rattle.laws.specs.Entries.{at}
 use Rattle.call_textbook.proofs.Cutting.{laying_start, laying_cut, laying_pass, laying_done}

@@ -1,4 +1,3 @@
-use Prim.Native.Nat.{◌-◌}
 use Rattle.cases_02.proofs.after_backs.Goals as goal
 
 pub loop-i-init : goal.loop-i-init

@@ -2,7 +2,6 @@
 -- those before it (`Moving`). The count of a dependence that has the gap rises by one where it is put (`rise_first`,
 -- `rise_more`) and falls by one where it is lifted (`fall_last`, `fall_more`); the others stay (`move_past`). The
 -- measure is i.
-use Prim.Native.Nat.{◌-◌}
 use Rattle.paper_nests.specs.Stored.{nest_in}
 use Rattle.desk_sitting.specs.Kept.{barriers}
 use Rattle.desk_sitting.specs.Recounts.{after_move}

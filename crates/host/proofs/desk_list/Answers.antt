@@ -1,4 +1,3 @@
-use Prim.Native.Nat.{◌-◌}
 use native.Mathlib.Omega.{arith}
 use Rattle.desk.specs.Desks.{desk_in}
 use Rattle.host.specs.Records.{records_of}

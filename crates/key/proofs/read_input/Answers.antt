@@ -1,5 +1,4 @@
 use mathlib.Core.Path.{sym, ◌∙◌}
-use Prim.Native.Nat.{◌-◌}
 use native.Mathlib.Omega.{arith}
 use Rattle.key.proofs.Reading.{reading_start, reading_adds, reading_on, reading_less, reading_done}
 use Rattle.key.proofs.Reading.{reading_full}

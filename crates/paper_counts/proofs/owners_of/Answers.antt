@@ -1,5 +1,4 @@
 use mathlib.Core.Path.{refl}
-use Prim.Native.Nat.{◌-◌}
 use native.Mathlib.Omega.{arith}
 use Rattle.paper_counts.proofs.Walk.{walk_start, walk_do, walk_end, walk_plain, walk_done}
 use Rattle.paper_counts.proofs.owners_of.Goals as goal

@@ -1,4 +1,3 @@
-use Prim.Native.Nat.{◌-◌}
 use native.Mathlib.Omega.{arith}
 use Rattle.paper_gaps.proofs.Ranges.{range_start, range_on, range_done}
 use Rattle.paper_gaps.proofs.with_range.Goals as goal

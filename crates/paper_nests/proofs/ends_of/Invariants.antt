@@ -1,5 +1,4 @@
 -- `ends_of` meets its contract. The invariant: the entries of the points from i on are there (`Filled`).
-use Prim.Native.Nat.{◌-◌}
 use Rattle.paper_nests.proofs.Ends.{Filled}
 use Rattle.paper_nests.proofs.ends_of.Given as goal
 

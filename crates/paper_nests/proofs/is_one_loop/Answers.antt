@@ -1,4 +1,3 @@
-use Prim.Native.Nat.{◌-◌}
 use native.Mathlib.Omega.{arith}
 use Rattle.paper_nests.proofs.Scan.{do_found, no_do_on, no_do_left}
 use Rattle.paper_nests.proofs.is_one_loop.Goals as goal

@@ -1,5 +1,4 @@
 -- `set_of` meets its contract: from the last number to the first, each is put into the set (`SetFrom`).
-use Prim.Native.Nat.{◌-◌}
 use Rattle.paper_placements.proofs.Sets.{SetFrom}
 use Rattle.paper_placements.proofs.set_of.Given as goal
 

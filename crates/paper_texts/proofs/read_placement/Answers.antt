@@ -1,5 +1,4 @@
 use mathlib.Core.Path.{sym, ◌∙◌}
-use Prim.Native.Nat.{◌-◌}
 use native.Mathlib.Omega.{arith}
 use Rattle.paper_placements.specs.Words.{gaps_in}
 use Rattle.paper_texts.proofs.Placing.{placing, placed_all, placed_bad, placed-fault, next_inside, place_on}

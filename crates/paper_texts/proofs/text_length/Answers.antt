@@ -1,4 +1,3 @@
-use Prim.Native.Nat.{◌-◌}
 use native.Mathlib.Omega.{arith}
 use Rattle.paper_texts.proofs.Written.{lowest_up, length_begin, length_on, length_done}
 use Rattle.paper_texts.proofs.text_length.Goals as goal

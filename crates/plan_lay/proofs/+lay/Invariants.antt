@@ -1,6 +1,5 @@
 -- `lay` meets its contract; the height falls at each call. The invariant of its loop: the placement holds what the
 -- sweep has laid so far (`Laying`). At its end that is what the loop lays (`done`).
-use Prim.Native.Nat.{◌-◌}
 use Rattle.plan_lay.proofs.Turns.{Laying}
 use Rattle.plan_lay.proofs.+lay.Given as goal
 

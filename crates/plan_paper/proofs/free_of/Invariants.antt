@@ -1,5 +1,4 @@
 -- `free_of` meets its contract: from the last barred gap to the first, each gets 0 (`FreeFrom`).
-use Prim.Native.Nat.{◌-◌}
 use Rattle.plan_paper.proofs.Ranking.{FreeFrom}
 use Rattle.plan_paper.proofs.free_of.Given as goal
 

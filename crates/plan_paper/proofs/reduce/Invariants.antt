@@ -1,6 +1,5 @@
 -- `reduce` meets its contract: the points at once (`IsRing`), then the dependences from the last to the first, each with
 -- the ranks of its points (`DepsFrom`).
-use Prim.Native.Nat.{◌-◌}
 use Rattle.plan_paper.proofs.Rings.{IsRing}
 use Rattle.plan_paper.proofs.Reducing.{DepsFrom}
 use Rattle.plan_paper.proofs.reduce.Given as goal

@@ -1,5 +1,4 @@
 use mathlib.Core.Path.{◌≡◌, refl, ◌∙◌}
-use Prim.Native.Nat.{◌-◌}
 use native.Mathlib.Omega.{arith}
 use Rattle.plan_rows.proofs.Copying.{rows_none, rows_more}
 use Rattle.plan_rows.proofs.clear_rows.Goals as goal

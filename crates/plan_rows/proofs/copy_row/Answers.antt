@@ -1,4 +1,4 @@
-use Prim.Native.Nat.{◌+◌, ◌-◌}
+use Prim.Native.Nat.{◌+◌}
 use native.Mathlib.Omega.{arith}
 use Rattle.plan_rows.proofs.Copying.{copied_none, Copied-more}
 use Rattle.plan_rows.proofs.copy_row.Goals as goal

@@ -1,5 +1,4 @@
 use mathlib.Core.Path.{◌∙◌}
-use Prim.Native.Nat.{◌-◌}
 use native.Mathlib.Omega.{arith}
 use Rattle.plan_rows.proofs.Valuing.{first_small, early_none, early_low, early_high}
 use Rattle.plan_rows.proofs.Valuing.{late_none, late_small, late_more, late_all}

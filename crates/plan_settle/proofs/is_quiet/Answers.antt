@@ -1,4 +1,3 @@
-use Prim.Native.Nat.{◌-◌}
 use native.Mathlib.Omega.{arith}
 use Rattle.plan_settle.proofs.Quiet.{quiet_more, quiet_all, quiet_not}
 use Rattle.plan_settle.proofs.is_quiet.Goals as goal

@@ -1,5 +1,4 @@
 -- `events` meets its contract. The invariant: the events above the boundary p are there (`Eventing`).
-use Prim.Native.Nat.{◌-◌}
 use Rattle.plan_starts.proofs.Eventing.{Eventing}
 use Rattle.plan_starts.proofs.events.Given as goal
 

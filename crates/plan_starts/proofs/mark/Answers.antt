@@ -1,4 +1,4 @@
-use Prim.Native.Nat.{◌+◌, ◌-◌}
+use Prim.Native.Nat.{◌+◌}
 use native.Mathlib.Omega.{arith}
 use Rattle.plan_starts.proofs.Marking.{marking_none, marking_do, marking_other, marking_all}
 use Rattle.plan_starts.proofs.mark.Goals as goal

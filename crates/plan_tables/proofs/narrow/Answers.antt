@@ -1,4 +1,3 @@
-use Prim.Native.Nat.{◌-◌}
 use native.Mathlib.Omega.{arith}
 use Rattle.plan_tables.proofs.Limits.{Ended, row_there, limits_start, limits_on, limits_skip}
 use Rattle.plan_tables.proofs.Limits.{limits_done}

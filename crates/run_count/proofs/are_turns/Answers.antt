@@ -1,4 +1,3 @@
-use Prim.Native.Nat.{◌-◌}
 use native.Mathlib.Omega.{arith}
 use Rattle.run_count.proofs.Fitting.{test_start, test_low, test_high, test_on, test_done}
 use Rattle.run_count.proofs.are_turns.Goals as goal

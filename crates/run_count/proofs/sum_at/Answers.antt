@@ -1,5 +1,4 @@
 use mathlib.Core.Path.{sym, ◌∙◌}
-use Prim.Native.Nat.{◌-◌}
 use native.Mathlib.Omega.{arith}
 use Rattle.run_count.proofs.Summing.{sum_start, sum_held, sum_free, sum_fits, sum_done}
 use Rattle.run_count.proofs.sum_at.Goals as goal
