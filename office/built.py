@@ -199,11 +199,11 @@ def make_anew(made: Made, name: str, reason: str) -> None:
     for path in (made.seen, made.stamp, made.file):
         remove(path)
     if made.tool == 'rt':
-        say(f'{name}: the {made.what} {reason}: proving and building it, which takes minutes the first time\n')
+        say(f'{name}: the {made.what} {reason}: proving and building it, which takes minutes the first time ...')
     began = time.monotonic()
     made.make(name)
     if made.tool == 'rt':
-        say(f'{name}: the {made.what} is built, in {time.monotonic() - began:.0f} s\n')
+        say(f' done in {time.monotonic() - began:.0f} s\n')
     if not os.path.exists(made.file):
         raise Fault(f'the {made.what} could not be built: {made.tool} made nothing')
     if {path: made.sha256_of(path) for path in made.sources()} != {path: was.sha256 for path, was in before.items()}:

@@ -9,7 +9,7 @@ from office.progress import CLEAR
 
 # How wide the bar is.
 WIDTH = 24
-# How often a line is written where there is no terminal, in seconds.
+# How often it is told where there is no terminal, in seconds.
 SELDOM, MINUTE = 60, 60
 # What rt says when it begins with a crate, and at the end of one.
 BEGINS, PROVED = re.compile(r'rt: chose --jobs \d+ for (\w+)'), re.compile(r'logic=proved\b')
@@ -44,11 +44,14 @@ def order(crate: str, rows: dict[str, list[str]]) -> list[str]:
 
 
 class Bar:
-    """How far the crates are: a bar at a terminal, elsewhere a line now and then."""
+    """How far the crates are: a bar at a terminal, below the line that is there; elsewhere some words on that line now
+    and then."""
 
     def __init__(self, name: str, crates: list[str]):
         self.name, self.crates, self.at, self.running, self.begun = name, crates, 0, '', time.monotonic()
         self.shown, self.visible = self.begun, sys.stderr is not None and sys.stderr.isatty()
+        if self.visible:
+            say('\n')
 
     def read(self, line: str) -> None:
         """Goes on by what rt says: what stands before a crate is proved when it begins, and a crate when it ends."""
@@ -69,13 +72,13 @@ class Bar:
             line = f'{"#" * full}{"." * (WIDTH - full)} {told}: {self.running}'
             say(f'{CLEAR}{line[:columns() - 1]}')
         elif not self.visible and now - self.shown >= SELDOM:
-            say(f'{self.name}: {told}\n')
+            say(f' {told} ...')
             self.shown = now
 
     def close(self) -> None:
         """Takes the bar off."""
         if self.visible:
-            say(CLEAR)
+            say(f'{CLEAR}{self.name}:')
 
 
 def span(seconds: float) -> str:

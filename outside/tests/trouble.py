@@ -158,7 +158,7 @@ def elsewhere(tally: Tally, folder: pathlib.Path) -> None:
     rt('[ "$*" = lib ] || exit 1', 'mkdir -p out', f'cp {built} out/libhost.a')
     seen = asked()
     tally.check('not linked, no gcc', seen.status == 2 and 'there is no gcc' in seen.err, seen)
-    tally.check('built in two lines', seen.err.count('\n') == 3 and ' is built, in ' in seen.err, seen)
+    tally.check('built in one line', seen.err.count('\n') == 2 and ' done in ' in seen.err, seen)
     for tool in ['gcc', 'ld', 'as']:
         (tools / tool).symlink_to(shutil.which(tool))
     tally.check('linked', asked() == answered, asked())
