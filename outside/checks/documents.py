@@ -55,8 +55,9 @@ def documents() -> Documents:
 
 
 def today(docs: Documents) -> Iterator[tuple[str, str]]:
-    """All but the notes on requests, whose names and commands are those of their day."""
-    return ((where, text) for where, text in docs.items() if not re.match(r'docs/changes/\d', where))
+    """All but the notes on requests, whose names and commands are those of their day, and the page that tells old names
+    beside new ones."""
+    return ((where, text) for where, text in docs.items() if not re.match(r'docs/(changes/\d|PORT\.md)', where))
 
 
 def blocks(text: str) -> list[tuple[str, str]]:
