@@ -2,14 +2,19 @@
 -- gap after l's ENDDO; a loop that is not inside l and has a gap of l's range in its own lies around l.
 -- Main statements: `ends_within`, `inside_or`, `lies_around`; `parent_of`, `parent_ends`, `own_after`.
 use mathlib.Core.Path.{◌≡◌}
-use mathlib.Core.Bool.{true}
+use mathlib.Core.Bool.{Bool, true, ◌||◌}
 use mathlib.Core.Logic.{◌⊎◌, inl, inr}
 use Prim.Native.Nat.{ℕ, zero, suc, ◌≤◌, ◌<◌}
 use native.Mathlib.Omega.{arith}
+use lib.Dec.{eqb}
 use Rattle.laws.proofs.Tests.{le_or, lt_by, eq_by}
 use Rattle.plan_method.specs.Sweep.{Loops}
 use Rattle.plan_method.proofs.World.{Inside, Owner, LoopLaws}
 use Rattle.plan_method.proofs.Inside.{self_or_inside}
+
+-- the gap before l's DO and the gap after its ENDDO
+abbrev pub beside : Loops → ℕ → ℕ → Bool
+beside B l g = eqb g l || eqb g (suc (B.stop l))
 
 module _ (B : Loops) (laws : LoopLaws B) where
   -- an own gap lies above its loop's DO

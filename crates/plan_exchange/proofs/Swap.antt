@@ -16,11 +16,7 @@ use Rattle.plan_method.specs.Sweep.{Loops, Lines, Tables}
 use Rattle.plan_method.proofs.World.{World, Inside, Lawful}
 use Rattle.plan_method.proofs.Claim.{Hit, Sound}
 use Rattle.plan_method.proofs.AttainedEmpty.{InChild, each_in_child}
-use Rattle.plan_exchange.proofs.Beside.{ends_within, inside_or, lies_around}
-
--- the gap before l's DO and the gap after its ENDDO
-abbrev beside : Loops → ℕ → ℕ → Bool
-beside B l g = eqb g l || eqb g (suc (B.stop l))
+use Rattle.plan_exchange.proofs.Beside.{beside, ends_within, inside_or, lies_around}
 
 -- z in the range of l; elsewhere x, with the gaps beside l
 unfoldable pub swap : Loops → ℕ → (ℕ → Bool) → (ℕ → Bool) → ℕ → Bool
