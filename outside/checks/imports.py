@@ -13,11 +13,11 @@ USE = re.compile(r'^(?:ghost )?use ([^\n{;]*?)(?:\.\{([^}\n]*)\}| as (\S+?))?;?$
 # Where an operand stands in the name of an operator.
 PLACE = '◌'
 COMMENT = {'.antt': '--', '.rt': '//'}
-WORD, JOINED = re.compile(r'[^\s(){}\[\].,;\\]+|\[\]'), re.compile(r'[⌜⌝«»@&*!|:]+')
+WORD, JOINED = re.compile(r'[^\s(){}\[\].,;\\]+|\[\]'), re.compile(r'[⌜⌝«»@&*!|:<>]+')
 # Texts with an import too many, and that import.
 SEEN = [('.antt', 'use lib.Dec.{eqb, ltb}\nf a = eqb a 0\n', ['ltb']), ('.antt', 'use a.B as C\n', ['C']),
         ('.antt', 'use lib.N.{◌+◌, ◌∸◌}\nf a = a + 1 -- ∸\n', ['◌∸◌']),
-        ('.rt', 'use desk::Desk;\nuse desk::Nest;\nNest', ['Desk'])]
+        ('.rt', 'use desk::Desk;\nuse desk::Nest;\nResult<u8, Nest>', ['Desk'])]
 
 
 def words(text: str) -> set[str]:

@@ -67,6 +67,9 @@ def crates() -> dict[str, list[str]]:
 def without_contracts(source: str) -> str:
     """What is left for Rust: no ghosts, no contracts; every value may be copied."""
     source = re.sub(r'(?m)^ghost use .*;\n', '', source)
+    # What a trait and its impls say of its meaning, and the clauses of a trait's methods.
+    source = re.sub(r'(?m)^ *ghost \w+(?: =|:) \{.*\};\n', '', source)
+    source = re.sub(r'\n *(?:requires|ensures)(?: \w+)? \{.*\};', ';', source)
     # Attributes of the prover's own, and derives, which are put before every type below.
     source = re.sub(r'(?m)^ *#!?\[(?:tactic|cycle|derive)\b.*\]\n', '', source)
     clause = r'(?:requires|ensures)(?: \w+)? \{'

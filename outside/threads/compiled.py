@@ -16,6 +16,7 @@ from office.threads import BEGINS
 from outside.measure import papers
 from outside.threads.building import SANITIZED, compiled, sanitizer
 from outside.threads.nests import Nest, random_nest
+from outside.threads.running import TRIES
 from outside.trying import DESK, EXAMPLES, ROOT, Seen, Tally, run
 
 NOT_CUT, ABSENT = r'^dependence (\d+) is not cut: ', r'^dependence (\d+) did not occur: '
@@ -161,7 +162,8 @@ def full_size(tally: Tally, programs: Programs) -> None:
 
 
 def sanitized(tally: Tally, programs: Programs, start: list[str]) -> None:
-    """ThreadSanitizer reports a race on each dependence that is uncut, and on no other."""
+    """ThreadSanitizer reports a race on each dependence that is uncut, and on no other. It may miss one where two threads
+    come in the very same moment, so what raced too little is run again (running.py)."""
     rng = random.Random(5)
     nests = [(EXAMPLES['p'], '3,9'), (EXAMPLES['p'], '5,11'), (EXAMPLES['q'], '4'), (EXAMPLES['r'], '')]
     while len(nests) < 10:
@@ -172,9 +174,13 @@ def sanitized(tally: Tally, programs: Programs, start: list[str]) -> None:
         desk = Desk()
         desk.load(text)
         wanted = uncut_of(desk, [int(gap) for gap in gaps.split(',') if gap])
-        seen = programs.ran(programs.written(text, gaps), *SANITIZED, start=(*start,))
-        raced = sorted({int(number) for number in re.findall("global 'dependence_([0-9]+)'", seen.err)})
-        well = raced == wanted == said(seen, NOT_CUT) and seen.status == (66 if wanted else 0)
+        source = programs.written(text, gaps)
+        for _ in range(TRIES):
+            seen = programs.ran(source, *SANITIZED, start=(*start,))
+            raced = {int(number) for number in re.findall("global 'dependence_([0-9]+)'", seen.err)}
+            if not raced < {*wanted}:
+                break
+        well = sorted(raced) == wanted == said(seen, NOT_CUT) and seen.status == (66 if wanted else 0)
         tally.check(f'sanitized, {gaps}', well, (text, wanted, raced, seen.status, seen.err[:200]))
 
 

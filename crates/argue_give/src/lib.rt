@@ -226,12 +226,13 @@ fn give_where(
         × (result.many ≤ sofar.many + 1) }
 {
     if yes {
-        return give_claim(
+        give_claim(
             nest, points, own, left, kids, need, sets, loops, froms, uptos, d, e, from, upto, few,
             out, sofar,
-        );
+        )
+    } else {
+        sofar
     }
-    sofar
 }
 
 // The claims that the row of the loop d makes, one for the first gap of each run of equal fronts; the row starts at
@@ -267,8 +268,7 @@ fn give_row(
     ensures need_unchanged { (need.new ≡ need.old) × (sets.new ≡ sets.old) }
 {
     let mut s = sofar;
-    let mut b = e;
-    while d < b {
+    for b in (d + 1..e + 1).rev() {
         let front = left[base + b] as usize;
         let upto = before(front);
         let yes = starts_run(left, base, d, b);
@@ -276,7 +276,6 @@ fn give_row(
             yes, nest, points, own, left, kids, need, sets, loops, froms, uptos, d, e, b, upto,
             cost, out, s,
         );
-        b -= 1;
     }
     s
 }
@@ -288,22 +287,12 @@ fn starts_run(left: &[u16], base: usize, d: usize, b: usize) -> bool
     ensures { result ≡ run_at left.now base d (b - 1) }
 {
     let here = left[base + b] as usize;
-    if here == d + 1 {
-        return false;
-    }
-    if b == d + 1 {
-        return true;
-    }
-    let last = left[base + (b - 1)] as usize;
-    here != last
+    here != d + 1 && (b == d + 1 || here != left[base + (b - 1)] as usize)
 }
 
 // One less, or 0.
 fn before(x: usize) -> usize
     ensures { result ≡ before x }
 {
-    if x == 0 {
-        return 0;
-    }
-    x - 1
+    x.saturating_sub(1)
 }

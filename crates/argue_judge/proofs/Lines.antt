@@ -2,6 +2,8 @@
 -- Main statements: `points_some`, `first_room`, `lines_begun`; `open_small`, `closing_room`, `striking_room`;
 -- `asked_tables`, `step_room`, `stepped_as`; `end_holds`, `end_lacks`; `tables-of`, `judgeable`.
 use mathlib.Core.Path.{◌≡◌, refl, sym, ap, ◌∙◌, subst}
+use Rattle.std.proofs.Common.{Option, None, Ok}
+use Rattle.std.specs.Option.{is_some, IfSome}
 use mathlib.Core.Bool.{Bool, true, false, ◌&&◌, ◌||◌, not}
 use mathlib.Core.List.{List, [], ◌∷◌}
 use Prim.Native.Nat.{ℕ, zero, suc, ◌-◌, ◌≤◌, ◌<◌}
@@ -19,7 +21,6 @@ use Rattle.paper_nests.specs.Valid.{is_shape, is_valid}
 use Rattle.paper_nests.specs.Stored.{nest_in, dep_in, IsCounted}
 use Rattle.paper_nests.proofs.Deps.{valid_is}
 use Rattle.paper_nests.proofs.Levels.{point_in, starts_with_do}
-use Rattle.paper_lines.specs.declared.Read.TheVariants as RV
 use Rattle.paper_lines.specs.Lines.{lines_of}
 use Rattle.paper_lines.specs.Reading.{line_at}
 use Rattle.paper_nests.proofs.Loops.{owner_at_most, end-after}
@@ -242,7 +243,7 @@ module _ {nest : DN.Nest} {ps owners ends counts barred : List ℕ}
       (sound : (argument_fault s).number ≡ 0) {head : Claimed} {begins c by known : ℕ}
       {low gone loops froms uptos struck times : List ℕ} {place line : ℕ}
       (j : Judges (nest_in nest) key s (length ps - 1) ends head begins c by known low gone loops froms uptos struck
-      times place line) (h : line_at s place ≡ RV.End) (o : Open) (oe : o ≡ open_of ends head) (r : Bool)
+      times place line) (h : line_at s place ≡ Ok None) (o : Open) (oe : o ≡ open_of ends head) (r : Bool)
       (e : r ≡ (eqb begins 0 ||
       shown_by (low_by o.a o.b) c (greatest (at times) (length ps - 1)) (at counts o.d)))
       (z : r ≡ true) (ws : List ℕ)
@@ -270,13 +271,14 @@ module _ {nest : DN.Nest} {ps owners ends counts barred : List ℕ}
       (j : Judges (nest_in nest) key s (length ps - 1) ends head begins c by known low gone.words loops froms uptos
       struck times place line) (o : Open) (oe : o ≡ open_of ends head) (set i : ℕ)
       (found : (m : ℕ) → set ≡ suc (suc m) → m < nest.many → i ≡ m)
-      (q : Asked) (qe : q ≡ asked_of set by nest.many (L.dep_at nest i) ends) (new : List ℕ) (r : Taken)
+      (q : Asked) (qe : q ≡ asked_of set by nest.many (L.dep_at nest i) ends) (new : List ℕ) (r : Option Taken)
       (says : StepSays (length ps - 1) o q c gone known loops froms uptos ends owners struck times new r) where
     pub stepped_as
-        : (r.fine ≡ (step (nest_in nest) key j.now.open_is j.now.known (st set by) j.now.count).fine) ×
-        (r.fine ≡ true →
-        CountTables (nest_in nest) key (step (nest_in nest) key j.now.open_is j.now.known (st set by) j.now.count)
-        (length ps - 1) (suc j.steps) r.c new r.gone.words)
+        : (is_some r ≡ (step (nest_in nest) key j.now.open_is j.now.known (st set by) j.now.count).fine) ×
+        IfSome r
+        (λ (v : Taken). CountTables (nest_in nest) key
+        (step (nest_in nest) key j.now.open_is j.now.known (st set by) j.now.count) (length ps - 1) (suc j.steps) v.c new
+        v.gone.words)
     stepped_as =
         let told : StepSays (length ps - 1) o (asked_of set by nest.many (L.dep_at nest i) ends) c gone known loops froms
         uptos ends owners struck times new r =
@@ -296,23 +298,26 @@ module _ (nest : DN.Nest) where
   pub points_fit : IsCounted nest → length (nest_in nest).points ≤ POINTS
   points_fit c = omega (arith, c.count_is, c.count_fits)
 
+  -- `ps` are its points, as the code has them
   module _ (key owners ends counts : List ℕ) (counted : IsCounted nest) (valid : is_valid (nest_in nest) ≡ true)
-      (gaps : are_gaps (nest_in nest) key ≡ true) (owns : OwnersAre (nest_in nest).points owners)
-      (has_ends : HasEnds (nest_in nest).points ends) (counts_are : CountsAre (nest_in nest).points key counts) where
-    pub tables-of : NestTables (nest_in nest) key (length (nest_in nest).points - 1) ends owners counts
+      (gaps : are_gaps (nest_in nest) key ≡ true) (ps : List ℕ) (same : ps ≡ (nest_in nest).points)
+      (owns : OwnersAre ps owners) (has_ends : HasEnds ps ends) (counts_are : CountsAre ps key counts) where
+    pub tables-of : NestTables (nest_in nest) key (length ps - 1) ends owners counts
     tables-of =
         let some : 0 < length (nest_in nest).points =
         point_in (nest_in nest).points 0 0 (starts_with_do (nest_in nest).points (nest_shape valid)) in
+        let long : length ps ≡ length (nest_in nest).points = ap length same in
+        let owned : OwnersAre (nest_in nest).points owners = rw same at owns in
         record {
           paper =
               record {
                 valid = valid;
-                all = omega (arith, some);
-                ends_are = has_ends;
-                owners_are = λ g p. owns g (omega (arith, p, some));
+                all = omega (arith, some, long);
+                ends_are = rw same at has_ends;
+                owners_are = λ g p. owned g (omega (arith, p, some, long));
               };
-          small = omega (arith, points_fit counted, some);
-          counts_are = counts_are (nest_in nest) refl;
+          small = omega (arith, points_fit counted, some, long);
+          counts_are = counts_are (nest_in nest) (sym same);
           gaps = gaps;
         }
 
@@ -322,12 +327,12 @@ module _ (nest : DN.Nest) where
         → length owners ≡ POINTS
         → length ends ≡ POINTS
         → length counts ≡ POINTS
-        → Judgeable nest (nest_in nest).points owners ends counts barred
+        → Judgeable nest ps owners ends counts barred
     judgeable barred bars ol el cl =
         record {
           key = key;
           counted = counted;
-          points_are = refl;
+          points_are = same;
           tables = tables-of;
           barred_are = bars;
           owners_long = ol;

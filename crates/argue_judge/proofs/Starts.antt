@@ -1,17 +1,16 @@
 -- What is excluded before any claim: the table is filled gap by gap, and says what the definition does of no claims.
--- Main definitions: `Filling`, `FirstTables`. Main statements: `fill_on`, `fill_done`, `first_excludes`.
+-- Main definitions: `Filling`, `FirstTables`. Main statement: `first_excludes`.
 use mathlib.Core.Path.{◌≡◌, refl, ◌∙◌}
 use mathlib.Core.Bool.{Bool, true, false, ◌&&◌, ◌||◌, not}
 use mathlib.Core.List.{List, []}
 use mathlib.Core.Logic.{◌⊎◌, inl, inr}
-use Prim.Native.Nat.{ℕ, suc, ◌+◌, ◌≤◌, ◌<◌}
+use Prim.Native.Nat.{ℕ, suc, ◌≤◌, ◌<◌}
 use native.Mathlib.Omega.{arith}
 use lib.Dec.{eqb, ltb, leb}
-use lib.ListN.{length, set, length-set}
+use lib.ListN.{length}
 use borrow.Author.Tests.{lt-ltb, le-ltb, ltb-true, leb-true, eq-eqb, ne_eqb}
 use Rattle.laws.specs.Choice.{is_in}
 use Rattle.laws.specs.Entries.{at}
-use Rattle.laws.proofs.Stores.{stored}
 use Rattle.laws.proofs.Tests.{and_true, eq_or}
 use Rattle.paper_nests.specs.Kinds.{POINTS}
 use Rattle.paper_nests.specs.Nests.{Nest}
@@ -23,40 +22,10 @@ use Rattle.paper_placements.specs.Words.{holds}
 use Rattle.argue_weigh.specs.Excluding.{Excludes, excluded_in}
 use Rattle.argue_judge.specs.Starts.{first_at, FirstStruck}
 
-pub first_counts : (barred : Bool) (o c r : ℕ) → barred ≡ false → c ≡ 0 → r ≡ o + 1 → r ≡ first_at barred o c
-first_counts barred o c r h e z =
-    let one : o + 1 ≡ suc o = omega arith in
-    z ∙ rw (h, eq-eqb c 0 e, one) refl
-
-pub first_none : (barred : Bool) (o c : ℕ) → barred ≡ false → (c ≡ 0 → ⊥) → 0 ≡ first_at barred o c
-first_none barred o c h e = rw (h, ne_eqb c 0 e) refl
-
 -- the gaps below g have their numbers
 pub record Filling (ws owners counts : List ℕ) (g : ℕ) (struck : List ℕ) : Type 0 where
   pub long : length struck ≡ POINTS
   pub done : (i : ℕ) → i < g → at struck i ≡ first_at (holds ws i) (at owners i) (at counts (at owners i))
-
-pub fill_start : (ws owners counts struck : List ℕ) → length struck ≡ POINTS → Filling ws owners counts 0 struck
-fill_start ws owners counts struck l = record { long = l; done = λ i p. absurd (omega (arith, p)) }
-
-module _ {ws owners counts : List ℕ} {g : ℕ} {struck : List ℕ} (f : Filling ws owners counts g struck) where
-  pub fill_on
-      : (b : Bool) (r : ℕ)
-      → g < POINTS
-      → b ≡ holds ws g
-      → r ≡ first_at b (at owners g) (at counts (at owners g))
-      → Filling ws owners counts (g + 1) (set struck g r)
-  fill_on b r small w h =
-      record {
-        long = length-set struck g r ∙ f.long;
-        done = λ i p. stored struck g r i (first_at (holds ws i) (at owners i) (at counts (at owners i)))
-            (omega (arith, small, f.long))
-            (λ z. h ∙ rw (w, z) refl)
-            (λ z. f.done i (omega (arith, z, p)));
-      }
-
-  pub fill_done : (count : ℕ) → g ≡ count → FirstStruck count ws owners counts struck
-  fill_done count e = record { long = f.long; first = λ i p. f.done i (omega (arith, p, e)) }
 
 -- the table of a nest of this shape, from its owners, the key's counts and its barred gaps
 pub record FirstTables (n : Nest) (key : List ℕ) (count : ℕ) (ws owners counts : List ℕ) : Type 0 where

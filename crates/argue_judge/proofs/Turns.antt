@@ -1,7 +1,8 @@
 -- An argument text judged line by line: what a turn keeps, and one law for each way through a turn.
--- Main definitions: `Judges`, `JudgesAll`. Main statements: `judges_begun`; `end_unshown`, `end_shown`; `claim_unshown`,
--- `claim_of_none`, `claim_on`; `Led-on`; `step_not`, `step_on`.
+-- Main definitions: `Judges`, `JudgesAll`, `Turn`. Main statements: `judges_begun`; `end_unshown`, `end_shown`; of a turn
+-- that comes to a frame `claim_unshown`, `claim_of_none`, `claim_on`; `Led-on`; `step_not`, `step_on`.
 use mathlib.Core.Path.{◌≡◌, refl, sym, ap, ◌∙◌, subst}
+use Rattle.std.proofs.Common.{Some, None, Ok, Err}
 use mathlib.Core.Bool.{Bool, true, false, ◌&&◌, ◌||◌, not}
 use mathlib.Core.List.{List, [], ◌∷◌}
 use mathlib.Core.Logic.{◌⊎◌, inl, inr, ⊎_elim}
@@ -14,11 +15,11 @@ use borrow.Author.Tests.{eq-eqb, ne_eqb}
 use Rattle.laws.specs.Choice.{pick}
 use Rattle.laws.specs.Entries.{at}
 use Rattle.laws.proofs.Tests.{eq_or}
+use Rattle.paper_refusals.specs.declared.Refusal.{Refusal}
 use Rattle.paper_nests.specs.Kinds.{POINTS}
 use Rattle.paper_nests.specs.Nests.{Nest}
 use Rattle.paper_nests.specs.Loops.{is_do}
 use Rattle.paper_lines.specs.declared.Frame.{Frame}
-use Rattle.paper_lines.specs.declared.Read.TheVariants as RV
 use Rattle.paper_lines.specs.Lines.{lines_of}
 use Rattle.paper_lines.specs.Reading.{line_at}
 use Rattle.paper_nests.proofs.Levels.{starts_with_do}
@@ -27,7 +28,7 @@ use Rattle.argue_claims.specs.Arguments.{Count, greatest, counted, begun, claim,
 use Rattle.argue_texts.specs.declared.Claimed.{Claimed}
 use Rattle.argue_texts.specs.declared.Part as DP
 use Rattle.argue_texts.specs.declared.Part.TheVariants as PV
-use Rattle.argue_texts.specs.ArgumentTexts.{CLAIMS, STEPS, Claims, By, Names, progress, after, argument_fault, part_fault}
+use Rattle.argue_texts.specs.ArgumentTexts.{CLAIMS, STEPS, progress, after, argument_fault, part_fault}
 use Rattle.argue_texts.specs.ArgumentTexts.{parts_of, rest_of}
 use Rattle.argue_texts.specs.Parts.{part_in, IsPart}
 use Rattle.argue_texts.specs.Judged.{Judging, unbegun, led_by, closes, known_now, opened, counting, stepped, judge_from}
@@ -40,8 +41,7 @@ use Rattle.argue_weigh.specs.Taking.{KnownTables, CountTables}
 use Rattle.argue_judge.specs.Ends.{low_by, shown_by, Closed, all_low_in}
 use Rattle.argue_judge.specs.Opened.{open_of}
 use Rattle.argue_judge.specs.Judging.{NestTables}
-use Rattle.argue_judge.proofs.Closing.{Standing, shape, closes_is, known-now, low_now}
-use Rattle.argue_judge.proofs.Closing.{all_low_now}
+use Rattle.argue_judge.proofs.Closing.{Standing, shape, closes_is, known-now, low_now, all_low_now}
 
 -- a step counts one set at most
 counted_few : (v c : ℕ) → counted v c ≤ suc c
@@ -136,7 +136,7 @@ module _ (n : Nest) (key s : List ℕ) {last : ℕ} {ends owners counts : List �
 
     -- ---- the text's end
 
-    module _ (h : line_at s place ≡ RV.End) (o : Open) (oe : o ≡ open_of ends head) (r : Bool)
+    module _ (h : line_at s place ≡ Ok None) (o : Open) (oe : o ≡ open_of ends head) (r : Bool)
         (e : r ≡ (eqb begins 0 || shown_by (low_by o.a o.b) c (greatest (at times) last) (at counts o.d))) where
       closed : r ≡ closes n key j.now
       closed =
@@ -175,255 +175,8 @@ module _ (n : Nest) (key s : List ℕ) {last : ℕ} {ends owners counts : List �
 
     -- ---- a line
 
-    pub never_refused : (k : ℕ) → line_at s place ≡ RV.Refused k → ⊥
+    pub never_refused : (k : Refusal) → line_at s place ≡ Err k → ⊥
     never_refused k h = never_bad s (progress j.many j.steps by) place line j.walk sound k h
-
-    module _ (f : Frame) (h : line_at s place ≡ RV.Frame f) where
-      -- the rest from this line on, which is a part
-      judges_as
-          : (p : DP.Part)
-          → IsPart f p
-          → judge_from n key line j.now (part_in p ∷ parts_of (lines_of (drop f.next s)))
-          ≡ judged n key (parts_of (lines_of s))
-      judges_as p i = ap (judge_from n key line j.now) (sym (parts_on s place f h p i)) ∙ j.rest
-
-      fine_part : (p : DP.Part) → IsPart f p → part_fault (progress j.many j.steps by) (part_in p) ≡ 0
-      fine_part p i = part_fine s (progress j.many j.steps by) place line j.walk sound f h p i
-
-      walks
-          : (p : DP.Part)
-          → IsPart f p
-          → Walk s (after (progress j.many j.steps by) (part_in p)) f.next (line + 1)
-      walks p i = walk_on s (progress j.many j.steps by) place line j.walk f h p i (fine_part p i)
-
-      pub goes-on : (p : DP.Part) → IsPart f p → (place < f.next) × (f.next ≤ length s)
-      goes-on p i = next_inside s (progress j.many j.steps by) place line j.walk f h p i
-
-      pub never_unknown : IsPart f PV.Unknown → ⊥
-      never_unknown i =
-          omega (arith, unknown_fault (progress j.many j.steps by) PV.Unknown refl, fine_part PV.Unknown i)
-
-      -- ---- that a claim leads the next step
-
-      pub Led-on
-          : (m by' : ℕ)
-          → IsPart f (PV.By m)
-          → by' ≡ m + 1
-          → Judges n key s last ends head begins c by' known low gone loops froms uptos struck times f.next (line + 1)
-      unfolding judge_from
-      Led-on m by' i e =
-          let b : by' ≡ suc m = omega (arith, e) in
-          let ps = parts_of (lines_of (drop f.next s)) in
-          record {
-            now = led_by m j.now;
-            many = j.many;
-            steps = j.steps;
-            walk =
-                subst (λ (k : ℕ). Walk s (progress j.many j.steps k) f.next (line + 1)) (sym b)
-                (walks (PV.By m) i);
-            rest =
-                ap (λ (k : ℕ). judge_from n key k (led_by m j.now) ps) (add-one line) ∙ judges_as (PV.By m) i;
-            by_is = b;
-            stands =
-                record {
-                  opened_is = j.stands.opened_is;
-                  opens = j.stands.opens;
-                  counts = j.stands.counts;
-                  few_sets = j.stands.few_sets;
-                  few_steps = j.stands.few_steps;
-                  knows = j.stands.knows;
-                  lows = j.stands.lows;
-                  fresh = j.stands.fresh;
-                };
-            room = j.room;
-            few_claims = j.few_claims;
-            pos = omega arith;
-          }
-
-      -- ---- a step
-
-      module _ (m : ℕ) (i : IsPart f (PV.Names m)) where
-        stepping
-            : step n key j.now.open_is j.now.known (st m by) j.now.count ≡ counting n key m j.now
-        stepping =
-            ap (λ (k : ℕ). step n key j.now.open_is j.now.known (st m k) j.now.count) j.by_is
-
-        steps_as
-            : pick (counting n key m j.now).fine
-            (judge_from n key (suc line) (stepped n key m j.now) (parts_of (lines_of (drop f.next s)))) line
-            ≡ judged n key (parts_of (lines_of s))
-        unfolding judge_from
-        steps_as = judges_as (PV.Names m) i
-
-        module _ (r : Bool)
-            (e : r ≡ (step n key j.now.open_is j.now.known (st m by) j.now.count).fine) where
-          fine_is : (counting n key m j.now).fine ≡ r
-          fine_is = ap (λ (x : Count). x.fine) (sym stepping) ∙ sym e
-
-          pub step_not : r ≡ false → line ≡ judged n key (parts_of (lines_of s))
-          step_not z =
-              let no : (counting n key m j.now).fine ≡ false = fine_is ∙ z in
-              sym (rw no refl) ∙ steps_as
-
-          pub step_on
-              : (c' : ℕ) (gone' times' : List ℕ)
-              → r ≡ true
-              → CountTables n key (step n key j.now.open_is j.now.known (st m by) j.now.count) last
-              (suc j.steps) c' times' gone'
-              → Judges n key s last ends head begins c' 0 known low gone' loops froms uptos struck times' f.next
-              (line + 1)
-          step_on c' gone' times' z counts =
-              let ps = parts_of (lines_of (drop f.next s)) in
-              let yes : (counting n key m j.now).fine ≡ true = fine_is ∙ z in
-              let room = names_fine (progress j.many j.steps by) (PV.Names m) refl (fine_part (PV.Names m) i) in
-              record {
-                now = stepped n key m j.now;
-                many = j.many;
-                steps = suc j.steps;
-                walk = walks (PV.Names m) i;
-                rest =
-                    ap (λ (k : ℕ). judge_from n key k (stepped n key m j.now) ps) (add-one line) ∙
-                    sym (rw yes refl) ∙ steps_as;
-                by_is = refl;
-                stands =
-                    record {
-                      opened_is = j.stands.opened_is;
-                      opens = j.stands.opens;
-                      counts = subst (λ (x : Count). CountTables n key x last (suc j.steps) c' times' gone') stepping
-                          counts;
-                      few_sets =
-                          omega (
-                            arith,
-                            counts.c_is,
-                            counted_few by j.now.count.c,
-                            j.stands.counts.c_is,
-                            j.stands.few_sets,
-                          );
-                      few_steps = omega (arith, room.1);
-                      knows = j.stands.knows;
-                      lows = j.stands.lows;
-                      fresh = j.stands.fresh;
-                    };
-                room = j.room;
-                few_claims = j.few_claims;
-                pos = omega arith;
-              }
-
-      -- ---- a claim
-
-      module _ (k : Claimed) (i : IsPart f (PV.Claims k)) where
-        -- the claim that was open is stored in the lists
-        pub store_room : known < CLAIMS
-        store_room =
-            let room = claims_fine (progress j.many j.steps by) (PV.Claims k) refl (fine_part (PV.Claims k) i) in
-            ⊎_elim
-            (λ (z : begins ≡ 0). omega (arith, j.stands.knows.count_is ∙ ap length (j.stands.fresh z)))
-            (λ (z : begins ≡ 0 → ⊥). omega (arith, j.room z, room.1))
-            (eq_or begins 0)
-
-        module _ (o : Open) (oe : o ≡ open_of ends head) (r : Bool)
-            (e : r ≡ (eqb begins 0 || shown_by (low_by o.a o.b) c (greatest (at times) last) (at counts o.d)))
-          where
-            shut : r ≡ closes n key j.now
-            shut =
-                closes_is t j.stands r
-                (subst
-                (λ (p : Open). r
-                ≡ (eqb begins 0 || shown_by (low_by p.a p.b) c (greatest (at times) last) (at counts p.d))) oe e)
-
-            -- what is opened
-            next : Judging
-            next =
-                opened n key line (claim k.d k.a k.b (rest_of 0 (parts_of (lines_of (drop f.next s)))).steps)
-                j.now
-
-            opens_as
-                : pick (closes n key j.now)
-                (pick (is_do n.points k.d) (judge_from n key (suc line) next (parts_of (lines_of (drop f.next s))))
-                line) j.now.line
-                ≡ judged n key (parts_of (lines_of s))
-            unfolding judge_from next
-            opens_as = judges_as (PV.Claims k) i
-
-            pub claim_unshown : r ≡ false → begins ≡ judged n key (parts_of (lines_of s))
-            claim_unshown z =
-                let no : closes n key j.now ≡ false = sym shut ∙ z in
-                j.stands.opened_is ∙ sym (rw no refl) ∙ opens_as
-
-            module _ (z : r ≡ true) where
-              yes : closes n key j.now ≡ true
-              yes = sym shut ∙ z
-
-              pub claim_of_none : is_do n.points k.d ≡ false → line ≡ judged n key (parts_of (lines_of s))
-              claim_of_none q = sym (rw (yes, q) refl) ∙ opens_as
-
-              pub claim_on
-                  : (known' : ℕ) (low' gone' struck' times' : List ℕ)
-                  → is_do n.points k.d ≡ true
-                  → Closed begins o.d o.e o.a o.b c (at counts o.d) last owners times struck struck'
-                  → length loops ≡ CLAIMS
-                  → length froms ≡ CLAIMS
-                  → length uptos ≡ CLAIMS
-                  → known' ≡ pick (eqb begins 0) known (known + 1)
-                  → ((g : ℕ) → holds low' g ≡
-                  ((not (eqb begins 0) && (low_by head.a head.b && eqb g head.d)) || holds low g))
-                  → CountTables n key begun last 0 0 times' gone'
-                  → Judges n key s last ends k line 0 0 known' low' gone' (set loops known head.d)
-                  (set froms known head.a) (set uptos known head.b) struck' times' f.next (line + 1)
-              unfolding next
-              claim_on known' low' gone' struck' times' q cl ll fl ul ke lw clean =
-                  let ps = parts_of (lines_of (drop f.next s)) in
-                  let room = claims_fine (progress j.many j.steps by) (PV.Claims k) refl
-                  (fine_part (PV.Claims k) i) in
-                  let closed' : Closed begins head.d (at ends head.d) head.a head.b c (at counts head.d) last
-                  owners times struck struck' =
-                  subst
-                  (λ (p : Open). Closed begins p.d p.e p.a p.b c (at counts p.d) last owners times struck
-                  struck') oe cl in
-                  let knows = known-now t j.stands struck' closed' (omega (arith, store_room, ll))
-                  (omega (arith, store_room, fl)) (omega (arith, store_room, ul)) in
-                  record {
-                    now = next;
-                    many = suc j.many;
-                    steps = 0;
-                    walk = walks (PV.Claims k) i;
-                    rest =
-                        ap (λ (p : ℕ). judge_from n key p next ps) (add-one line) ∙ sym (rw (yes, q) refl) ∙ opens_as;
-                    by_is = refl;
-                    stands =
-                        record {
-                          opened_is = refl;
-                          opens =
-                              record {
-                                loop_is = refl;
-                                loop_do = q;
-                                end_is = t.paper.ends_are k.d q;
-                                from_is = refl;
-                                upto_is = refl;
-                              };
-                          counts = clean;
-                          few_sets = omega arith;
-                          few_steps = omega arith;
-                          knows =
-                              subst
-                              (λ (p : ℕ). KnownTables n key (known_now n key j.now) p (set loops known head.d)
-                              (set froms known head.a) (set uptos known head.b) struck') (sym ke) knows;
-                          lows = low_now t j.stands low' lw;
-                          fresh = λ y. absurd (omega (arith, y, j.pos));
-                        };
-                    room = λ y. few (eq_or begins 0);
-                    few_claims = omega (arith, room.1);
-                    pos = omega arith;
-                  }
-                where
-                  few : (begins ≡ 0) ⊎ ((begins ≡ 0) → ⊥) → suc known' ≤ suc j.many
-                  few (inl y) =
-                      let none : known ≡ 0 = j.stands.knows.count_is ∙ ap length (j.stands.fresh y) in
-                      let same : known' ≡ known = ke ∙ rw (eq-eqb begins 0 y) refl in
-                      omega (arith, none, same)
-                  few (inr y) =
-                      let more : known' ≡ known + 1 = ke ∙ rw (ne_eqb begins 0 y) refl in
-                      omega (arith, more, j.room y)
 
 -- how long the lists are
 pub record Long (loops froms uptos struck times : List ℕ) : Type 0 where
@@ -441,6 +194,285 @@ pub record JudgesAll (n : Nest) (s : List ℕ) (last : ℕ) (ends owners counts 
       : (key : List ℕ)
       → NestTables n key last ends owners counts
       → Judges n key s last ends head begins c by known low gone loops froms uptos struck times place line
+
+-- a turn that comes to a frame: the tables stand, and the frame is that of a good line and tells the part p
+pub record Turn (n : Nest) (key s : List ℕ) (last : ℕ) (ends owners counts : List ℕ) (head : Claimed)
+    (begins c by known : ℕ) (low gone loops froms uptos struck times : List ℕ) (place line : ℕ) (f : Frame)
+    (p : DP.Part) : Type 0 where
+  pub tables : NestTables n key last ends owners counts
+  pub sound : (argument_fault s).number ≡ 0
+  pub judges : Judges n key s last ends head begins c by known low gone loops froms uptos struck times place line
+  pub framed : line_at s place ≡ Ok (Some f)
+  pub tells : IsPart f p
+
+pub turned
+    : {n : Nest} {s : List ℕ} {last : ℕ} {ends owners counts : List ℕ} {head : Claimed} {begins c by known : ℕ}
+    → {low gone loops froms uptos struck times : List ℕ} {place line : ℕ} (f : Frame) (p : DP.Part)
+    → JudgesAll n s last ends owners counts head begins c by known low gone loops froms uptos struck times place line
+    → (argument_fault s).number ≡ 0
+    → line_at s place ≡ Ok (Some f)
+    → IsPart f p
+    → (key : List ℕ)
+    → NestTables n key last ends owners counts
+    → Turn n key s last ends owners counts head begins c by known low gone loops froms uptos struck times place line f p
+turned f p v sound h i key t =
+    record { tables = t; sound = sound; judges = v.judges key t; framed = h; tells = i }
+
+module _ {n : Nest} {key s : List ℕ} {last : ℕ} {ends owners counts : List ℕ} {head : Claimed} {begins c by known : ℕ}
+    {low gone loops froms uptos struck times : List ℕ} {place line : ℕ} {f : Frame} {p : DP.Part}
+    (u : Turn n key s last ends owners counts head begins c by known low gone loops froms uptos struck times place line f
+    p) where
+  abbrev j : Judges n key s last ends head begins c by known low gone loops froms uptos struck times place line
+  j = u.judges
+
+  told_by : (q : DP.Part) → p ≡ q → IsPart f q
+  told_by q e = subst (IsPart f) e u.tells
+
+  -- the rest from this line on, which is a part
+  judges_as
+      : (q : DP.Part)
+      → p ≡ q
+      → judge_from n key line j.now (part_in q ∷ parts_of (lines_of (drop f.next s)))
+      ≡ judged n key (parts_of (lines_of s))
+  judges_as q i = ap (judge_from n key line j.now) (sym (parts_on s place f u.framed q (told_by q i))) ∙ j.rest
+
+  fine_part : (q : DP.Part) → p ≡ q → part_fault (progress j.many j.steps by) (part_in q) ≡ 0
+  fine_part q i = part_fine s (progress j.many j.steps by) place line j.walk u.sound f u.framed q (told_by q i)
+
+  walks
+      : (q : DP.Part)
+      → p ≡ q
+      → Walk s (after (progress j.many j.steps by) (part_in q)) f.next (line + 1)
+  walks q i = walk_on s (progress j.many j.steps by) place line j.walk f u.framed q (told_by q i) (fine_part q i)
+
+  pub goes-on : (place < f.next) × (f.next ≤ length s)
+  goes-on = next_inside s (progress j.many j.steps by) place line j.walk f u.framed p u.tells
+
+  pub never_unknown : p ≡ PV.Unknown → ⊥
+  never_unknown i =
+      omega (arith, unknown_fault (progress j.many j.steps by) PV.Unknown refl, fine_part PV.Unknown i)
+
+  -- ---- that a claim leads the next step
+
+  pub Led-on
+      : {m : ℕ} (by' : ℕ)
+      → p ≡ PV.By m
+      → by' ≡ m + 1
+      → Judges n key s last ends head begins c by' known low gone loops froms uptos struck times f.next (line + 1)
+  unfolding judge_from
+  Led-on {m} by' i e =
+      let b : by' ≡ suc m = omega (arith, e) in
+      let ps = parts_of (lines_of (drop f.next s)) in
+      record {
+        now = led_by m j.now;
+        many = j.many;
+        steps = j.steps;
+        walk =
+            subst (λ (k : ℕ). Walk s (progress j.many j.steps k) f.next (line + 1)) (sym b)
+            (walks (PV.By m) i);
+        rest =
+            ap (λ (k : ℕ). judge_from n key k (led_by m j.now) ps) (add-one line) ∙ judges_as (PV.By m) i;
+        by_is = b;
+        stands =
+            record {
+              opened_is = j.stands.opened_is;
+              opens = j.stands.opens;
+              counts = j.stands.counts;
+              few_sets = j.stands.few_sets;
+              few_steps = j.stands.few_steps;
+              knows = j.stands.knows;
+              lows = j.stands.lows;
+              fresh = j.stands.fresh;
+            };
+        room = j.room;
+        few_claims = j.few_claims;
+        pos = omega arith;
+      }
+
+  -- ---- a step
+
+  module _ {m : ℕ} (i : p ≡ PV.Names m) where
+    stepping
+        : step n key j.now.open_is j.now.known (st m by) j.now.count ≡ counting n key m j.now
+    stepping =
+        ap (λ (k : ℕ). step n key j.now.open_is j.now.known (st m k) j.now.count) j.by_is
+
+    steps_as
+        : pick (counting n key m j.now).fine
+        (judge_from n key (suc line) (stepped n key m j.now) (parts_of (lines_of (drop f.next s)))) line
+        ≡ judged n key (parts_of (lines_of s))
+    unfolding judge_from
+    steps_as = judges_as (PV.Names m) i
+
+    fine_as : (b : Bool) → b ≡ (step n key j.now.open_is j.now.known (st m by) j.now.count).fine → (counting n key m j.now).fine ≡ b
+    fine_as b e = ap (λ (x : Count). x.fine) (sym stepping) ∙ sym e
+
+    pub step_not
+        : false ≡ (step n key j.now.open_is j.now.known (st m by) j.now.count).fine
+        → line ≡ judged n key (parts_of (lines_of s))
+    step_not e =
+        let no : (counting n key m j.now).fine ≡ false = fine_as false e in
+        sym (rw no refl) ∙ steps_as
+
+    pub step_on
+        : (c' : ℕ) (gone' times' : List ℕ)
+        → true ≡ (step n key j.now.open_is j.now.known (st m by) j.now.count).fine
+        → CountTables n key (step n key j.now.open_is j.now.known (st m by) j.now.count) last
+        (suc j.steps) c' times' gone'
+        → Judges n key s last ends head begins c' 0 known low gone' loops froms uptos struck times' f.next
+        (line + 1)
+    step_on c' gone' times' e counts =
+        let ps = parts_of (lines_of (drop f.next s)) in
+        let yes : (counting n key m j.now).fine ≡ true = fine_as true e in
+        let room = names_fine (progress j.many j.steps by) (PV.Names m) refl (fine_part (PV.Names m) i) in
+        record {
+          now = stepped n key m j.now;
+          many = j.many;
+          steps = suc j.steps;
+          walk = walks (PV.Names m) i;
+          rest =
+              ap (λ (k : ℕ). judge_from n key k (stepped n key m j.now) ps) (add-one line) ∙
+              sym (rw yes refl) ∙ steps_as;
+          by_is = refl;
+          stands =
+              record {
+                opened_is = j.stands.opened_is;
+                opens = j.stands.opens;
+                counts = subst (λ (x : Count). CountTables n key x last (suc j.steps) c' times' gone') stepping
+                    counts;
+                few_sets =
+                    omega (
+                      arith,
+                      counts.c_is,
+                      counted_few by j.now.count.c,
+                      j.stands.counts.c_is,
+                      j.stands.few_sets,
+                    );
+                few_steps = omega (arith, room.1);
+                knows = j.stands.knows;
+                lows = j.stands.lows;
+                fresh = j.stands.fresh;
+              };
+          room = j.room;
+          few_claims = j.few_claims;
+          pos = omega arith;
+        }
+
+  -- ---- a claim
+
+  module _ {k : Claimed} (i : p ≡ PV.Claims k) where
+    -- the claim that was open is stored in the lists
+    pub store_room : known < CLAIMS
+    store_room =
+        let room = claims_fine (progress j.many j.steps by) (PV.Claims k) refl (fine_part (PV.Claims k) i) in
+        ⊎_elim
+        (λ (z : begins ≡ 0). omega (arith, j.stands.knows.count_is ∙ ap length (j.stands.fresh z)))
+        (λ (z : begins ≡ 0 → ⊥). omega (arith, j.room z, room.1))
+        (eq_or begins 0)
+
+    module _ (o : Open) (oe : o ≡ open_of ends head) (r : Bool)
+        (e : r ≡ (eqb begins 0 || shown_by (low_by o.a o.b) c (greatest (at times) last) (at counts o.d)))
+      where
+        shut : r ≡ closes n key j.now
+        shut =
+            closes_is u.tables j.stands r
+            (subst
+            (λ (p : Open). r
+            ≡ (eqb begins 0 || shown_by (low_by p.a p.b) c (greatest (at times) last) (at counts p.d))) oe e)
+
+        -- what is opened
+        next : Judging
+        next =
+            opened n key line (claim k.d k.a k.b (rest_of 0 (parts_of (lines_of (drop f.next s)))).steps)
+            j.now
+
+        opens_as
+            : pick (closes n key j.now)
+            (pick (is_do n.points k.d) (judge_from n key (suc line) next (parts_of (lines_of (drop f.next s))))
+            line) j.now.line
+            ≡ judged n key (parts_of (lines_of s))
+        unfolding judge_from next
+        opens_as = judges_as (PV.Claims k) i
+
+        pub claim_unshown : r ≡ false → begins ≡ judged n key (parts_of (lines_of s))
+        claim_unshown z =
+            let no : closes n key j.now ≡ false = sym shut ∙ z in
+            j.stands.opened_is ∙ sym (rw no refl) ∙ opens_as
+
+        module _ (z : r ≡ true) where
+          yes : closes n key j.now ≡ true
+          yes = sym shut ∙ z
+
+          pub claim_of_none : is_do n.points k.d ≡ false → line ≡ judged n key (parts_of (lines_of s))
+          claim_of_none q = sym (rw (yes, q) refl) ∙ opens_as
+
+          pub claim_on
+              : (known' : ℕ) (low' gone' struck' times' : List ℕ)
+              → is_do n.points k.d ≡ true
+              → Closed begins o.d o.e o.a o.b c (at counts o.d) last owners times struck struck'
+              → length loops ≡ CLAIMS
+              → length froms ≡ CLAIMS
+              → length uptos ≡ CLAIMS
+              → known' ≡ pick (eqb begins 0) known (known + 1)
+              → ((g : ℕ) → holds low' g ≡
+              ((not (eqb begins 0) && (low_by head.a head.b && eqb g head.d)) || holds low g))
+              → CountTables n key begun last 0 0 times' gone'
+              → Judges n key s last ends k line 0 0 known' low' gone' (set loops known head.d)
+              (set froms known head.a) (set uptos known head.b) struck' times' f.next (line + 1)
+          unfolding next
+          claim_on known' low' gone' struck' times' q cl ll fl ul ke lw clean =
+              let ps = parts_of (lines_of (drop f.next s)) in
+              let room = claims_fine (progress j.many j.steps by) (PV.Claims k) refl
+              (fine_part (PV.Claims k) i) in
+              let closed' : Closed begins head.d (at ends head.d) head.a head.b c (at counts head.d) last
+              owners times struck struck' =
+              subst
+              (λ (p : Open). Closed begins p.d p.e p.a p.b c (at counts p.d) last owners times struck
+              struck') oe cl in
+              let knows = known-now u.tables j.stands struck' closed' (omega (arith, store_room, ll))
+              (omega (arith, store_room, fl)) (omega (arith, store_room, ul)) in
+              record {
+                now = next;
+                many = suc j.many;
+                steps = 0;
+                walk = walks (PV.Claims k) i;
+                rest =
+                    ap (λ (p : ℕ). judge_from n key p next ps) (add-one line) ∙ sym (rw (yes, q) refl) ∙ opens_as;
+                by_is = refl;
+                stands =
+                    record {
+                      opened_is = refl;
+                      opens =
+                          record {
+                            loop_is = refl;
+                            loop_do = q;
+                            end_is = u.tables.paper.ends_are k.d q;
+                            from_is = refl;
+                            upto_is = refl;
+                          };
+                      counts = clean;
+                      few_sets = omega arith;
+                      few_steps = omega arith;
+                      knows =
+                          subst
+                          (λ (p : ℕ). KnownTables n key (known_now n key j.now) p (set loops known head.d)
+                          (set froms known head.a) (set uptos known head.b) struck') (sym ke) knows;
+                      lows = low_now u.tables j.stands low' lw;
+                      fresh = λ y. absurd (omega (arith, y, j.pos));
+                    };
+                room = λ y. few (eq_or begins 0);
+                few_claims = omega (arith, room.1);
+                pos = omega arith;
+              }
+            where
+              few : (begins ≡ 0) ⊎ ((begins ≡ 0) → ⊥) → suc known' ≤ suc j.many
+              few (inl y) =
+                  let none : known ≡ 0 = j.stands.knows.count_is ∙ ap length (j.stands.fresh y) in
+                  let same : known' ≡ known = ke ∙ rw (eq-eqb begins 0 y) refl in
+                  omega (arith, none, same)
+              few (inr y) =
+                  let more : known' ≡ known + 1 = ke ∙ rw (ne_eqb begins 0 y) refl in
+                  omega (arith, more, j.room y)
 
 module _ {loops froms uptos struck times : List ℕ} (l : Long loops froms uptos struck times) where
   pub long_named : (new : List ℕ) → length new ≡ length times → Long loops froms uptos struck new

@@ -1,6 +1,6 @@
 -- The lines of a text judged over tables of a nest.
--- Main definitions: `NestTables`, `Judgeable`, `JudgedBy`.
-use Rattle.std.specs.Prelude.{◌≡◌, true, List, ℕ, ◌-◌, ◌<◌, length}
+-- Main definitions: `NestTables`, `Judgeable`, `line_in`, `JudgedBy`.
+use Rattle.std.specs.Prelude.{◌≡◌, true, List, ℕ, ◌-◌, ◌<◌, length, Option, None, Some}
 use Rattle.laws.specs.Choice.{is_in}
 use Rattle.laws.specs.Entries.{at}
 use Rattle.paper_nests.specs.declared.Nest as DN
@@ -32,9 +32,14 @@ pub record Judgeable (nest : DN.Nest) (ps owners ends counts barred : List ℕ) 
   pub ends_long : length ends ≡ POINTS
   pub counts_long : length counts ≡ POINTS
 
+-- the line that was found, 0 for none
+abbrev pub line_in : Option ℕ → ℕ
+line_in None = 0
+line_in (Some l) = l
+
 -- r is the first line that does not hold, for every placement of which they are the tables
-abbrev pub JudgedBy : DN.Nest → List ℕ → List ℕ → List ℕ → List ℕ → List ℕ → ℕ → Type 0
+abbrev pub JudgedBy : DN.Nest → List ℕ → List ℕ → List ℕ → List ℕ → List ℕ → Option ℕ → Type 0
 JudgedBy nest ps owners ends counts s r =
     (key : List ℕ) →
     NestTables (nest_in nest) key (length ps - 1) ends owners counts →
-    r ≡ judged (nest_in nest) key (parts_of (lines_of s))
+    line_in r ≡ judged (nest_in nest) key (parts_of (lines_of s))

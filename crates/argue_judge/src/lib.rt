@@ -1,7 +1,7 @@
 // An argument judged: the claims of a text in turn, each by its steps, over tables of the nest.
 #![tactic(auto)]
 
-ghost use Rattle.std.specs.Prelude.{◌≡◌, true, ◌&&◌, ◌||◌, not, ℕ, suc, ◌+◌, ◌≤◌, ◌<◌, eqb, length};
+ghost use Rattle.std.specs.Prelude.{◌≡◌, true, ◌&&◌, ◌||◌, not, ℕ, suc, ◌+◌, ◌≤◌, ◌<◌, eqb, length, IfSome};
 ghost use Rattle.laws.specs.Choice.{pick};
 ghost use Rattle.laws.specs.Entries.{at};
 ghost use Rattle.paper_nests.specs.Kinds.{POINTS, DEPENDENCES};
@@ -17,27 +17,26 @@ ghost use Rattle.argue_weigh.specs.Striking.{StrikingRoom};
 ghost use Rattle.argue_judge.specs.Starts.{first_at, FirstRoom, FirstStruck};
 ghost use Rattle.argue_judge.specs.Ends.{low_by, shown_by, exact_by, ShownRoom, ClosingRoom, Closed, low_at, all_low_in};
 ghost use Rattle.argue_judge.specs.Opened.{open_of, asked_of};
-ghost use Rattle.argue_judge.specs.Judging.{Judgeable, JudgedBy};
+ghost use Rattle.argue_judge.specs.Judging.{Judgeable, JudgedBy, line_in};
 
 use argue_texts::{CLAIMS, Claimed, Part, part_of};
 use argue_weigh::{Asked, Open, most_of, strike, take_step};
 use paper_counts::{counts_of, owners_of};
-use paper_lines::{Read, digit_values, read_line};
+use paper_lines::{digit_values, read_line};
 use paper_nests::{Dependence, Nest, ends_of, is_do};
 use paper_placements::{Placement, set_of};
 
-// The first line of an argument text that does not hold, for a nest and a placement of its gaps; 0 for none. The text is
-// one without fault.
-pub fn judge(nest: Nest, key: Placement, text: &[u8]) -> usize
+// The first line of an argument text that does not hold, for a nest and a placement of its gaps, if there is one. The
+// text is one without fault.
+pub fn judge(nest: Nest, key: Placement, text: &[u8]) -> Option<usize>
     requires counted { IsCounted nest }
     requires nest_value { is_valid (nest_in nest) ≡ true }
     requires words_value { are_gaps (nest_in nest) (gaps_in key.words) ≡ true }
     requires text_value { (argument_fault text.now).number ≡ 0 }
-    ensures { result ≡ judged (nest_in nest) (gaps_in key.words) (parts_of (lines_of text.now)) }
+    ensures first { line_in result ≡ judged (nest_in nest) (gaps_in key.words) (parts_of (lines_of text.now)) }
+    ensures found { IfSome result (λ l. 0 < l) }
 {
-    let count = nest.count;
-    let all = nest.points;
-    let points = &all[..count];
+    let points = nest.points();
     let owners = owners_of(points);
     let ends = ends_of(points);
     let counts = counts_of(points, key);
@@ -55,11 +54,12 @@ fn judge_lines(
     counts: &[usize],
     barred: Placement,
     text: &[u8],
-) -> usize
+) -> Option<usize>
     requires judgeable { Judgeable nest points.now owners.now ends.now counts.now barred.words }
     requires text_value { (argument_fault text.now).number ≡ 0 }
-    ensures { JudgedBy nest points.now owners.now ends.now counts.now
+    ensures first { JudgedBy nest points.now owners.now ends.now counts.now
         text.now result }
+    ensures found { IfSome result (λ l. 0 < l) }
 {
     let values = digit_values();
     let many = nest.many;
@@ -80,12 +80,10 @@ fn judge_lines(
     let mut line: usize = 1;
     loop {
         let claim = open_of(head, ends);
-        let d = claim.d;
-        let barriers = counts[d];
-        let next = read_line(text, at, &values);
-        match next {
-            Read::End => {
-                if close(
+        let barriers = counts[claim.d];
+        match read_line(text, at, &values) {
+            Ok(None) => {
+                if !close(
                     opened,
                     claim,
                     c,
@@ -95,20 +93,19 @@ fn judge_lines(
                     &times,
                     &mut struck,
                 ) {
-                    let lows = with_low(opened, head, low);
-                    if all_low(points, counts, lows) {
-                        return 0;
-                    }
-                    return line;
+                    return Some(opened);
                 }
-                return opened;
+                let lows = with_low(opened, head, low);
+                if !all_low(points, counts, lows) {
+                    return Some(line);
+                }
+                return None;
             }
-            Read::Refused(_) => return line,
-            Read::Frame(f) => {
-                let part = part_of(f);
-                match part {
+            Err(_) => return Some(line),
+            Ok(Some(f)) => {
+                match part_of(f) {
                     Part::Claims(k) => {
-                        if close(
+                        if !close(
                             opened,
                             claim,
                             c,
@@ -118,53 +115,41 @@ fn judge_lines(
                             &times,
                             &mut struck,
                         ) {
-                            if is_do(points, k.d as usize) {
-                                loops[known] = head.d;
-                                froms[known] = head.a;
-                                uptos[known] = head.b;
-                                low = with_low(opened, head, low);
-                                known = with_known(opened, known);
-                                times = no_times();
-                                gone = Placement::empty();
-                                head = k;
-                                opened = line;
-                                c = 0;
-                                by = 0;
-                                at = f.next;
-                                line += 1;
-                            } else {
-                                return line;
-                            }
-                        } else {
-                            return opened;
+                            return Some(opened);
                         }
+                        if !is_do(points, k.d as usize) {
+                            return Some(line);
+                        }
+                        loops[known] = head.d;
+                        froms[known] = head.a;
+                        uptos[known] = head.b;
+                        low = with_low(opened, head, low);
+                        known = with_known(opened, known);
+                        times = no_times();
+                        gone = Placement::empty();
+                        head = k;
+                        opened = line;
+                        c = 0;
+                        by = 0;
                     }
-                    Part::By(m) => {
-                        by = m as usize + 1;
-                        at = f.next;
-                        line += 1;
-                    }
+                    Part::By(m) => by = m as usize + 1,
                     Part::Names(s) => {
                         let i = place_of(s, many);
-                        let e = nest.deps[i];
-                        let asked = asked_of(s, by, many, e, ends);
-                        let taken = take_step(
+                        let asked = asked_of(s, by, many, nest.deps[i], ends);
+                        let Some(taken) = take_step(
                             last, claim, asked, c, gone, known, &loops, &froms, &uptos, ends,
                             owners, &struck, &mut times,
-                        );
-                        let fine = taken.fine;
-                        if fine {
-                            c = taken.c;
-                            gone = taken.gone;
-                            by = 0;
-                            at = f.next;
-                            line += 1;
-                        } else {
-                            return line;
-                        }
+                        ) else {
+                            return Some(line);
+                        };
+                        c = taken.c;
+                        gone = taken.gone;
+                        by = 0;
                     }
-                    Part::Unknown => return line,
+                    Part::Unknown => return Some(line),
                 }
+                at = f.next;
+                line += 1;
             }
         }
     }
@@ -175,13 +160,12 @@ fn asked_of(set: usize, by: usize, many: usize, e: Dependence, ends: &[usize]) -
     requires { length ends.now ≡ POINTS }
     ensures { result ≡ asked_of set by many e ends.now }
 {
-    let d = e.d as usize;
     Asked {
-        set: set,
-        by: by,
-        many: many,
+        set,
+        by,
+        many,
         dependence: e,
-        end: ends[d],
+        end: ends[e.d as usize],
     }
 }
 
@@ -208,7 +192,7 @@ fn open_of(k: Claimed, ends: &[usize]) -> Open
 {
     let d = k.d as usize;
     Open {
-        d: d,
+        d,
         e: ends[d],
         a: k.a as usize,
         b: k.b as usize,
@@ -220,10 +204,7 @@ fn with_known(line: usize, known: usize) -> usize
     requires { known < CLAIMS }
     ensures { result ≡ pick (eqb line 0) known (known + 1) }
 {
-    if line == 0 {
-        return known;
-    }
-    known + 1
+    if line == 0 { known } else { known + 1 }
 }
 
 // The loops with a low claim, once the open claim is known.
@@ -231,10 +212,7 @@ fn with_low(line: usize, k: Claimed, low: Placement) -> Placement
     ensures { (i : ℕ) → holds result.words i
         ≡ ((not (eqb line 0) && (low_by k.a k.b && eqb i k.d)) || holds low.words i) }
 {
-    if line == 0 {
-        return low;
-    }
-    if is_low(k.a as usize, k.b as usize) {
+    if line != 0 && is_low(k.a as usize, k.b as usize) {
         return low.put(k.d as usize);
     }
     low
@@ -245,13 +223,11 @@ fn place_of(set: usize, many: usize) -> usize
     requires { many ≤ DEPENDENCES }
     ensures { (result < DEPENDENCES) × ((m : ℕ) → set ≡ suc (suc m) → m < many → result ≡ m) }
 {
-    if 2 <= set {
-        if set - 2 < many {
-            return set - 2;
-        }
-        return 0;
+    if 2 <= set && set - 2 < many {
+        set - 2
+    } else {
+        0
     }
-    0
 }
 
 // What is excluded before any claim, as one number a gap: of a barred gap one above every loop, of a gap of a loop with
@@ -266,12 +242,9 @@ fn first_struck(
     ensures { FirstStruck count barred.words owners.now counts.now result }
 {
     let mut struck = [0; Nest::POINTS];
-    let mut g = 0;
-    while g < count {
+    for g in 0..count {
         let d = owners[g];
-        let held = barred.holds(g);
-        struck[g] = first_at(held, d, counts[d]);
-        g += 1;
+        struck[g] = first_at(barred.holds(g), d, counts[d]);
     }
     struck
 }
@@ -282,12 +255,12 @@ fn first_at(barred: bool, owner: usize, count: usize) -> usize
     ensures { result ≡ first_at barred owner count }
 {
     if barred {
-        return Nest::POINTS + 1;
+        Nest::POINTS + 1
+    } else if count == 0 {
+        owner + 1
+    } else {
+        0
     }
-    if count == 0 {
-        return owner + 1;
-    }
-    0
 }
 
 // The open claim ends: whether its steps show it; what it excludes is then noted. Where none is open, nothing is.
@@ -311,26 +284,23 @@ fn close(
     if line == 0 {
         return true;
     }
-    let a = claim.a;
-    let b = claim.b;
-    let low = is_low(a, b);
+    let low = is_low(claim.a, claim.b);
     let most = most_of(last, times);
-    if is_shown(low, c, most, count) {
-        let exact = is_exact(low, c, most, count);
-        strike(claim.d, claim.e, a, b, exact, most, owners, times, struck);
-        return true;
+    if !is_shown(low, c, most, count) {
+        return false;
     }
-    false
+    let exact = is_exact(low, c, most, count);
+    strike(
+        claim.d, claim.e, claim.a, claim.b, exact, most, owners, times, struck,
+    );
+    true
 }
 
 // The claim is low.
 fn is_low(a: usize, b: usize) -> bool
     ensures { result ≡ low_by a b }
 {
-    if a == 0 {
-        return b == 0;
-    }
-    false
+    a == 0 && b == 0
 }
 
 // So many sets show the claim, with no gap in more than `most` of them.
@@ -339,9 +309,10 @@ fn is_shown(low: bool, c: usize, most: usize, count: usize) -> bool
     ensures { result ≡ shown_by low c most count }
 {
     if low {
-        return count * most < c + most;
+        count * most < c + most
+    } else {
+        count * most < c
     }
-    count * most < c
 }
 
 // The claim is low, and exact: as many sets as the count times the most.
@@ -349,10 +320,7 @@ fn is_exact(low: bool, c: usize, most: usize, count: usize) -> bool
     requires { ShownRoom c most count }
     ensures { result ≡ exact_by low c most count }
 {
-    if low {
-        return c == count * most;
-    }
-    false
+    low && c == count * most
 }
 
 // Every loop with a count has its low claim.
@@ -360,10 +328,8 @@ fn all_low(points: &[u8], counts: &[usize], low: Placement) -> bool
     requires { (length points.now ≤ POINTS) × (length counts.now ≡ POINTS) }
     ensures { result ≡ all_low_in points.now counts.now low.words (length points.now) }
 {
-    let mut d = points.len();
-    while 0 < d {
-        d -= 1;
-        if has_low(points, counts, low, d) {} else {
+    for d in (0..points.len()).rev() {
+        if !has_low(points, counts, low, d) {
             return false;
         }
     }
@@ -376,11 +342,5 @@ fn has_low(points: &[u8], counts: &[usize], low: Placement, d: usize) -> bool
     requires counts_len { length counts.now ≡ POINTS }
     ensures { result ≡ low_at points.now counts.now low.words d }
 {
-    if is_do(points, d) {
-        if counts[d] == 0 {
-            return true;
-        }
-        return low.holds(d);
-    }
-    true
+    !is_do(points, d) || counts[d] == 0 || low.holds(d)
 }

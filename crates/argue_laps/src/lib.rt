@@ -44,8 +44,7 @@ pub fn laps(
 {
     let mut f = d + 1;
     let mut at = start;
-    let mut j = e + 2;
-    while 0 < j {
+    for _ in 0..e + 2 {
         let s = lap(
             nest, points, own, left, kids, need, sets, loops, froms, uptos, many, d, e, from, upto,
             f, out, at,
@@ -55,7 +54,6 @@ pub fn laps(
             return at;
         }
         f = s.f;
-        j -= 1;
     }
     at
 }
@@ -95,7 +93,7 @@ fn lap(
     let q = suffix.at;
     let reach = need[q];
     let line = sets[q];
-    need[q] = plan_sweeps::smaller(reach, e);
+    need[q] = reach.min(e);
     sets[q] = where_less(e, reach, suffix.num, line);
     let s = argue_trace::trace(
         points, own, left, kids, need, sets, loops, froms, uptos, many, d, e, out, start,
@@ -111,12 +109,13 @@ fn suffix_of(last: Start, from: usize) -> Start
     ensures { starting result.at result.num ≡ suffix_for (starting last.at last.num) from }
 {
     if from < last.at {
-        return Start {
+        Start {
             at: last.at,
             num: last.num + 2,
-        };
+        }
+    } else {
+        Start { at: from, num: 0 }
     }
-    Start { at: from, num: 0 }
 }
 
 // The third number where a is below b, else the fourth.
@@ -133,10 +132,7 @@ fn close_up(s: Swept, d: usize, upto: usize, out: &mut [u8]) -> Swept
     ensures { CloseSays d upto s.c s.f s.at out.old out.new result.c result.f
         result.at }
 {
-    if upto == 0 {
-        return s;
-    }
-    if s.f <= upto {
+    if upto == 0 || s.f <= upto {
         return s;
     }
     let next = put_step(out, s.at, 1, 0);

@@ -43,14 +43,6 @@ pub record Looping
       → TableGround nest ps own left reach numbers costs T
       → done T ++ heads_from ps T d 0 [] ≡ heads_from ps T (length ps) 0 []
 
--- the lists keep their lengths
-pub record Sizes (need₀ sets₀ loops₀ froms₀ uptos₀ need sets loops froms uptos : List ℕ) : Type 0 where
-  pub need_size : length need ≡ length need₀
-  pub sets_size : length sets ≡ length sets₀
-  pub loops_size : length loops ≡ length loops₀
-  pub froms_size : length froms ≡ length froms₀
-  pub uptos_size : length uptos ≡ length uptos₀
-
 module _ {nest : DN.Nest} {ps own left reach numbers costs loops₀ froms₀ uptos₀ out₀ : List ℕ} where
   pub loops_begin : {need sets : List ℕ} → ListsRoom need sets loops₀ froms₀ uptos₀ →
       Looping nest ps own left reach numbers costs loops₀ froms₀ uptos₀ out₀ need sets loops₀ froms₀ uptos₀ out₀ 0 0

@@ -39,9 +39,7 @@ pub fn give_loops(
         numbers.now costs.now out.old out.new result.many result.at }
 {
     let mut s = Sofar { many: 0, at: 0 };
-    let mut d = points.len();
-    while 0 < d {
-        d -= 1;
+    for d in (0..points.len()).rev() {
         s = give_point(
             nest, points, own, ends, heights, left, reach, numbers, costs, need, sets, loops,
             froms, uptos, d, out, s,

@@ -31,8 +31,8 @@ pub fn give_argument(nest: Nest, out: &mut [u8]) -> Sofar
         return give_tables(nest, &costs, out);
     }
     let ranks = plan_paper::ranks_of(nest);
-    let reduced = plan_paper::reduce(nest, &ranks);
-    give_plain(reduced.ring, out)
+    let ring = plan_paper::reduce(nest, &ranks).unwrap();
+    give_plain(ring, out)
 }
 
 // The argument of a nest, without regard to what is barred.
@@ -147,9 +147,5 @@ fn fill(table: &mut [u16], number: u16)
     requires { length table.old ≡ TABLE }
     ensures { (i : ℕ) → i < TABLE → at table.new i ≡ number }
 {
-    let mut i = 0;
-    while i < TABLE {
-        table[i] = number;
-        i += 1;
-    }
+    table.fill(number);
 }

@@ -6,14 +6,12 @@ use mathlib.Core.Path.{◌≡◌, refl, sym, ◌∙◌, ap}
 use mathlib.Core.Bool.{Bool, true, false, ◌&&◌}
 use mathlib.Core.List.{List, [], ◌∷◌}
 use Prim.Native.Nat.{ℕ, zero, suc, ◌+◌, ◌-◌, ◌≤◌, ◌<◌}
-use native.Mathlib.Numerals.{add-one}
 use native.Mathlib.Omega.{arith}
 use lib.Dec.{eqb}
 use lib.ListN.{length, get_or, drop, set, drop_of_length-le}
-use borrow.Author.Tests.{eqb-true, eq-eqb, ne_eqb, lt-ltb, le-ltb}
+use borrow.Author.Tests.{eqb-true, eq-eqb, ne_eqb}
 use Rattle.laws.specs.Choice.{pick}
 use Rattle.laws.specs.Entries.{at}
-use Rattle.laws.proofs.Connectives.{and_off}
 use Rattle.laws.proofs.Tests.{never_both, and_true, and_intro}
 use Rattle.laws.proofs.Members.{among_drop}
 use Rattle.paper_nests.specs.Kinds.{INDEPENDENT}
@@ -245,29 +243,3 @@ module _ {nest : DN.Nest} (counted : IsCounted nest) where
           let q : Backing ps ds d f 0 at num = rw z at p in
           let y : num ≡ (last_back ps d f ds).num = omega (arith, q.num_is) in
           rw (q.at_is, y) refl
-
--- the later of two
-module _ {d f at num i : ℕ} {e : Dep} where
-  pub later_line : e.kind ≡ INDEPENDENT → LaterSays d f at num e i at num
-  later_line k = record { last_is = λ ps. rw (eq-eqb e.kind INDEPENDENT k) }
-
-  pub later_other : (e.kind ≡ INDEPENDENT → ⊥) → (e.d ≡ d → ⊥) → LaterSays d f at num e i at num
-  later_other k n = record { last_is = λ ps. rw (ne_eqb e.kind INDEPENDENT k, ne_eqb e.d d n) }
-
-  pub later_cut : (e.kind ≡ INDEPENDENT → ⊥) → f ≤ e.t → LaterSays d f at num e i at num
-  later_cut k l =
-      record { last_is = λ ps. rw (ne_eqb e.kind INDEPENDENT k, le-ltb e.t f l, and_off (eqb e.d d)) }
-
-  pub later_kept : e.s < at → LaterSays d f at num e i at num
-  later_kept l =
-      record { last_is = λ ps. rw (le-ltb at (suc e.s) (omega arith), and_off (is_back ps d f e)) }
-
-  pub later_taken : (e.kind ≡ INDEPENDENT → ⊥) → e.d ≡ d → e.t < f → at ≤ e.s →
-      LaterSays d f at num e i (e.s + 1) i
-  later_taken k n l m =
-      record {
-        last_is = λ ps.
-            let z : is_back ps d f e ≡ true =
-            rw (ne_eqb e.kind INDEPENDENT k, eq-eqb e.d d n, lt-ltb e.t f l) in
-            rw (z, lt-ltb at (suc e.s) (omega arith), add-one e.s);
-      }

@@ -45,9 +45,7 @@ pub fn number_lines(
     ensures { Rows points.now heights.now sets.new
         (line_set points.now (nest_in nest).deps) }
 {
-    let mut i = nest.many;
-    while 0 < i {
-        i -= 1;
+    for i in (0..nest.many).rev() {
         let e = nest.deps[i];
         number_line(points, own, ends, heights, reach, sets, e, (i + 2) as u16);
     }
@@ -63,9 +61,7 @@ pub fn last_back(nest: Nest, d: usize, f: usize) -> Start
         at: 0,
         num: nest.many,
     };
-    let mut i = nest.many;
-    while 0 < i {
-        i -= 1;
+    for i in (0..nest.many).rev() {
         last = later(last, nest.deps[i], i, d, f);
     }
     last
@@ -97,28 +93,20 @@ fn number_line(
     let t = e.t as usize;
     let home = plan_tables::home_of(points, own, ends, s, t);
     let place = heights[home] * ROW + (s + 1);
-    if reach[place] as usize != t {
-        return;
+    if reach[place] as usize == t {
+        sets[place] = set;
     }
-    sets[place] = set;
 }
 
 // The later start of two, that of the dependence i only if d carries it and its t lies before f.
 fn later(last: Start, e: Dependence, i: usize, d: usize, f: usize) -> Start
     ensures { LaterSays d f last.at last.num (dep_in e) i result.at result.num }
 {
-    if e.kind == paper_nests::INDEPENDENT {
-        return last;
-    }
-    if e.d as usize != d {
-        return last;
-    }
-    if f <= e.t as usize {
-        return last;
-    }
+    let carried = e.kind != paper_nests::INDEPENDENT && e.d as usize == d;
     let s = e.s as usize;
-    if s < last.at {
-        return last;
+    if carried && (e.t as usize) < f && last.at <= s {
+        Start { at: s + 1, num: i }
+    } else {
+        last
     }
-    Start { at: s + 1, num: i }
 }

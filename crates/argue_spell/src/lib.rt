@@ -54,17 +54,15 @@ fn put_set(out: &mut [u8], at: usize, set: usize) -> usize
     ensures added { Added (line_text (set_frame set)) at out.old out.new result }
     ensures upper_bound { result ≤ at + 7 }
 {
-    if set == 0 {
-        let from = [FROM];
-        return put_line(out, at, &from);
+    match set {
+        0 => put_line(out, at, &[FROM]),
+        1 => put_line(out, at, &[UPTO]),
+        _ => {
+            let k = set - 2;
+            let frame = [DEPENDENCE, (k / 256 % 256) as u8, (k % 256) as u8];
+            put_line(out, at, &frame)
+        }
     }
-    if set == 1 {
-        let upto = [UPTO];
-        return put_line(out, at, &upto);
-    }
-    let k = set - 2;
-    let frame = [DEPENDENCE, (k / 256 % 256) as u8, (k % 256) as u8];
-    put_line(out, at, &frame)
 }
 
 // One line, where there is room for it; gives the place behind it.

@@ -3,6 +3,7 @@
 -- Main statements: `walk_begun`, `walk_end`, `walk_bad`, `walk_fault`, `walk_on`; `end_led`, `never_bad`, `part_fine`;
 -- `parts_end`, `parts_on`.
 use mathlib.Core.Path.{◌≡◌, refl, sym, ◌∙◌, ap}
+use Rattle.std.proofs.Common.{Some, None, Ok, Err}
 use mathlib.Core.Bool.{Bool, true, false}
 use mathlib.Core.List.{List, [], ◌∷◌}
 use Prim.Native.Nat.{ℕ, zero, suc, ◌+◌, ◌≤◌, ◌<◌}
@@ -13,7 +14,9 @@ use lib.ListN.{length, drop}
 use borrow.Author.Tests.{eqb-true, ne_eqb}
 use Rattle.laws.specs.Choice.{pick}
 use Rattle.paper_lines.specs.declared.Frame.{Frame}
-use Rattle.paper_lines.specs.declared.Read.TheVariants as RV
+use Rattle.paper_refusals.specs.declared.Refusal.{Refusal}
+use Rattle.paper_refusals.specs.Numbers.{number_of}
+use Rattle.paper_refusals.proofs.Numbers.{never_zero}
 use Rattle.paper_lines.specs.Lines.{Line, lines_of, is_good, frame_of}
 use Rattle.paper_lines.specs.Reading.{line_at}
 use Rattle.paper_lines.proofs.Reading.{no_line, bad_line, good_line, Good-line}
@@ -68,12 +71,12 @@ unfolding argument_fault
 walk_begun s = record { inside = omega arith; lines = omega arith; rest = refl }
 
 -- the parts of the lines from a place on
-pub parts_end : (s : List ℕ) (at : ℕ) → line_at s at ≡ RV.End → parts_of (lines_of (drop at s)) ≡ []
+pub parts_end : (s : List ℕ) (at : ℕ) → line_at s at ≡ Ok None → parts_of (lines_of (drop at s)) ≡ []
 parts_end s at h = ap parts_of (no_line s at h)
 
 pub parts_on
     : (s : List ℕ) (at : ℕ) (f : Frame)
-    → line_at s at ≡ RV.Frame f
+    → line_at s at ≡ Ok (Some f)
     → (p : DP.Part)
     → IsPart f p
     → parts_of (lines_of (drop at s)) ≡ part_in p ∷ parts_of (lines_of (drop f.next s))
@@ -83,10 +86,10 @@ parts_on s at f h p i =
     ∙ ap (λ (q : Part). q ∷ parts_of (lines_of (drop f.next s))) (sym (i (frame_of g.first.bytes) g.frame_is))
 
 module _ (s : List ℕ) (x : Progress) (at line : ℕ) (w : Walk s x at line) where
-  pub walk_end : line_at s at ≡ RV.End → pick (eqb x.by 0) (fault 0 0) (fault 4 line) ≡ argument_fault s
+  pub walk_end : line_at s at ≡ Ok None → pick (eqb x.by 0) (fault 0 0) (fault 4 line) ≡ argument_fault s
   walk_end h = sym (fault_none line x) ∙ ap (fault_from line x) (sym (no_line s at h)) ∙ w.rest
 
-  pub walk_bad : (k : ℕ) → line_at s at ≡ RV.Refused k → fault k line ≡ argument_fault s
+  pub walk_bad : (k : Refusal) → line_at s at ≡ Err k → fault (number_of k) line ≡ argument_fault s
   walk_bad k h =
       let b = bad_line s at k h in
       ap (λ (n : ℕ). fault n line) b.number
@@ -95,7 +98,7 @@ module _ (s : List ℕ) (x : Progress) (at line : ℕ) (w : Walk s x at line) wh
       ∙ w.rest
 
   -- the frame of a good line, and its part
-  module _ (f : Frame) (h : line_at s at ≡ RV.Frame f) (p : DP.Part) (i : IsPart f p) where
+  module _ (f : Frame) (h : line_at s at ≡ Ok (Some f)) (p : DP.Part) (i : IsPart f p) where
     good : Good-line s at f
     good = good_line s at f h
 
@@ -130,19 +133,17 @@ module _ (s : List ℕ) (x : Progress) (at line : ℕ) (w : Walk s x at line) wh
 
   -- of a text without fault
   module _ (z : (argument_fault s).number ≡ 0) where
-    pub end_led : line_at s at ≡ RV.End → x.by ≡ 0
+    pub end_led : line_at s at ≡ Ok None → x.by ≡ 0
     end_led h = go (eqb x.by 0) refl (ap (λ (e : Fault). e.number) (walk_end h) ∙ z)
       where
         go : (t : Bool) → eqb x.by 0 ≡ t → (pick t (fault 0 0) (fault 4 line)).number ≡ 0 → x.by ≡ 0
         go true e q = eqb-true x.by 0 e
         go false e q = absurd (omega (arith, q))
 
-    pub never_bad : (k : ℕ) → line_at s at ≡ RV.Refused k → ⊥
-    never_bad k h =
-        let n : k ≡ 0 = ap (λ (e : Fault). e.number) (walk_bad k h) ∙ z in
-        omega (arith, (bad_line s at k h).number, n)
+    pub never_bad : (k : Refusal) → line_at s at ≡ Err k → ⊥
+    never_bad k h = never_zero k (ap (λ (e : Fault). e.number) (walk_bad k h) ∙ z)
 
-    pub part_fine : (f : Frame) → line_at s at ≡ RV.Frame f → (p : DP.Part) → IsPart f p → part_fault x (part_in p) ≡ 0
+    pub part_fine : (f : Frame) → line_at s at ≡ Ok (Some f) → (p : DP.Part) → IsPart f p → part_fault x (part_in p) ≡ 0
     part_fine f h p i = go (part_fault x (part_in p)) refl
       where
         go : (e : ℕ) → part_fault x (part_in p) ≡ e → part_fault x (part_in p) ≡ 0

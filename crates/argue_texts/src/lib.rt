@@ -2,10 +2,12 @@
 #![tactic(auto)]
 
 ghost use Rattle.std.specs.Prelude.{◌≡◌};
+ghost use Rattle.paper_refusals.specs.Numbers.{number_in};
 ghost use Rattle.argue_texts.specs.ArgumentTexts.{part_fault, after};
 ghost use Rattle.argue_texts.specs.Parts.{part_in, progress_in, IsPart, IsFaulted, EndedAs};
 
-use paper_lines::{Frame, Read, digit_values, read_line};
+use paper_lines::{Frame, digit_values, read_line};
+use paper_refusals::{Fault, Refusal};
 
 // A claim of loop d, as its line has it: low where a and b are 0.
 #[derive(Clone, Copy)]
@@ -25,19 +27,13 @@ pub enum Part {
     Unknown,
 }
 
-// What was read so far: how many claims, how many steps of the last; 0, or one more than the claim that leads the next.
+// What was read so far: how many claims, how many steps of the last, and the claim that leads the next step, if one
+// does.
 #[derive(Clone, Copy)]
 pub struct Progress {
     pub claims: usize,
     pub steps: usize,
-    pub by: usize,
-}
-
-// The number and the line of a text's refusal, 0 and 0 for none.
-#[derive(Clone, Copy)]
-pub struct TextFault {
-    pub number: u8,
-    pub line: usize,
+    pub by: Option<u16>,
 }
 
 // The kinds of claims, of the claim that leads a step, and of steps.
@@ -57,33 +53,25 @@ pub const CLAIMS: usize = 4096;
 pub const STEPS: usize = 1024;
 
 // The refusal of an argument text, at its first faulty line.
-pub fn argument_fault(text: &[u8]) -> TextFault
+pub fn argument_fault(text: &[u8]) -> Result<(), Fault>
     ensures { IsFaulted text.now result }
 {
     let values = digit_values();
     let mut sofar = Progress {
         claims: 0,
         steps: 0,
-        by: 0,
+        by: None,
     };
     let mut at: usize = 0;
     let mut line: usize = 1;
     loop {
-        let next = read_line(text, at, &values);
-        match next {
-            Read::End => return ended(sofar, line),
-            Read::Refused(number) => return TextFault {
-                number: number,
-                line: line,
-            },
-            Read::Frame(f) => {
+        match read_line(text, at, &values) {
+            Ok(None) => return ended(sofar, line),
+            Err(refusal) => return Err(Fault { refusal, line }),
+            Ok(Some(f)) => {
                 let part = part_of(f);
-                let number = part_fault(sofar, part);
-                if number != 0 {
-                    return TextFault {
-                        number: number,
-                        line: line,
-                    };
+                if let Err(refusal) = part_fault(sofar, part) {
+                    return Err(Fault { refusal, line });
                 }
                 sofar = after(sofar, part);
                 at = f.next;
@@ -97,79 +85,32 @@ pub fn argument_fault(text: &[u8]) -> TextFault
 pub fn part_of(f: Frame) -> Part
     ensures { IsPart f result }
 {
-    let kind = f.kind;
-    match kind {
-        CLAIM => {
-            if f.len == 4 {
-                return Part::Claims(Claimed {
-                    d: f.a,
-                    a: f.b,
-                    b: f.c,
-                });
-            }
-            Part::Unknown
-        }
-        BY => {
-            if f.len == 3 {
-                return Part::By(256 * f.a as u16 + f.b as u16);
-            }
-            Part::Unknown
-        }
-        DEPENDENCE => {
-            if f.len == 3 {
-                return Part::Names(256 * f.a as usize + f.b as usize + 2);
-            }
-            Part::Unknown
-        }
-        FROM => {
-            if f.len == 1 {
-                return Part::Names(0);
-            }
-            Part::Unknown
-        }
-        UPTO => {
-            if f.len == 1 {
-                return Part::Names(1);
-            }
-            Part::Unknown
-        }
+    match (f.kind, f.len) {
+        (CLAIM, 4) => Part::Claims(Claimed {
+            d: f.a,
+            a: f.b,
+            b: f.c,
+        }),
+        (BY, 3) => Part::By(256 * f.a as u16 + f.b as u16),
+        (DEPENDENCE, 3) => Part::Names(256 * f.a as usize + f.b as usize + 2),
+        (FROM, 1) => Part::Names(0),
+        (UPTO, 1) => Part::Names(1),
         _ => Part::Unknown,
     }
 }
 
-// The refusal of a part after what was read so far, 2, 4 or 5, or 0 for none.
-pub fn part_fault(x: Progress, p: Part) -> u8
-    ensures { result ≡ part_fault (progress_in x) (part_in p) }
+// Whether a part may come after what was read so far, else its refusal, 2, 4 or 5.
+pub fn part_fault(x: Progress, p: Part) -> Result<(), Refusal>
+    ensures { number_in result ≡ part_fault (progress_in x) (part_in p) }
 {
     match p {
-        Part::Claims(_) => {
-            if x.by != 0 {
-                return 4;
-            }
-            if CLAIMS <= x.claims {
-                return 5;
-            }
-            0
-        }
-        Part::By(_) => {
-            if x.claims == 0 {
-                return 4;
-            }
-            if x.by != 0 {
-                return 4;
-            }
-            0
-        }
-        Part::Names(_) => {
-            if x.claims == 0 {
-                return 4;
-            }
-            if STEPS <= x.steps {
-                return 5;
-            }
-            0
-        }
-        Part::Unknown => 2,
+        Part::Claims(_) if x.by.is_some() => Err(Refusal::Misplaced),
+        Part::Claims(_) if CLAIMS <= x.claims => Err(Refusal::TooMany),
+        Part::By(_) if x.claims == 0 || x.by.is_some() => Err(Refusal::Misplaced),
+        Part::Names(_) if x.claims == 0 => Err(Refusal::Misplaced),
+        Part::Names(_) if STEPS <= x.steps => Err(Refusal::TooMany),
+        Part::Unknown => Err(Refusal::WrongKind),
+        _ => Ok(()),
     }
 }
 
@@ -182,31 +123,27 @@ pub fn after(x: Progress, p: Part) -> Progress
         Part::Claims(_) => Progress {
             claims: x.claims + 1,
             steps: 0,
-            by: 0,
+            by: None,
         },
-        Part::By(m) => Progress {
-            claims: x.claims,
-            steps: x.steps,
-            by: m as usize + 1,
-        },
+        Part::By(m) => Progress { by: Some(m), ..x },
         Part::Names(_) => Progress {
-            claims: x.claims,
             steps: x.steps + 1,
-            by: 0,
+            by: None,
+            ..x
         },
         Part::Unknown => x,
     }
 }
 
 // The refusal at the end of a text: a claim may not wait for its step.
-fn ended(x: Progress, line: usize) -> TextFault
+fn ended(x: Progress, line: usize) -> Result<(), Fault>
     ensures { EndedAs (progress_in x) line result }
 {
-    if x.by == 0 {
-        return TextFault { number: 0, line: 0 };
+    if x.by.is_some() {
+        return Err(Fault {
+            refusal: Refusal::Misplaced,
+            line,
+        });
     }
-    TextFault {
-        number: 4,
-        line: line,
-    }
+    Ok(())
 }

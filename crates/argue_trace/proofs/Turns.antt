@@ -12,7 +12,7 @@ use borrow.Author.Tests.{lt-ltb, le-ltb, eq-eqb, ne_eqb}
 use Rattle.laws.specs.Entries.{at}
 use Rattle.laws.specs.Entries as entries
 use Rattle.plan_method.specs.Sweep.{State, st, bare, only, also, put, seek, step_plain, next, step, walk}
-use Rattle.plan_method.specs.Sweep.{start, sweep}
+use Rattle.plan_method.specs.Sweep.{sweep}
 use Rattle.plan_sweeps.specs.Listed.{row, listed, tabled, laid, Stepped, sweep_of}
 use Rattle.argue_claims.specs.Arguments.{Step}
 use Rattle.argue_claims.specs.Arguments as claims

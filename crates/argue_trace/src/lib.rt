@@ -62,16 +62,16 @@ pub fn trace(
             c = s.c;
             f = s.f;
             p = l;
-        } else if need[p] < f {
-            at = put_step(out, at, sets[p], 0);
-            c += 1;
-            f = p;
-            p = before;
         } else {
+            if need[p] < f {
+                at = put_step(out, at, sets[p], 0);
+                c += 1;
+                f = p;
+            }
             p = before;
         }
     }
-    Swept { c: c, f: f, at: at }
+    Swept { c, f, at }
 }
 
 // The number of the first claim that says of loop l: if there is one from some gap up to a on, none before t; how many
@@ -90,8 +90,7 @@ pub fn find_claim(
         l a t }
     ensures upper_bound { result ≤ many }
 {
-    let mut i = 0;
-    while i < many {
+    for i in 0..many {
         if is_from(
             loops[i] as usize,
             froms[i] as usize,
@@ -102,9 +101,8 @@ pub fn find_claim(
         ) {
             return i;
         }
-        i += 1;
     }
-    i
+    many
 }
 
 // The steps at the child l with its ENDDO p, where the last line to cut starts at b, 0 for none.
@@ -144,7 +142,6 @@ fn put_child(
             }
             return start;
         }
-        return put_step(out, start, sets[b], 0);
     }
     put_step(out, start, sets[b], 0)
 }
@@ -154,14 +151,5 @@ fn is_from(d: usize, from: usize, upto: usize, l: usize, a: usize, t: usize) -> 
     requires { upto < 256 }
     ensures { result ≡ is_from (claim d from upto []) l a t }
 {
-    if d != l {
-        return false;
-    }
-    if from == 0 {
-        return false;
-    }
-    if a < from {
-        return false;
-    }
-    upto + 1 == t
+    d == l && 0 < from && from <= a && upto + 1 == t
 }

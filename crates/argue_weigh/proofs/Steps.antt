@@ -1,66 +1,33 @@
 -- The gaps of a step, one after the other from the last to the first: what a turn keeps, and one law for each way
 -- through it.
--- Main statements: `left_is`, `within_is`, `lies-is`; `Naming`, `name_start`, `name_on`, `name_stop`, `name_done`.
+-- Main statements: `number_when`; `fine_by`; `Naming`, `name_start`, `name_on`, `name_stop`, `name_done`.
 use mathlib.Core.Path.{◌≡◌, refl, sym, ap, ◌∙◌}
-use mathlib.Core.Bool.{Bool, true, false, not}
+use mathlib.Core.Bool.{Bool, true, false}
 use mathlib.Core.List.{List}
 use mathlib.Core.Logic.{◌⊎◌, inl, inr}
 use Prim.Native.Nat.{ℕ, zero, suc, ◌+◌, ◌-◌, ◌≤◌, ◌<◌}
 use native.Mathlib.Omega.{arith}
-use lib.Dec.{eqb, leb}
+use mir.Val.{bool_byte}
 use lib.ListN.{length, set, length-set}
-use borrow.Author.Tests.{lt-ltb, le-ltb, le-leb, lt-leb}
 use Rattle.laws.specs.Choice.{when}
 use Rattle.laws.specs.Entries.{at}
 use Rattle.laws.proofs.Stores.{stored}
-use Rattle.paper_placements.specs.Words.{holds}
 use Rattle.argue_claims.specs.Arguments.{every, named}
-use Rattle.argue_weigh.specs.Naming.{left_at, within_at, lies_at, fine_at, Named}
+use Rattle.argue_weigh.specs.Naming.{left_at, lies_at, fine_at, Named}
 
-module _ (ws gone struck : List ℕ) (d g : ℕ) where
-  pub left_is
-      : (p : Bool)
-      → holds ws g ≡ true
-      → at struck g ≤ d + 1
-      → p ≡ holds gone g
-      → not p ≡ left_at ws gone struck d g
-  left_is p h s e = rw (h, le-leb (at struck g) (suc d) (omega (arith, s)), e) refl
+-- a test as a number
+pub number_when : (b : Bool) → bool_byte b ≡ when b 1
+number_when true = refl
+number_when false = refl
 
-  pub left_struck : holds ws g ≡ true → d + 1 < at struck g → false ≡ left_at ws gone struck d g
-  left_struck h s = rw (h, lt-leb (at struck g) (suc d) (omega (arith, s))) refl
-
-  pub left_out : holds ws g ≡ false → false ≡ left_at ws gone struck d g
-  left_out h = rw h refl
-
-module _ (ws : List ℕ) (d e g : ℕ) where
-  pub within_is : holds ws g ≡ true → d < g → leb g e ≡ within_at ws d e g
-  within_is h s = rw (h, lt-ltb d g s) refl
-
-  pub within_before : holds ws g ≡ true → g ≤ d → false ≡ within_at ws d e g
-  within_before h s = rw (h, le-ltb d g s) refl
-
-  pub within_out : holds ws g ≡ false → true ≡ within_at ws d e g
-  within_out h = rw h refl
-
-  module _ (owners : List ℕ) (left : Bool) where
-    pub lies_left
-        : within_at ws d e g ≡ true → left ≡ true → eqb (at owners g) d ≡ lies_at ws left owners d e g
-    lies_left h s = rw (h, s) refl
-
-    pub lies_struck : within_at ws d e g ≡ true → left ≡ false → true ≡ lies_at ws left owners d e g
-    lies_struck h s = rw (h, s) refl
-
-    pub lies_beyond : within_at ws d e g ≡ false → false ≡ lies_at ws left owners d e g
-    lies_beyond h = rw h refl
-
-    pub fine_by
-        : (gone struck : List ℕ) (r t : Bool)
-        → left ≡ left_at ws gone struck d g
-        → r ≡ lies_at ws left owners d e g
-        → r ≡ t
-        → fine_at ws gone owners struck d e g ≡ t
-    fine_by gone struck r t l h z =
-        ap (λ (x : Bool). lies_at ws x owners d e g) (sym l) ∙ sym h ∙ z
+pub fine_by
+    : (ws : List ℕ) (d e g : ℕ) (owners : List ℕ) (left : Bool) (gone struck : List ℕ) (r t : Bool)
+    → left ≡ left_at ws gone struck d g
+    → r ≡ lies_at ws left owners d e g
+    → r ≡ t
+    → fine_at ws gone owners struck d e g ≡ t
+fine_by ws d e g owners left gone struck r t l h z =
+    ap (λ (x : Bool). lies_at ws x owners d e g) (sym l) ∙ sym h ∙ z
 
 -- the gaps from g + 1 to `last` are fine, and those that are left were named
 pub record Naming (fine left : ℕ → Bool) (last : ℕ) (old : List ℕ) (g : ℕ) (new : List ℕ) : Type 0 where

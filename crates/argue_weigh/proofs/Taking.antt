@@ -2,6 +2,7 @@
 -- Main statements: `known_ends`; `unfit`, `unled`, `step_tables`, `fine_is`, `count_after`; `says_unfit`, `says_unled`,
 -- `says_unnamed`, `says_taken`; `set_room`, `lead_room`, `gone_room`.
 use mathlib.Core.Path.{◌≡◌, refl, sym, ap, ◌∙◌}
+use Rattle.std.proofs.Common.{Some, None}
 use mathlib.Core.Bool.{Bool, true, false, ◌&&◌, ◌||◌}
 use mathlib.Core.List.{List}
 use mathlib.Core.Logic.{◌⊎◌, inl, inr, ⊎_elim}
@@ -12,7 +13,7 @@ use lib.ListN.{length}
 use borrow.Author.Tests.{lt-ltb, le-ltb, ltb-true, leb-true, leb-false}
 use Rattle.laws.specs.Choice.{when, between}
 use Rattle.laws.specs.Entries.{at}
-use Rattle.laws.proofs.Tests.{never, never_both, le_or, false_by, and_true, and_false}
+use Rattle.laws.proofs.Tests.{never, le_or, false_by, and_true, and_false}
 use Rattle.laws.proofs.Ranges.{in_between, between_in}
 use Rattle.laws.proofs.Ors.{or_turned}
 use Rattle.laws.proofs.Connectives.{and_off}
@@ -315,40 +316,36 @@ module _ {n : Nest} {key : List ℕ} {last : ℕ} {ends owners : List ℕ} (p : 
 -- ---- what the code promises, for each way through it
 
 module _ (last : ℕ) (o : DO.Open) (s : DA.Asked) (c : ℕ) (gone : DP.Placement) (known : ℕ)
-    (loops froms uptos ends owners struck old new : List ℕ) (r : DT.Taken) where
-  module _ (fails : r.fine ≡ false) where
-    pub says_unfit
-        : set_fits o s.many s.set ≡ false
-        → StepSays last o s c gone known loops froms uptos ends owners struck old new r
-    says_unfit h n key k ks x steps p q w a t =
-        (fails ∙ sym (unfit p q w a x t.fine s.by s.set h), λ z. never_both z fails)
+    (loops froms uptos ends owners struck old new : List ℕ) where
+  pub says_unfit
+      : set_fits o s.many s.set ≡ false
+      → StepSays last o s c gone known loops froms uptos ends owners struck old new None
+  says_unfit h n key k ks x steps p q w a t = (sym (unfit p q w a x t.fine s.by s.set h), tt)
 
-    pub says_unled
-        : led_at o known loops froms uptos s.by ≡ false
-        → StepSays last o s c gone known loops froms uptos ends owners struck old new r
-    says_unled h n key k ks x steps p q w a t =
-        (fails ∙ sym (unled p q w a x t.fine s.by s.set h), λ z. never_both z fails)
+  pub says_unled
+      : led_at o known loops froms uptos s.by ≡ false
+      → StepSays last o s c gone known loops froms uptos ends owners struck old new None
+  says_unled h n key k ks x steps p q w a t = (sym (unled p q w a x t.fine s.by s.set h), tt)
 
   module _ (fits : set_fits o s.many s.set ≡ true) (led : led_at o known loops froms uptos s.by ≡ true)
       (ws us : List ℕ) (set_is : IsSetOf o s ws)
       (with_led : (g : ℕ) → holds us g ≡ (leads_at loops froms ends s.by g || holds gone.words g)) where
     pub says_unnamed
-        : r.fine ≡ false
-        → every (fine_at ws us owners struck o.d o.e) last ≡ false
-        → StepSays last o s c gone known loops froms uptos ends owners struck old new r
-    says_unnamed fails h n key k ks x steps p q w a t =
-        (fails ∙ sym (fine_is p q w a t fits led ws us set_is with_led false h), λ z. never_both z fails)
+        : every (fine_at ws us owners struck o.d o.e) last ≡ false
+        → StepSays last o s c gone known loops froms uptos ends owners struck old new None
+    says_unnamed h n key k ks x steps p q w a t =
+        (sym (fine_is p q w a t fits led ws us set_is with_led false h), tt)
 
     pub says_taken
-        : r.fine ≡ true
+        : (r : DT.Taken)
         → every (fine_at ws us owners struck o.d o.e) last ≡ true
         → Named (left_at ws us struck o.d) last old new
         → r.c ≡ counted s.by c
         → ((g : ℕ) → holds r.gone.words g ≡ gone_after gone.words loops uptos ends s.by g)
-        → StepSays last o s c gone known loops froms uptos ends owners struck old new r
-    says_taken stands h m more after n key k ks x steps p q w a t = (
-      stands ∙ sym (fine_is p q w a t fits led ws us set_is with_led true h),
-      λ z. count_after p q w a t fits led ws us set_is with_led new r.gone.words r.c h m more after,
+        → StepSays last o s c gone known loops froms uptos ends owners struck old new (Some r)
+    says_taken r h m more after n key k ks x steps p q w a t = (
+      sym (fine_is p q w a t fits led ws us set_is with_led true h),
+      count_after p q w a t fits led ws us set_is with_led new r.gone.words r.c h m more after,
     )
 
 module _ {last : ℕ} {o : DO.Open} {s : DA.Asked} {c known : ℕ} {loops froms uptos ends owners struck times : List ℕ}

@@ -2,7 +2,7 @@
 -- it.
 -- Main definitions: `set_fits`, `IsSetOf`, `led_at`, `leads_at`, `gone_after`; `StepRoom`, `PaperTables`, `KnownTables`, `OpenTables`,
 -- `AskedTables`, `CountTables`, `StepSays`.
-use Rattle.std.specs.Prelude.{◌≡◌, Bool, true, false, ◌&&◌, ◌||◌, List, ℕ, zero, suc, ◌≤◌, ◌<◌, ltb, leb, length}
+use Rattle.std.specs.Prelude.{◌≡◌, Bool, true, false, ◌&&◌, ◌||◌, List, ℕ, zero, suc, ◌≤◌, ◌<◌, ltb, leb, length, Option, is_some, IfSome}
 use Rattle.laws.specs.Choice.{pick, between}
 use Rattle.laws.specs.Entries.{at}
 use Rattle.paper_nests.specs.Kinds.{POINTS}
@@ -139,7 +139,7 @@ module _ (n : Nest) (key : List ℕ) where
 -- whether the step holds, and where it does the count after it
 abbrev pub StepSays
     : ℕ → DO.Open → DA.Asked → ℕ → DP.Placement → ℕ → List ℕ → List ℕ → List ℕ → List ℕ → List ℕ → List ℕ → List ℕ
-    → List ℕ → DT.Taken → Type 0
+    → List ℕ → Option DT.Taken → Type 0
 StepSays last o s c gone known loops froms uptos ends owners struck old new r =
     (n : Nest) (key : List ℕ) (k : Claim) (ks : List Known) (x : Count) (steps : ℕ) →
     PaperTables n key last ends owners →
@@ -147,6 +147,6 @@ StepSays last o s c gone known loops froms uptos ends owners struck old new r =
     OpenTables n key k o →
     AskedTables n key s →
     CountTables n key x last steps c old gone.words →
-    (r.fine ≡ (step n key k ks (st s.set s.by) x).fine) ×
-    (r.fine ≡ true →
-    CountTables n key (step n key k ks (st s.set s.by) x) last (suc steps) r.c new r.gone.words)
+    (is_some r ≡ (step n key k ks (st s.set s.by) x).fine) ×
+    IfSome r
+    (λ t. CountTables n key (step n key k ks (st s.set s.by) x) last (suc steps) t.c new t.gone.words)

@@ -3,7 +3,7 @@
 #![tactic(auto)]
 
 ghost use Rattle.std.specs.Prelude.{◌≡◌, true, false, ◌||◌, ℕ, ◌≤◌, ◌<◌, length};
-ghost use Rattle.laws.specs.Choice.{pick, when, between};
+ghost use Rattle.laws.specs.Choice.{pick, between};
 ghost use Rattle.laws.specs.Entries.{at};
 ghost use Rattle.paper_nests.specs.Kinds.{POINTS};
 ghost use Rattle.paper_placements.specs.Words.{GAPS, holds};
@@ -11,11 +11,11 @@ ghost use Rattle.argue_claims.specs.Arguments.{every, greatest, counted};
 ghost use Rattle.argue_texts.specs.ArgumentTexts.{STEPS};
 ghost use Rattle.argue_weigh.specs.Naming.{left_at, within_at, lies_at, fine_at, NamingRoom, Named};
 ghost use Rattle.argue_weigh.specs.Striking.{larger, beyond_at, excludes_at, StrikingRoom, Struck};
-ghost use Rattle.argue_weigh.specs.Taking.{smaller, set_fits, led_at, SetRoom, IsSetOf, leads_at, gone_after};
+ghost use Rattle.argue_weigh.specs.Taking.{set_fits, led_at, SetRoom, IsSetOf, leads_at, gone_after};
 ghost use Rattle.argue_weigh.specs.Taking.{LeadRoom, StepRoom, StepSays};
 
 use paper_gaps::{with_gaps, with_range};
-use paper_nests::Dependence;
+use paper_nests::{Dependence, is_inside};
 use paper_placements::Placement;
 
 // The claim that is open: its loop's DO and ENDDO, its a and its b.
@@ -38,15 +38,14 @@ pub struct Asked {
     pub end: usize,
 }
 
-// Whether a step holds; how many sets were counted, and what is gone, after it.
+// How many sets were counted, and what is gone, after a step that holds.
 #[derive(Clone, Copy)]
 pub struct Taken {
-    pub fine: bool,
     pub c: usize,
     pub gone: Placement,
 }
 
-// One step of the claim that is open, behind `known` claims with these loops, a and b.
+// One step of the claim that is open, behind `known` claims with these loops, a and b; nothing where it does not hold.
 pub fn take_step(
     last: usize,
     claim: Open,
@@ -61,29 +60,27 @@ pub fn take_step(
     owners: &[usize],
     struck: &[usize],
     times: &mut [usize],
-) -> Taken
+) -> Option<Taken>
     requires { StepRoom last claim step c known loops.now froms.now uptos.now ends.now owners.now
         struck.now times.old }
     ensures { StepSays last claim step c gone known loops.now froms.now
         uptos.now ends.now owners.now struck.now times.old
         times.new result }
 {
-    if set_fits(claim, step.many, step.set) {
-        if is_led(claim, known, loops, froms, uptos, step.by) {
-            let set = set_of(claim, step);
-            let led = with_led(gone, loops, froms, ends, step.by);
-            if name_gaps(last, claim.d, claim.e, set, led, owners, struck, times) {
-                return Taken {
-                    fine: true,
-                    c: counted(step.by, c),
-                    gone: gone_after(gone, loops, uptos, ends, step.by),
-                };
-            }
-            return not_fine(c, gone);
-        }
-        return not_fine(c, gone);
+    if !set_fits(claim, step.many, step.set)
+        || !is_led(claim, known, loops, froms, uptos, step.by)
+    {
+        return None;
     }
-    not_fine(c, gone)
+    let set = set_of(claim, step);
+    let led = with_led(gone, loops, froms, ends, step.by);
+    if !name_gaps(last, claim.d, claim.e, set, led, owners, struck, times) {
+        return None;
+    }
+    Some(Taken {
+        c: counted(step.by, c),
+        gone: gone_after(gone, loops, uptos, ends, step.by),
+    })
 }
 
 // One step of a claim of the loop with DO d and ENDDO e: whether its set lies in the loop, and what is left of it are
@@ -105,15 +102,12 @@ pub fn name_gaps(
     ensures named { result ≡ true → Named (left_at set.words gone.words struck.now d) last
         times.old times.new }
 {
-    let mut g = last;
-    while 0 < g {
+    for g in (1..last + 1).rev() {
         let left = left_at(set, gone, struck, d, g);
-        if lies_at(set, left, owners, d, e, g) {
-            times[g] = times[g] + count_if(left);
-            g -= 1;
-        } else {
+        if !lies_at(set, left, owners, d, e, g) {
             return false;
         }
+        times[g] += usize::from(left);
     }
     true
 }
@@ -123,12 +117,9 @@ pub fn most_of(last: usize, times: &[usize]) -> usize
     requires { (last < POINTS) × (length times.now ≡ POINTS) }
     ensures { result ≡ greatest (at times.now) last }
 {
-    let mut most = 1;
-    let mut i = 0;
-    while i < last {
-        let named = times[i + 1];
-        most = larger(most, named);
-        i += 1;
+    let mut most: usize = 1;
+    for &named in &times[1..last + 1] {
+        most = most.max(named);
     }
     most
 }
@@ -149,22 +140,9 @@ pub fn strike(
     ensures { Struck (excludes_at a b exact most owners.now times.now d) d e
         struck.old struck.new }
 {
-    let mut g = e;
-    while d < g {
+    for g in (d + 1..e + 1).rev() {
         let excluded = excludes(a, b, exact, most, owners, times, d, g);
         struck[g] = raised(struck[g], d + 1, excluded);
-        g -= 1;
-    }
-}
-
-// A step that does not hold.
-fn not_fine(c: usize, gone: Placement) -> Taken
-    ensures { result.fine ≡ false }
-{
-    Taken {
-        fine: false,
-        c: c,
-        gone: gone,
     }
 }
 
@@ -172,16 +150,11 @@ fn not_fine(c: usize, gone: Placement) -> Taken
 fn set_fits(claim: Open, many: usize, set: usize) -> bool
     ensures { result ≡ set_fits claim many set }
 {
-    if set == 0 {
-        return 0 < claim.a;
+    match set {
+        0 => 0 < claim.a,
+        1 => 0 < claim.b && claim.b <= claim.e,
+        _ => set - 2 < many,
     }
-    if set == 1 {
-        if 0 < claim.b {
-            return claim.b <= claim.e;
-        }
-        return false;
-    }
-    set - 2 < many
 }
 
 // What leads is nothing, or an earlier claim of a loop inside, with an a and a b.
@@ -193,16 +166,7 @@ fn is_led(claim: Open, known: usize, loops: &[u8], froms: &[u8], uptos: &[u8], b
         return true;
     }
     let m = by - 1;
-    if m < known {
-        if paper_nests::is_inside(claim.d, claim.e, loops[m] as usize) {
-            if 0 < froms[m] {
-                return 0 < uptos[m];
-            }
-            return false;
-        }
-        return false;
-    }
-    false
+    m < known && is_inside(claim.d, claim.e, loops[m] as usize) && 0 < froms[m] && 0 < uptos[m]
 }
 
 // The set of a step.
@@ -211,13 +175,11 @@ fn set_of(claim: Open, step: Asked) -> Placement
     ensures { IsSetOf claim step result.words }
 {
     let none = Placement::empty();
-    if step.set == 0 {
-        return with_span(none, claim.a, claim.e);
+    match step.set {
+        0 => with_span(none, claim.a, claim.e),
+        1 => with_span(none, claim.d + 1, claim.b),
+        _ => with_gaps(none, step.end, step.dependence),
     }
-    if step.set == 1 {
-        return with_span(none, claim.d + 1, claim.b);
-    }
-    with_gaps(none, step.end, step.dependence)
 }
 
 // What is gone, and the gaps from which a claim leads on.
@@ -231,7 +193,7 @@ fn with_led(gone: Placement, loops: &[u8], froms: &[u8], ends: &[usize], by: usi
     }
     let m = by - 1;
     let d = loops[m] as usize;
-    with_span(gone, larger(d + 1, froms[m] as usize), ends[d])
+    with_span(gone, (d + 1).max(froms[m] as usize), ends[d])
 }
 
 // What is gone after a step: what a claim that leads says that there is none of, and all that was gone; else nothing.
@@ -245,7 +207,7 @@ fn gone_after(gone: Placement, loops: &[u8], uptos: &[u8], ends: &[usize], by: u
     }
     let m = by - 1;
     let d = loops[m] as usize;
-    with_span(gone, d + 1, smaller(uptos[m] as usize, ends[d]))
+    with_span(gone, d + 1, (uptos[m] as usize).min(ends[d]))
 }
 
 // The placement with the gaps from lo to hi as well, if there are any.
@@ -253,10 +215,7 @@ fn with_span(p: Placement, lo: usize, hi: usize) -> Placement
     requires { hi < GAPS }
     ensures { (g : ℕ) → holds result.words g ≡ (between lo g hi || holds p.words g) }
 {
-    if lo <= hi {
-        return with_range(p, lo, hi);
-    }
-    p
+    if lo <= hi { with_range(p, lo, hi) } else { p }
 }
 
 // How many sets were counted after a step.
@@ -273,14 +232,7 @@ fn left_at(set: Placement, gone: Placement, struck: &[usize], d: usize, g: usize
     requires struck_len { length struck.now ≡ POINTS }
     ensures { result ≡ left_at set.words gone.words struck.now d g }
 {
-    if set.holds(g) {
-        if struck[g] <= d + 1 {
-            let passed = gone.holds(g);
-            return !passed;
-        }
-        return false;
-    }
-    false
+    set.holds(g) && struck[g] <= d + 1 && !gone.holds(g)
 }
 
 // Where the gap is in the set it lies in the loop, and where it is left it is the loop's own.
@@ -289,13 +241,7 @@ fn lies_at(set: Placement, left: bool, owners: &[usize], d: usize, e: usize, g: 
     requires owners_len { length owners.now ≡ POINTS }
     ensures { result ≡ lies_at set.words left owners.now d e g }
 {
-    if is_within(set, d, e, g) {
-        if left {
-            return owners[g] == d;
-        }
-        return true;
-    }
-    false
+    is_within(set, d, e, g) && (!left || owners[g] == d)
 }
 
 // Where the gap is in the set it is one of d + 1 to e.
@@ -303,44 +249,14 @@ fn is_within(set: Placement, d: usize, e: usize, g: usize) -> bool
     requires { g < POINTS }
     ensures { result ≡ within_at set.words d e g }
 {
-    if set.holds(g) {
-        if d < g {
-            return g <= e;
-        }
-        return false;
-    }
-    true
-}
-
-// 1 for true, 0 for false.
-fn count_if(b: bool) -> usize
-    ensures { (result ≡ when b 1) × (result ≤ 1) }
-{
-    if b { 1 } else { 0 }
-}
-
-// The larger of two numbers.
-fn larger(a: usize, b: usize) -> usize
-    ensures { result ≡ larger a b }
-{
-    if a <= b { b } else { a }
-}
-
-// The smaller of two numbers.
-fn smaller(a: usize, b: usize) -> usize
-    ensures { result ≡ smaller a b }
-{
-    if a <= b { a } else { b }
+    !set.holds(g) || (d < g && g <= e)
 }
 
 // A number raised to another, where the test holds.
 fn raised(old: usize, new: usize, yes: bool) -> usize
     ensures { result ≡ pick yes (larger old new) old }
 {
-    if yes {
-        return larger(old, new);
-    }
-    old
+    if yes { old.max(new) } else { old }
 }
 
 // The claim of loop d excludes the gap.
@@ -358,27 +274,12 @@ fn excludes(
     requires owners_len { (length owners.now ≡ POINTS) × (length times.now ≡ POINTS) }
     ensures { result ≡ excludes_at a b exact most owners.now times.now d g }
 {
-    if is_beyond(a, b, g) {
-        return true;
-    }
-    if owners[g] == d {
-        if exact {
-            return times[g] != most;
-        }
-        return false;
-    }
-    false
+    is_beyond(a, b, g) || (owners[g] == d && exact && times[g] != most)
 }
 
 // The gap lies up to b where no a is given, or from a on where no b is.
 fn is_beyond(a: usize, b: usize, g: usize) -> bool
     ensures { result ≡ beyond_at a b g }
 {
-    if a == 0 {
-        return g <= b;
-    }
-    if b == 0 {
-        return a <= g;
-    }
-    false
+    (a == 0 && g <= b) || (b == 0 && 0 < a && a <= g)
 }

@@ -1,15 +1,15 @@
--- What each way through the code says of the reply.
--- Main statements: `all_spelled`, `argue_refused`, `argue_short`, `argue_given`.
+-- All claims are spelled, and the reply where the buffer has room for them.
+-- Main statements: `all_spelled`, `argue_given`.
 use mathlib.Core.Path.{◌≡◌, refl, sym, ◌∙◌}
-use mathlib.Core.Bool.{Bool, true, false, not}
+use mathlib.Core.Bool.{true, false}
 use mathlib.Core.List.{List}
-use Prim.Native.Nat.{ℕ, ◌≤◌, ◌<◌}
+use Prim.Native.Nat.{ℕ, ◌≤◌}
 use native.Mathlib.Omega.{arith}
-use lib.Dec.{eqb, ltb}
+use lib.Dec.{ltb}
 use lib.ListN.{length}
-use borrow.Author.Tests.{ne_eqb, lt-ltb, le-ltb}
-use Rattle.laws.specs.Choice.{when, first_of}
-use Rattle.laws.proofs.Choices.{first_set, first_none}
+use borrow.Author.Tests.{le-ltb}
+use Rattle.laws.specs.Choice.{when}
+use Rattle.laws.proofs.Choices.{first_none}
 use Rattle.paper_nests.specs.Nests.{Nest}
 use Rattle.paper_nests.specs.Valid.{is_valid}
 use Rattle.paper_lines.specs.Writing.{over}
@@ -21,14 +21,7 @@ use Rattle.argue_paper.specs.Spelled.{Spelled}
 use Rattle.desk.specs.declared.Desk as DD
 use Rattle.desk.specs.declared.Answer as DA
 use Rattle.desk.specs.Desks.{desk_in, state_fault}
-use Rattle.desk.specs.Says.{RefusedAs}
-use Rattle.call_argue.specs.Says.{text_of, argue_fault, ArgueSays, AnswersShort}
-
--- the state gives no 9
-state_number : (a b : Bool) → eqb (first_of (when (not a) 10) (when (not b) 11)) 9 ≡ false
-state_number true true = refl
-state_number true false = refl
-state_number false b = refl
+use Rattle.call_argue.specs.Says.{text_of, argue_fault, ArgueSays}
 
 -- the claims are never too many, so all of them are spelled
 pub all_spelled
@@ -42,37 +35,6 @@ module _ (d : DD.Desk) (out : List ℕ) (r : DA.Answer) where
 
   abbrev short : ℕ
   short = when (ltb (length out) (length (text_of (desk_in d).nest_is))) 9
-
-  by_number
-      : (k : ℕ) → argue_fault (desk_in d) out ≡ k → eqb k 0 ≡ false → eqb k 9 ≡ false → RefusedAs k r
-      → ArgueSays d out out r
-  by_number k e z n a =
-      record {
-        number_is = a.number_is ∙ sym e;
-        line_is = a.line_is;
-        value_is = rw (e, z, n) a.value_is;
-        out_is = rw (e, z) refl;
-      }
-
-  pub argue_refused : (k : ℕ) → k ≡ state → (k ≡ 0 → ⊥) → RefusedAs k r → ArgueSays d out out r
-  argue_refused k e h a =
-      by_number k (first_set state short (λ q. h (e ∙ q)) ∙ sym e) (ne_eqb k 0 h)
-      (rw e (state_number d.loaded d.planned)) a
-
-  pub argue_short
-      : (w : ℕ) → state ≡ 0 → w ≡ length (text_of (desk_in d).nest_is) → length out < w → AnswersShort w r
-      → ArgueSays d out out r
-  argue_short w s c o a =
-      let t : ltb (length out) (length (text_of (desk_in d).nest_is)) ≡ true =
-      lt-ltb (length out) (length (text_of (desk_in d).nest_is)) (omega (arith, o, c)) in
-      let m : short ≡ 9 = rw t refl in
-      let e : argue_fault (desk_in d) out ≡ 9 = first_none state short s ∙ m in
-      record {
-        number_is = a.number_is ∙ sym e;
-        line_is = a.line_is;
-        value_is = rw e (a.value_is ∙ c);
-        out_is = rw e refl;
-      }
 
   pub argue_given
       : (out' : List ℕ) → state ≡ 0 → length (text_of (desk_in d).nest_is) ≤ length out → r.number ≡ 0 → r.line ≡ 0

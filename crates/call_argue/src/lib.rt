@@ -11,6 +11,7 @@ ghost use Rattle.call_argue.specs.Says.{text_of, AnswersShort, ArgueSays};
 use argue_paper::give_argument;
 use desk::{Answer, Desk, key_fault, refused};
 use paper_nests::Nest;
+use paper_refusals::Refusal;
 
 // Writes the argument of the key as text into a lent buffer; the value is its length. Numbers 10, 11, then 9 where the
 // buffer is short, with the length that is wanted.
@@ -18,20 +19,18 @@ pub fn argue(desk: Desk, out: &mut [u8]) -> Answer
     requires { IsMade desk }
     ensures { ArgueSays desk out.old out.new result }
 {
-    let number = key_fault(desk.loaded, desk.planned);
-    if number != 0 {
-        return refused(number);
+    if let Err(refusal) = key_fault(desk.loaded, desk.planned) {
+        return refused(refusal);
     }
     let nest = desk.nest;
     let wanted = count_argument(nest);
     if out.len() < wanted {
         return too_short(wanted);
     }
-    let given = give_argument(nest, out);
     Answer {
         number: 0,
         line: 0,
-        value: given.at,
+        value: give_argument(nest, out).at,
     }
 }
 
@@ -43,8 +42,7 @@ fn count_argument(nest: Nest) -> usize
     ensures { result ≡ length (text_of (nest_in nest)) }
 {
     let mut spare = [0; 1];
-    let counted = give_argument(nest, &mut spare);
-    counted.at
+    give_argument(nest, &mut spare).at
 }
 
 // The reply where the buffer is too short.
@@ -52,7 +50,7 @@ fn too_short(length: usize) -> Answer
     ensures { AnswersShort length result }
 {
     Answer {
-        number: 9,
+        number: u8::from(Refusal::ShortBuffer),
         line: 0,
         value: length,
     }

@@ -7,7 +7,8 @@ ghost use Rattle.paper_nests.specs.Stored.{nest_in, IsCounted};
 ghost use Rattle.paper_placements.specs.Placements.{are_gaps, avoids};
 ghost use Rattle.paper_placements.specs.Words.{gaps_in};
 ghost use Rattle.desk.specs.Desks.{IsMade};
-ghost use Rattle.call_argument.specs.Says.{reply, weighed_by, WeighSays, WeighPlacementSays};
+ghost use Rattle.paper_refusals.specs.Numbers.{number_of};
+ghost use Rattle.call_argument.specs.Says.{reply, weighed_by, UNHELD, WeighSays, WeighPlacementSays};
 
 use argue_judge::judge;
 use argue_texts::argument_fault;
@@ -15,6 +16,7 @@ use call_slips::read_on;
 use desk::{Desk, key_fault};
 use paper_nests::Nest;
 use paper_placements::{Placement, uncut};
+use paper_refusals::{Fault, Refusal};
 
 // The number of a refusal, and the text at fault (1 the placement, 2 the argument, 0 for neither) with its line; zeros
 // where the argument holds.
@@ -27,12 +29,11 @@ pub struct Weighed {
 }
 
 // The texts at fault.
+const NEITHER: u8 = 0;
+
 const PLACEMENT: u8 = 1;
 
 const ARGUMENT: u8 = 2;
-
-// The number of a line that does not hold.
-const UNHELD: u8 = 21;
 
 // Reads an argument text and says whether it holds of the key. Numbers 10, 11, then 1, 2, 4, 5 with their line, then 21
 // with the first line that does not hold.
@@ -40,13 +41,10 @@ pub fn weigh(desk: Desk, text: &[u8]) -> Weighed
     requires { IsMade desk }
     ensures { WeighSays desk text.now result }
 {
-    let number = key_fault(desk.loaded, desk.planned);
-    if number != 0 {
-        return replied(number, 0, 0);
+    if let Err(refusal) = key_fault(desk.loaded, desk.planned) {
+        return refused(Fault::from(refusal), NEITHER);
     }
-    let nest = desk.nest;
-    let key = desk.key;
-    weigh_on(nest, key, text)
+    weigh_on(desk.nest, desk.key, text)
 }
 
 // Reads a placement text and an argument text, and says whether the argument holds of the placement; no key is wanted.
@@ -56,17 +54,13 @@ pub fn weigh_placement(desk: Desk, placement: &[u8], text: &[u8]) -> Weighed
     requires { IsMade desk }
     ensures { WeighPlacementSays desk placement.now text.now result }
 {
-    let number = key_fault(desk.loaded, true);
-    if number != 0 {
-        return replied(number, 0, 0);
+    if let Err(refusal) = key_fault(desk.loaded, true) {
+        return refused(Fault::from(refusal), NEITHER);
     }
-    let reading = read_on(desk, placement);
-    if reading.number != 0 {
-        return replied(reading.number, PLACEMENT, reading.line);
+    match read_on(desk, placement) {
+        Err(fault) => refused(fault, PLACEMENT),
+        Ok(read) => weigh_on(desk.nest, read, text),
     }
-    let nest = desk.nest;
-    let read = reading.placement;
-    weigh_on(nest, read, text)
 }
 
 // The reply for a placement without barred gaps.
@@ -77,27 +71,42 @@ fn weigh_on(nest: Nest, placement: Placement, text: &[u8]) -> Weighed
     requires words_value_2 { avoids (nest_in nest).barred (gaps_in placement.words) ≡ true }
     ensures { result ≡ weighed_by (nest_in nest) (gaps_in placement.words) text.now }
 {
-    let fault = argument_fault(text);
-    if fault.number != 0 {
-        return replied(fault.number, ARGUMENT, fault.line);
+    if let Err(fault) = argument_fault(text) {
+        return refused(fault, ARGUMENT);
     }
-    let first = uncut(nest, placement);
-    if first != 0 {
-        return replied(UNHELD, PLACEMENT, 0);
+    if uncut(nest, placement).is_some() {
+        return unheld(PLACEMENT, 0);
     }
-    let line = judge(nest, placement, text);
-    if line != 0 {
-        return replied(UNHELD, ARGUMENT, line);
+    match judge(nest, placement, text) {
+        Some(line) => unheld(ARGUMENT, line),
+        None => Weighed {
+            number: 0,
+            text: NEITHER,
+            line: 0,
+        },
     }
-    replied(0, 0, 0)
 }
 
-fn replied(number: u8, text: u8, line: usize) -> Weighed
-    ensures { result ≡ reply number text line }
+// The reply of a refusal, with the text at fault.
+fn refused(fault: Fault, text: u8) -> Weighed
+    ensures { result ≡ reply (number_of fault.refusal) text fault.line }
 {
     Weighed {
-        number: number,
-        text: text,
-        line: line,
+        number: u8::from(fault.refusal),
+        text,
+        line: fault.line,
     }
+}
+
+// The reply where a line does not hold, or the placement is not correct.
+fn unheld(text: u8, line: usize) -> Weighed
+    ensures { result ≡ reply UNHELD text line }
+{
+    refused(
+        Fault {
+            refusal: Refusal::Unheld,
+            line,
+        },
+        text,
+    )
 }

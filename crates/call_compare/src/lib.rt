@@ -3,6 +3,7 @@
 #![tactic(auto)]
 
 ghost use Rattle.std.specs.Prelude.{◌≡◌, true};
+ghost use Rattle.paper_refusals.specs.Numbers.{number_of};
 ghost use Rattle.paper_nests.specs.Valid.{is_valid};
 ghost use Rattle.paper_nests.specs.Stored.{nest_in, IsCounted};
 ghost use Rattle.paper_placements.specs.Placements.{are_gaps};
@@ -14,6 +15,7 @@ use call_slips::read_on;
 use desk::{Desk, key_fault};
 use paper_nests::Nest;
 use paper_placements::Placement;
+use paper_refusals::Fault;
 
 // The number of a refusal, the text at fault (1 or 2, or 0 for neither) with its line, zeros for none; whether the first
 // placement is as good or better than the second, and the second than the first; and the set of the loops that decide
@@ -35,20 +37,17 @@ pub fn compare(desk: Desk, a: &[u8], b: &[u8]) -> Compared
     requires { IsMade desk }
     ensures { CompareSays desk a.now b.now result }
 {
-    let number = key_fault(desk.loaded, true);
-    if number != 0 {
-        return refused(number, 0, 0);
+    if let Err(refusal) = key_fault(desk.loaded, true) {
+        return refused(Fault::from(refusal), 0);
     }
-    let one = read_on(desk, a);
-    if one.number != 0 {
-        return refused(one.number, 1, one.line);
+    let one = match read_on(desk, a) {
+        Err(fault) => return refused(fault, 1),
+        Ok(one) => one,
+    };
+    match read_on(desk, b) {
+        Err(fault) => refused(fault, 2),
+        Ok(two) => weigh(desk.nest, one, two),
     }
-    let two = read_on(desk, b);
-    if two.number != 0 {
-        return refused(two.number, 2, two.line);
-    }
-    let nest = desk.nest;
-    weigh(nest, one.placement, two.placement)
 }
 
 // The reply for two placements that were read.
@@ -59,28 +58,25 @@ fn weigh(nest: Nest, p: Placement, q: Placement) -> Compared
     requires words_value_2 { are_gaps (nest_in nest) (gaps_in q.words) ≡ true }
     ensures { reply_in result ≡ weighed (nest_in nest) (gaps_in p.words) (gaps_in q.words) }
 {
-    let count = nest.count;
-    let points = nest.points;
-    let standing = paper_weigh::weigh(&points[..count], p, q);
-    let deciding = standing.deciding;
+    let standing = paper_weigh::weigh(nest.points(), p, q);
     Compared {
         number: 0,
         text: 0,
         line: 0,
         first: standing.first,
         second: standing.second,
-        deciding: deciding,
+        deciding: standing.deciding,
     }
 }
 
-// The reply of a refusal.
-fn refused(number: u8, text: u8, line: usize) -> Compared
-    ensures { reply_in result ≡ refusal number text line }
+// The reply of a refusal, with the text at fault.
+fn refused(fault: Fault, text: u8) -> Compared
+    ensures { reply_in result ≡ refusal (number_of fault.refusal) text fault.line }
 {
     Compared {
-        number: number,
-        text: text,
-        line: line,
+        number: u8::from(fault.refusal),
+        text,
+        line: fault.line,
         first: false,
         second: false,
         deciding: Placement::empty(),

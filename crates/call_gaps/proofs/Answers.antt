@@ -1,5 +1,5 @@
 -- The gaps of a dependence as words, and the call.
--- Main statements: `gaps-had`, `gaps-at`; `gaps_given`, `gaps_no_nest`, `gaps_no_dependence`.
+-- Main statements: `gaps-had`, `gaps-at`; `with_ends`, `gaps_given`.
 use mathlib.Core.Path.{◌≡◌, refl, sym, ap, ◌∙◌}
 use mathlib.Core.Bool.{true, false}
 use mathlib.Core.List.{List, [], ◌∷◌}
@@ -7,7 +7,7 @@ use Prim.Native.Nat.{ℕ, zero, suc, ◌-◌, ◌≤◌, ◌<◌}
 use native.Mathlib.Omega.{arith}
 use lib.Dec.{ltb}
 use lib.ListN.{length, get_or, drop}
-use borrow.Author.Tests.{lt-ltb, le-ltb}
+use borrow.Author.Tests.{lt-ltb}
 use Rattle.laws.proofs.Connectives.{or_off}
 use Rattle.laws.proofs.Tests.{false_by}
 use Rattle.paper_nests.specs.Nests.{Dep}
@@ -22,8 +22,7 @@ use Rattle.paper_gaps.proofs.Lies.{gap_inside, dep_at, found_at, found_ends, fou
 use Rattle.desk.specs.declared.Desk as DD
 use Rattle.desk.specs.declared.Chosen as DC
 use Rattle.desk.specs.Desks.{desk_in, IsMade}
-use Rattle.desk.specs.Says.{NotChosen}
-use Rattle.desk.proofs.Choosing.{Chooses-none, chooses}
+use Rattle.desk.proofs.Choosing.{chooses}
 use Rattle.call_gaps.specs.Says.{gaps_had, gaps_at, gaps_fault, GapsSays}
 
 -- words with these gaps and no other
@@ -57,16 +56,7 @@ gaps-at ps (x ∷ es) zero e rest h = ap (λ (l : List Dep). gaps_had ps (get_or
 gaps-at ps (x ∷ es) (suc i) e rest h = gaps-at ps es i e rest h
 
 module _ (d : DD.Desk) (i : ℕ) (m : IsMade d) where
-  pub gaps_no_nest : (r : DC.Chosen) → d.loaded ≡ false → NotChosen 10 r → GapsSays d i r
-  gaps_no_nest r h = Chooses-none (gaps_fault (desk_in d) i) _ r 10 (rw h) (λ z. omega arith)
-
   module _ (nest : d.loaded ≡ true) where
-    pub gaps_no_dependence : (r : DC.Chosen) → d.nest.many ≤ i → NotChosen 6 r → GapsSays d i r
-    gaps_no_dependence r h =
-        let no : ltb i (length (nest_in d.nest).deps) ≡ false =
-        le-ltb i (length (nest_in d.nest).deps) (omega (arith, m.counted.many_is)) in
-        Chooses-none (gaps_fault (desk_in d) i) _ r 6 (rw (nest, no)) (λ z. omega arith)
-
     module _ (ends : List ℕ) (are : HasEnds (nest_in d.nest).points ends) where
       pub with_ends : WithEnds d.nest ends
       with_ends = record { counted = m.counted; valid = m.paper.valid nest; ends_are = are }

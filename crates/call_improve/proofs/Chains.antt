@@ -1,5 +1,5 @@
 -- The chains, made from the last dependence to the first: each goes in front of the chain of its highest barrier.
--- Main statements: `Chaining`, what a turn keeps; `chain_start`, `chain_on`, `chain_done`; `top_told`, `top_low`.
+-- Main statements: `Chaining`, what a turn keeps; `chain_start`, `chain_on`; `top_told`, `top_low`, `told_low`.
 use mathlib.Core.Path.{◌≡◌, refl, sym, ◌∙◌}
 use mathlib.Core.Bool.{true}
 use mathlib.Core.List.{List}
@@ -22,7 +22,7 @@ use Rattle.paper_placements.proofs.Rising.{rising_in}
 use Rattle.paper_gaps.specs.Lies.{WithEnds}
 use Rattle.paper_gaps.proofs.Lies.{dep_at, found_at, found_among, found_ends}
 use Rattle.call_improve.specs.Places.{HasLatest}
-use Rattle.call_improve.specs.Tops.{top_of, top_at, HighestSays, NextOf, Chained}
+use Rattle.call_improve.specs.Tops.{top_of, top_at, HighestSays, NextOf}
 use Rattle.call_improve.proofs.TopLaws.{top_there, top-at}
 
 -- from i on the dependences are chained
@@ -137,11 +137,6 @@ module _ {n : Nest} {x : List ℕ} {i : ℕ} {first next : List ℕ} (c : Chaini
             (c.starts (top (i - 1)) low))
             (le_or i j)
 
-  pub chain_done : i ≤ 0 → Chained n x first next
-  chain_done z =
-      let e : i ≡ 0 = omega arith in
-      record { starts = λ k p. rw e at (c.starts k p); goes-on = λ j p. c.goes-on j (omega arith) p }
-
 -- ---- the highest barrier of dependence i, as the code works it out
 
 module _
@@ -177,3 +172,10 @@ module _
           (rising_in 0 (length ps) (gaps_in ws) (top_of ps e (gaps_in ws)) gaps t.placed).1,
           (valid_is (nest_in nest) w.valid).few_points,
         )
+
+    pub told_low
+        : (table : List ℕ) (r : ℕ)
+        → HasLatest ws table
+        → HighestSays table (get_or ends (dep_at nest i).d 0) (dep_at nest i) r
+        → r < POINTS
+    told_low table r has says = omega (arith, top_told table r has says, top_low)

@@ -8,6 +8,7 @@ use mathlib.Core.Logic.{⊎_elim}
 use Prim.Native.Nat.{ℕ, suc, ◌+◌, ◌-◌, ◌*◌, ◌^◌, ◌≤◌, ◌<◌}
 use native.Mathlib.Omega.{arith}
 use lib.ListN.{length, get_or, drop, drop_of_length-le}
+use Rattle.std.proofs.Common.{Option}
 use Rattle.laws.specs.Choice.{pick, when, is_in}
 use Rattle.laws.proofs.Tests.{le_or, bool_by, false_by, never_both}
 use Rattle.paper_nests.specs.declared.Nest as DN
@@ -16,7 +17,6 @@ use Rattle.paper_nests.specs.Nests.{Dep, Nest}
 use Rattle.paper_nests.specs.Gaps.{has_gap}
 use Rattle.paper_nests.specs.Stored.{dep_in, nest_in}
 use Rattle.paper_nests.proofs.Deps.{valid_is}
-use Rattle.paper_placements.specs.declared.Cut as DC
 use Rattle.paper_placements.specs.Placements.{cuts}
 use Rattle.paper_placements.specs.Answers.{is_cut, CutInSays}
 use Rattle.paper_placements.specs.Words.{GAPS, holds, gaps_in}
@@ -96,7 +96,7 @@ module _
     ps = n.points
 
     module _
-        (there : i < nest.many) (r : DC.Cut)
+        (there : i < nest.many) (r : Option ℕ)
         (says : CutInSays (get_or ends (dep_at nest i).d 0) (dep_at nest i) ws r)
       where
         abbrev e : Dep

@@ -1,10 +1,10 @@
 -- Ranges of gaps: the least entry of a table in a range, and with it the cheapest gap of a dependence.
--- Main statements: `least_start`, `least_less`, `least_same`; `cheapest_line`, `cheapest_first`, `cheapest_second`.
+-- Main statements: `least_on`; `cheapest_line`, `cheapest_ring`.
 use mathlib.Core.Path.{◌≡◌, refl, ◌∙◌}
 use mathlib.Core.Bool.{true}
 use mathlib.Core.List.{List}
 use mathlib.Core.Logic.{⊎_elim}
-use Prim.Native.Nat.{ℕ, suc, ◌+◌, ◌≤◌, ◌<◌}
+use Prim.Native.Nat.{ℕ, suc, ◌+◌, ◌≤◌, ◌<◌, min}
 use native.Mathlib.Omega.{arith}
 use lib.ListN.{get_or}
 use Rattle.laws.specs.Choice.{between}
@@ -21,16 +21,6 @@ use Rattle.call_improve.specs.Cheapest.{LeastIn, CheapestSays}
 
 -- ---- the least entry
 
-pub least_start : (table : List ℕ) (lo : ℕ) → LeastIn table lo lo (get_or table lo 0)
-least_start table lo =
-    record {
-      at = lo;
-      low = omega arith;
-      high = omega arith;
-      is = refl;
-      least = λ g a b. let z : g ≡ lo = omega arith in rw z (omega arith);
-    }
-
 module _ {table : List ℕ} {lo g r : ℕ} (l : LeastIn table lo g r) where
   up_to : (s : ℕ) → s ≤ r → s ≤ get_or table (g + 1) 0 → (i : ℕ) → lo ≤ i → i ≤ g + 1 → s ≤ get_or table i 0
   up_to s p q i a b =
@@ -39,7 +29,7 @@ module _ {table : List ℕ} {lo g r : ℕ} (l : LeastIn table lo g r) where
       (λ (z : g < i). let y : i ≡ g + 1 = omega arith in rw y q)
       (le_or i g)
 
-  pub least_less : get_or table (g + 1) 0 < r → LeastIn table lo (g + 1) (get_or table (g + 1) 0)
+  least_less : get_or table (g + 1) 0 < r → LeastIn table lo (g + 1) (get_or table (g + 1) 0)
   least_less h =
       record {
         at = g + 1;
@@ -49,7 +39,7 @@ module _ {table : List ℕ} {lo g r : ℕ} (l : LeastIn table lo g r) where
         least = up_to (get_or table (g + 1) 0) (omega arith) (omega arith);
       }
 
-  pub least_same : r ≤ get_or table (g + 1) 0 → LeastIn table lo (g + 1) r
+  least_same : r ≤ get_or table (g + 1) 0 → LeastIn table lo (g + 1) r
   least_same h =
       record {
         at = l.at;
@@ -58,6 +48,15 @@ module _ {table : List ℕ} {lo g r : ℕ} (l : LeastIn table lo g r) where
         is = l.is;
         least = up_to r (omega arith) h;
       }
+
+  pub least_on : {v : ℕ} → v ≡ min r (get_or table (g + 1) 0) → LeastIn table lo (g + 1) v
+  least_on {v} e =
+      ⊎_elim
+      (λ (z : r ≤ get_or table (g + 1) 0). let y : v ≡ r = omega arith in rw y (least_same z))
+      (λ (z : get_or table (g + 1) 0 < r).
+      let y : v ≡ get_or table (g + 1) 0 = omega arith in
+      rw y (least_less z))
+      (le_or r (get_or table (g + 1) 0))
 
 -- ---- the cheapest gap of a dependence
 
@@ -87,7 +86,7 @@ module _ {table : List ℕ} (e : DE.Dependence) (end : ℕ) where
           (λ (z : (e.s < g) × (g ≤ end)). omega (arith, q.least g (omega (arith, z.0)) z.1))
           (of_ring ps e end ends k g h)
 
-      pub cheapest_first : a < b → CheapestSays table end e a
+      cheapest_first : a ≤ b → CheapestSays table end e a
       cheapest_first h ps ends =
           record {
             at = p.at;
@@ -100,7 +99,7 @@ module _ {table : List ℕ} (e : DE.Dependence) (end : ℕ) where
             least = each a (omega arith) (omega arith) ps ends;
           }
 
-      pub cheapest_second : b ≤ a → CheapestSays table end e b
+      cheapest_second : b < a → CheapestSays table end e b
       cheapest_second h ps ends =
           record {
             at = q.at;
@@ -112,3 +111,10 @@ module _ {table : List ℕ} (e : DE.Dependence) (end : ℕ) where
             is = q.is;
             least = each b (omega arith) (omega arith) ps ends;
           }
+
+      pub cheapest_ring : {v : ℕ} → v ≡ min a b → CheapestSays table end e v
+      cheapest_ring {v} m =
+          ⊎_elim
+          (λ (z : a ≤ b). let y : v ≡ a = omega arith in rw y (cheapest_first z))
+          (λ (z : b < a). let y : v ≡ b = omega arith in rw y (cheapest_second z))
+          (le_or a b)

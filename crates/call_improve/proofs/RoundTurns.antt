@@ -1,5 +1,5 @@
 -- The rounds as the code makes them: what is left to try gives what the rule gives.
--- Main statements: `with_ends`, `some_points`, `turns_asked`, `few_times`, `calls_fit`; `Searching`, what a turn keeps;
+-- Main statements: `with_ends`, `turns_asked`, `few_times`, `calls_fit`; `Searching`, what a turn keeps;
 -- `search_start`, `search_asks`, `try_sound`, `search_taken`, `search_kept`, `search_budget`, `search_round`.
 use mathlib.Core.Path.{◌≡◌, refl, sym, ap, ◌∙◌}
 use mathlib.Core.Bool.{Bool, true, false, not}
@@ -17,7 +17,6 @@ use Rattle.paper_nests.specs.Loops.{HasEnds}
 use Rattle.paper_nests.specs.Valid.{is_shape}
 use Rattle.paper_nests.specs.Stored.{nest_in}
 use Rattle.paper_nests.proofs.Deps.{valid_is}
-use Rattle.paper_nests.proofs.Loops.{outermost}
 use Rattle.paper_placements.specs.declared.Placement as DP
 use Rattle.paper_placements.specs.Placements.{uncut, are_gaps}
 use Rattle.paper_placements.specs.Words.{GAPS, holds, gaps_of, gaps_in}
@@ -51,9 +50,6 @@ module _ {nest : DN.Nest} {key : DP.Placement} {ts : List ℕ} (a : SearchAsks n
   with_ends ends h = record { counted = a.counted; valid = a.valid; ends_are = h }
 
   -- a nest has gaps
-  pub some_points : 1 ≤ nest.count
-  some_points = omega (arith, a.counted.count_is, outermost n.points (valid_is n a.valid).shape)
-
   pub turns_asked : ((is_shape n.points ≡ true) × (length n.points ≤ POINTS)) × (fit_in 0 0 n.points ts ≡ true)
   turns_asked =
       let v = valid_is n a.valid in

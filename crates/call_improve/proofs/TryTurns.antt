@@ -8,12 +8,12 @@ use Prim.Native.Nat.{ℕ, suc, ◌+◌, ◌^◌, ◌≤◌, ◌<◌}
 use native.Mathlib.Omega.{arith}
 use lib.Dec.{eqb}
 use lib.ListN.{length, get_or}
+use Rattle.std.proofs.Common.{Option}
 use Rattle.laws.specs.Choice.{is_in}
 use Rattle.laws.proofs.Tests.{le_or}
 use Rattle.paper_nests.specs.declared.Nest as DN
 use Rattle.paper_nests.specs.Nests.{Dep, Nest}
 use Rattle.paper_nests.specs.Stored.{dep_in, nest_in}
-use Rattle.paper_placements.specs.declared.Cut as DC
 use Rattle.paper_placements.specs.Placements.{cuts}
 use Rattle.paper_placements.specs.Answers.{is_cut, CutInSays}
 use Rattle.paper_placements.specs.Words.{GAPS, holds, gaps_in}
@@ -94,7 +94,7 @@ module _
                   (λ (z : length n.deps < suc (get_or current.next i 0)). omega (arith, w.counted.many_is))
                   (le_or (suc (get_or current.next i 0)) (length n.deps))
 
-          module _ (r : DC.Cut) (says : CutInSays (get_or ends (dep_at nest i).d 0) (dep_at nest i) ws r) where
+          module _ (r : Option ℕ) (says : CutInSays (get_or ends (dep_at nest i).d 0) (dep_at nest i) ws r) where
             told : is_cut r ≡ cuts n.points e (gaps_in ws)
             told = (says n.points (found_ends w there)).cut
 

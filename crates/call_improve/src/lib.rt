@@ -3,6 +3,7 @@
 #![tactic(auto)]
 
 ghost use Rattle.std.specs.Prelude.{◌≡◌, true, ◌<◌, ◌≤◌};
+ghost use Rattle.paper_refusals.specs.Numbers.{number_of};
 ghost use Rattle.paper_nests.specs.Kinds.{POINTS};
 ghost use Rattle.paper_nests.specs.Stored.{nest_in};
 ghost use Rattle.paper_placements.specs.Placements.{uncut, are_gaps};
@@ -20,7 +21,8 @@ use call_runs::can_count;
 use desk::{Desk, key_fault};
 use paper_gaps::with_gaps;
 use paper_nests::{Dependence, Nest};
-use paper_placements::{Cut, Placement, cut_in};
+use paper_placements::{Placement, cut_in};
+use paper_refusals::Refusal;
 use run_count::{OUTER, sum_at, times_of};
 
 // What ended the tries: a round through all gaps in which none was taken, or the budget before the round was through.
@@ -65,23 +67,21 @@ pub fn improve(desk: Desk, turns: &[u8], budget: usize) -> Improved
     requires { IsMade desk }
     ensures { ImproveSays desk turns.now budget result }
 {
-    let number = key_fault(desk.loaded, desk.planned);
-    if number != 0 {
-        return refused(number);
+    if let Err(refusal) = key_fault(desk.loaded, desk.planned) {
+        return refused(refusal);
     }
-    let nest = desk.nest;
-    if can_count(nest, turns, OUTER) {
-        let key = desk.key;
-        return improve_key(nest, key, turns, budget);
+    if !can_count(desk.nest, turns, OUTER) {
+        return refused(Refusal::WrongTurns);
     }
-    refused(17)
+    improve_key(desk.nest, desk.key, turns, budget)
 }
 
-fn refused(number: u8) -> Improved
-    ensures { reply_in result ≡ refusal number }
+// The reply that refuses.
+fn refused(reason: Refusal) -> Improved
+    ensures { reply_in result ≡ refusal (number_of reason) }
 {
     Improved {
-        number: number,
+        number: u8::from(reason),
         line: 0,
         placement: Placement::empty(),
         calls: 0,
@@ -99,9 +99,9 @@ fn improve_key(nest: Nest, key: Placement, turns: &[u8], budget: usize) -> Impro
     ensures { SearchSays (nest_in nest) turns.now (gaps_in key.words) budget result }
 {
     let count = nest.count;
-    let points = nest.points;
-    let times = times_of(&points[..count], turns);
-    let ends = paper_nests::ends_of(&points[..count]);
+    let points = nest.points();
+    let times = times_of(points, turns);
+    let ends = paper_nests::ends_of(points);
     let floor = floor_of(nest, &ends, &times);
     let calls = sum_at(&times, key);
     let mut current = current_of(nest, &ends, key, calls);
@@ -113,15 +113,11 @@ fn improve_key(nest: Nest, key: Placement, turns: &[u8], budget: usize) -> Impro
         }
         let tried = try_at(nest, current, &ends, &times, g);
         tries += 1;
-        let found = tried.calls;
-        let before = current.calls;
-        if found < before {
-            let p = tried.placement;
-            current = current_of(nest, &ends, p, found);
-            g = free_from(p, 1, count);
+        if tried.calls < current.calls {
+            current = current_of(nest, &ends, tried.placement, tried.calls);
+            g = free_from(tried.placement, 1, count);
         } else {
-            let p = current.placement;
-            g = free_from(p, g + 1, count);
+            g = free_from(current.placement, g + 1, count);
         }
     }
     outcome_of(current, tries, ROUND, floor)
@@ -131,15 +127,14 @@ fn improve_key(nest: Nest, key: Placement, turns: &[u8], budget: usize) -> Impro
 fn outcome_of(current: Current, tries: usize, ended: u8, floor: u64) -> Improved
     ensures { reply_in result ≡ reached current tries ended floor }
 {
-    let placement = current.placement;
     Improved {
         number: 0,
         line: 0,
-        placement: placement,
+        placement: current.placement,
         calls: current.calls,
-        tries: tries,
-        ended: ended,
-        floor: floor,
+        tries,
+        ended,
+        floor,
     }
 }
 
@@ -148,11 +143,8 @@ fn free_from(p: Placement, lo: usize, count: usize) -> usize
     requires { (lo ≤ count) × (count ≤ GAPS) }
     ensures { FreeFrom p.words lo count result }
 {
-    let mut g = lo;
-    while g < count {
-        if p.holds(g) {
-            g += 1;
-        } else {
+    for g in lo..count {
+        if !p.holds(g) {
             return g;
         }
     }
@@ -165,16 +157,11 @@ fn latest_of(p: Placement) -> [usize; Nest::POINTS]
 {
     let mut latest = [0; Nest::POINTS];
     let mut last: usize = 0;
-    let mut g: usize = 0;
-    while g < Placement::GAPS {
+    for g in 0..Placement::GAPS {
         if p.holds(g) {
-            latest[g] = g;
             last = g;
-            g += 1;
-        } else {
-            latest[g] = last;
-            g += 1;
         }
+        latest[g] = last;
     }
     latest
 }
@@ -207,20 +194,17 @@ fn current_of(nest: Nest, ends: &[usize; Nest::POINTS], p: Placement, calls: u64
     let latest = latest_of(p);
     let mut first = [many; Nest::POINTS];
     let mut next = [many; Nest::DEPENDENCES];
-    let mut i = many;
-    while 0 < i {
-        i -= 1;
+    for i in (0..many).rev() {
         let e = nest.deps[i];
-        let d = e.d as usize;
-        let h = highest(&latest, ends[d], e);
+        let h = highest(&latest, ends[e.d as usize], e);
         next[i] = first[h];
         first[h] = i;
     }
     Current {
         placement: p,
-        calls: calls,
-        first: first,
-        next: next,
+        calls,
+        first,
+        next,
     }
 }
 
@@ -247,25 +231,17 @@ fn try_at(
     loop {
         if i < many {
             let e = nest.deps[i];
-            let d = e.d as usize;
-            let cut = cut_in(ends[d], placement, e);
-            match cut {
-                Cut::By(_) => {
-                    i = current.next[i];
-                }
-                Cut::Uncut => {
-                    placement = placement.put(h);
-                    calls += times[h];
-                    i = many;
-                }
+            if cut_in(ends[e.d as usize], placement, e).is_some() {
+                i = current.next[i];
+            } else {
+                placement = placement.put(h);
+                calls += times[h];
+                i = many;
             }
         } else {
             h += 1;
             if count <= h {
-                return Try {
-                    placement: placement,
-                    calls: calls,
-                };
+                return Try { placement, calls };
             }
             i = current.first[h];
         }
@@ -278,24 +254,13 @@ fn floor_of(nest: Nest, ends: &[usize; Nest::POINTS], times: &[u64; Nest::POINTS
     requires few_times { FewTimes nest.count times.now }
     ensures { FloorSays (nest_in nest) times.now result }
 {
-    let many = nest.many;
     let mut taken = Placement::empty();
     let mut floor: u64 = 0;
-    let mut i: usize = 0;
-    while i < many {
-        let e = nest.deps[i];
-        let d = e.d as usize;
-        let end = ends[d];
-        let cut = cut_in(end, taken, e);
-        match cut {
-            Cut::By(_) => {
-                i += 1;
-            }
-            Cut::Uncut => {
-                floor += cheapest_of(times, end, e);
-                taken = with_gaps(taken, end, e);
-                i += 1;
-            }
+    for &e in &nest.deps[..nest.many] {
+        let end = ends[e.d as usize];
+        if cut_in(end, taken, e).is_none() {
+            floor += cheapest_of(times, end, e);
+            taken = with_gaps(taken, end, e);
         }
     }
     floor
@@ -314,10 +279,7 @@ fn cheapest_of(times: &[u64; Nest::POINTS], end: usize, e: Dependence) -> u64
     let d = e.d as usize;
     let a = least_in(times, d + 1, t);
     let b = least_in(times, s + 1, end);
-    if a < b {
-        return a;
-    }
-    b
+    a.min(b)
 }
 
 // The least entry from lo to hi.
@@ -326,13 +288,8 @@ fn least_in(times: &[u64; Nest::POINTS], lo: usize, hi: usize) -> u64
     ensures { LeastIn times.now lo hi result }
 {
     let mut least = times[lo];
-    let mut g = lo;
-    while g < hi {
-        g += 1;
-        let w = times[g];
-        if w < least {
-            least = w;
-        }
+    for &w in &times[lo + 1..hi + 1] {
+        least = least.min(w);
     }
     least
 }

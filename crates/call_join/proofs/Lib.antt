@@ -18,6 +18,6 @@ pub mod Measuring
 pub mod JointTexts
 pub mod LastPart
 pub mod Limits
-pub mod Replies
+pub mod Accepted
 pub mod JoinedTexts
 pub mod JointCases

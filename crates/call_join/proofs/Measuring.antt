@@ -1,16 +1,20 @@
 -- The numbers that joining works out first: how deep points go, the length of the text of dependences.
--- Main definitions: `Deepest`, `Summed`, what a turn keeps. Main statements: `deepest_begin`, `deepest_on`,
--- `deepest_done`; `summed_begin`, `summed_on`, `summed_within`, `summed_done`; `deps_short`.
-use mathlib.Core.Path.{◌≡◌}
+-- Main definitions: `Deepest`, `Summed`, what a turn keeps. Main statements: `deepest_on`; `taken_deps`, `next_dep`;
+-- `summed_on`, `summed_within`, `summed_done`; `deps_short`.
+use mathlib.Core.Path.{◌≡◌, ◌∙◌}
 use mathlib.Core.List.{List, [], ◌∷◌}
 use Prim.Native.Nat.{ℕ, suc, ◌+◌, ◌*◌, ◌≤◌, ◌<◌, max}
 use native.Mathlib.Numerals.{add-one}
 use native.Mathlib.Omega.{arith}
-use lib.ListN.{length, get_or, drop, length-append, drop_of_length-le}
-use lib.Seq.{drop-cons}
+use lib.ListN.{length, get_or, take, drop, length-append, drop_of_length-le}
+use lib.Seq.{drop-cons, length-take-le, get_or-take}
+use Rattle.paper_nests.specs.declared.Dependence as DE
+use Rattle.paper_nests.specs.declared.Nest as DN
 use Rattle.paper_nests.specs.Nests.{Dep}
 use Rattle.paper_nests.specs.Loops.{deeper}
+use Rattle.paper_nests.specs.Stored.{dep_in, nest_in, IsCounted}
 use Rattle.paper_nests.proofs.Scan.{deeper_grows}
+use Rattle.paper_nests.proofs.Stored.{deps_in_at, counted_many}
 use Rattle.paper_lines.specs.Lines.{line_text}
 use Rattle.paper_texts.specs.Pieces.{Piece, Depend, piece_frame, dep_frame, pieces_text}
 use Rattle.paper_texts.specs.NestTexts.{dep_pieces}
@@ -27,9 +31,6 @@ pub record Deepest (ps : List ℕ) (most depth i : ℕ) : Type 0 where
   pub shallow : depth ≤ i
   pub covers : depth ≤ most
   pub is : max most (deepest_from depth (drop i ps)) ≡ deepest ps
-
-pub deepest_begin : (ps : List ℕ) → Deepest ps 0 0 0
-deepest_begin ps = record { low = omega arith; shallow = omega arith; covers = omega arith; is = omega arith }
 
 module _ {ps : List ℕ} {most depth i : ℕ} (p : Deepest ps most depth i) where
   pub deepest_on
@@ -48,19 +49,25 @@ module _ {ps : List ℕ} {most depth i : ℕ} (p : Deepest ps most depth i) wher
         is = omega (arith, p.is, p.covers, start_deepest d (drop (i + 1) ps));
       }
 
-  pub deepest_done : length ps ≤ i → most ≡ deepest ps
-  deepest_done l =
-      let e : deepest_from depth (drop i ps) ≡ depth = rw (drop_of_length-le ps {i = i} l) in
-      omega (arith, p.is, p.covers)
+-- ---- the dependences of a counted nest, as the first ones of its array
+
+pub taken_deps : (n : DN.Nest) → IsCounted n → length (take n.many n.deps) ≡ length (nest_in n).deps
+taken_deps n p = length-take-le n.many n.deps (counted_many n p) ∙ p.many_is
+
+pub next_dep
+    : (n : DN.Nest) (z : DE.Dependence) (i : ℕ)
+    → IsCounted n
+    → i < length (take n.many n.deps)
+    → drop i (nest_in n).deps ≡ dep_in (get_or (take n.many n.deps) i z) ∷ drop (suc i) (nest_in n).deps
+next_dep n z i p l =
+    let under : i < n.many = omega (arith, length-take-le n.many n.deps (counted_many n p)) in
+    rw (get_or-take n.many n.deps i z under) (deps_in_at n.many n.deps i z under (counted_many n p))
 
 -- ---- the text of dependences
 
 pub record Summed (es : List Dep) (sum i : ℕ) : Type 0 where
   pub low : i ≤ length es
   pub is : sum + length (deps_text (drop i es)) ≡ length (deps_text es)
-
-pub summed_begin : (es : List Dep) → Summed es 0 0
-summed_begin es = record { low = omega arith; is = omega arith }
 
 pub pieces_cons
     : (x : Piece) (xs : List Piece)

@@ -1,7 +1,6 @@
 -- Pieces of a nest text written one by one into a lent buffer: points, and dependences that are moved along.
--- Main definition: `Piecing`, what a turn keeps. Main statements: `piece_begin`, `piece_length`, `piece_room`,
--- `piece_on`, `piece_done`; `next_within`, `flagged_next`, `plain_next`, `dep_next`; of a dependence `line_frame`,
--- `ring_frame` and their neighbours.
+-- Main definition: `Piecing`, what a turn keeps. Main statements: `piece_length`, `piece_room`, `piece_on`,
+-- `piece_done`; `flagged_next`, `plain_next`, `dep_next`; of a dependence `line_length`, `ring_length`.
 use mathlib.Core.Path.{◌≡◌, refl, ap}
 use mathlib.Core.Bool.{true, false}
 use mathlib.Core.List.{List, [], ◌∷◌, ◌++◌}
@@ -10,17 +9,17 @@ use Prim.Native.Nat.{ℕ, zero, suc, ◌+◌, ◌-◌, ◌≤◌, ◌<◌}
 use native.Mathlib.Numerals.{add-one}
 use native.Mathlib.Omega.{arith}
 use lib.Dec.{eqb}
-use lib.ListN.{length, get_or, take, drop, length-append, drop_of_length-le}
-use lib.Seq.{drop-cons, length-take-le, get_or-take}
+use lib.ListN.{length, get_or, drop, length-append, drop_of_length-le}
+use lib.Seq.{drop-cons}
 use borrow.Author.Tests.{ne_eqb}
 use borrow.Rule.Slice.PartMut.{mid_of, put_mid}
 use Rattle.laws.specs.Members.{Among}
 use Rattle.laws.proofs.Tests.{never, lt_by}
 use Rattle.paper_nests.specs.Kinds.{INDEPENDENT, CARRIED}
-use Rattle.paper_nests.specs.Nests.{Dep, dep}
+use Rattle.paper_nests.specs.Nests.{Dep}
 use Rattle.paper_lines.specs.Lines.{line_text}
 use Rattle.paper_lines.specs.Writing.{over}
-use Rattle.paper_lines.proofs.Parts.{Partly, part_begin, part_room, part_length, part_on, part_left, part_done}
+use Rattle.paper_lines.proofs.Parts.{Partly, part_room, part_length, part_on, part_left, part_done}
 use Rattle.paper_lines.proofs.Writing.{text-length}
 use Rattle.paper_texts.specs.Pieces.{Piece, Point, Depend, Flagged, piece_frame, dep_frame, pieces_text}
 use Rattle.paper_texts.specs.NestTexts.{point_pieces, dep_pieces}
@@ -30,9 +29,6 @@ use Rattle.call_join.specs.Written.{is_next}
 -- of the pieces xs all but those that are left are written
 pub record Piecing (xs left : List Piece) (o out : List ℕ) (at : ℕ) : Type 0 where
   pub part : Partly (pieces_text xs) (pieces_text left) o out at
-
-pub piece_begin : (xs : List Piece) (o : List ℕ) → Piecing xs xs o o 0
-piece_begin xs o = record { part = part_begin (pieces_text xs) o }
 
 module _
     {xs left : List Piece} {o out : List ℕ} {at : ℕ} (p : Piecing xs left o out at)
@@ -103,18 +99,6 @@ next_there i f fs h =
     let none : drop f fs ≡ [] = drop_of_length-le fs {i = f} z in
     never (rw none at h))
 
--- by the flag at f, of the first ones of an array
-module _ (all : List ℕ) (flags : ℕ) (there : flags ≤ length all) (f i : ℕ) where
-  pub next_within : f < flags → eqb i (get_or all f 0) ≡ is_next i (drop f (take flags all))
-  next_within l =
-      let long = length-take-le flags all there in
-      rw (drop-cons (take flags all) f 0 (omega arith), get_or-take flags all f 0 l)
-
-  pub next_beyond : flags ≤ f → false ≡ is_next i (drop f (take flags all))
-  next_beyond l =
-      let long = length-take-le flags all there in
-      rw (drop_of_length-le (take flags all) {i = f} (omega arith))
-
 -- at point i, with the flags from f on
 module _ (ps fs : List ℕ) (f i : ℕ) (l : i < length ps) where
   pub flagged_next
@@ -157,12 +141,9 @@ among_next [] (suc i) next = let z : ◌≡◌ {A = ℕ} 0 1 = cc in absurd (ome
 among_next (x ∷ es) zero next = inl (cc)
 among_next (x ∷ es) (suc i) next = inr (among_next es i next)
 
--- an independent dependence: moved along, its frame, its line
+-- an independent dependence: its frame, its line
 module _ (e : Dep) (kind : e.kind ≡ INDEPENDENT) where
-  pub line_moved : (k : ℕ) → dep e.kind e.d (k + e.s) (k + e.t) ≡ moved_dep k e
-  line_moved k = rw kind
-
-  pub line_frame : INDEPENDENT ∷ (e.s ∷ (e.t ∷ [])) ≡ dep_frame e
+  line_frame : INDEPENDENT ∷ (e.s ∷ (e.t ∷ [])) ≡ dep_frame e
   line_frame = rw kind
 
   pub line_length : length (line_text (dep_frame e)) ≡ 7
@@ -170,10 +151,7 @@ module _ (e : Dep) (kind : e.kind ≡ INDEPENDENT) where
 
 -- the same of a carried one
 module _ (e : Dep) (kind : e.kind ≡ INDEPENDENT → ⊥) where
-  pub ring_moved : (k : ℕ) → dep e.kind (k + e.d) (k + e.s) (k + e.t) ≡ moved_dep k e
-  ring_moved k = rw (ne_eqb e.kind INDEPENDENT kind)
-
-  pub ring_frame : CARRIED ∷ (e.d ∷ (e.s ∷ (e.t ∷ []))) ≡ dep_frame e
+  ring_frame : CARRIED ∷ (e.d ∷ (e.s ∷ (e.t ∷ []))) ≡ dep_frame e
   ring_frame = rw (ne_eqb e.kind INDEPENDENT kind)
 
   pub ring_length : length (line_text (dep_frame e)) ≡ 9

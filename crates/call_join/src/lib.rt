@@ -1,7 +1,8 @@
 // Two papers into one: two nest texts read, and the text of the joint nest written.
 #![tactic(auto)]
 
-ghost use Rattle.std.specs.Prelude.{◌≡◌, true, false, ◌≤◌, max, length, take, drop};
+ghost use Rattle.std.specs.Prelude.{◌≡◌, false, ◌≤◌, length, take, drop};
+ghost use Rattle.paper_refusals.specs.Numbers.{number_of};
 ghost use Rattle.paper_nests.specs.Stored.{dep_in, nest_in, IsCounted};
 ghost use Rattle.paper_lines.specs.Lines.{line_text};
 ghost use Rattle.paper_texts.specs.Pieces.{dep_frame};
@@ -13,6 +14,7 @@ ghost use Rattle.call_join.specs.Written.{deps_text, Writes, StaysBytes, StayByt
 
 use paper_lines::put_frame;
 use paper_nests::{CARRIED, DO, Dependence, ENDDO, FLAGGED, INDEPENDENT, Nest, deeper};
+use paper_refusals::{Fault, Refusal};
 use paper_texts::read_nest;
 
 // The reply: the number of the refusal, the text at fault (1 or 2, or 0 for neither) with its line, zeros for none; and
@@ -32,29 +34,25 @@ pub struct Joined {
 pub fn join(a: &[u8], b: &[u8], out: &mut [u8]) -> Joined
     ensures { JoinSays a.now b.now out.old out.new result }
 {
-    let one = read_nest(a);
-    let number = one.number;
-    if number != 0 {
-        return refused(number, 1, one.line);
-    }
-    let two = read_nest(b);
-    let second = two.number;
-    if second != 0 {
-        return refused(second, 2, two.line);
-    }
-    let n = one.nest;
-    let m = two.nest;
+    let n = match read_nest(a) {
+        Err(fault) => return refused(fault, 1),
+        Ok(n) => n,
+    };
+    let m = match read_nest(b) {
+        Err(fault) => return refused(fault, 2),
+        Ok(m) => m,
+    };
     if n.bars != 0 {
-        return refused(14, 1, 0);
+        return refused(Fault::from(Refusal::NotOneLoop), 1);
     }
     if m.bars != 0 {
-        return refused(14, 2, 0);
+        return refused(Fault::from(Refusal::NotOneLoop), 2);
     }
     if exceeds(n, m) {
-        return refused(18, 0, 0);
+        return refused(Fault::from(Refusal::TooLarge), 0);
     }
     if out.len() < text_length(n, m) {
-        return refused(9, 0, 0);
+        return refused(Fault::from(Refusal::ShortBuffer), 0);
     }
     Joined {
         number: 0,
@@ -64,14 +62,14 @@ pub fn join(a: &[u8], b: &[u8], out: &mut [u8]) -> Joined
     }
 }
 
-// The reply of a refusal.
-fn refused(number: u8, text: u8, line: usize) -> Joined
-    ensures { result ≡ reply number text line 0 }
+// The reply of a refusal, with the text at fault.
+fn refused(fault: Fault, text: u8) -> Joined
+    ensures { result ≡ reply (number_of fault.refusal) text fault.line 0 }
 {
     Joined {
-        number: number,
-        text: text,
-        line: line,
+        number: u8::from(fault.refusal),
+        text,
+        line: fault.line,
         value: 0,
     }
 }
@@ -83,16 +81,10 @@ fn exceeds(n: Nest, m: Nest) -> bool
     requires papers { Papers (nest_in n) (nest_in m) }
     ensures { result ≡ exceeds (nest_in n) (nest_in m) }
 {
-    if Nest::POINTS < n.count + m.count + 2 {
-        return true;
-    }
-    if Nest::DEPENDENCES < n.many + m.many {
-        return true;
-    }
-    if Nest::DEPTH <= deepest(&n.points, n.count) {
-        return true;
-    }
-    Nest::DEPTH <= deepest(&m.points, m.count)
+    Nest::POINTS < n.count + m.count + 2
+        || Nest::DEPENDENCES < n.many + m.many
+        || Nest::DEPTH <= deepest(&n.points, n.count)
+        || Nest::DEPTH <= deepest(&m.points, m.count)
 }
 
 // How deep the first points go.
@@ -102,23 +94,11 @@ fn deepest(all: &[u8], count: usize) -> usize
 {
     let mut most: usize = 0;
     let mut depth: usize = 0;
-    let mut i: usize = 0;
-    while i < count {
-        depth = deeper(depth, all[i]);
-        most = larger(most, depth);
-        i += 1;
+    for &point in &all[..count] {
+        depth = deeper(depth, point);
+        most = most.max(depth);
     }
     most
-}
-
-// The larger of two numbers.
-fn larger(a: usize, b: usize) -> usize
-    ensures { result ≡ max a b }
-{
-    if a < b {
-        return b;
-    }
-    a
 }
 
 // The length of the joint text.
@@ -135,13 +115,9 @@ fn deps_length(nest: Nest) -> usize
     requires { IsCounted nest }
     ensures { result ≡ length (deps_text (nest_in nest).deps) }
 {
-    let many = nest.many;
     let mut length: usize = 0;
-    let mut i: usize = 0;
-    while i < many {
-        let e = nest.deps[i];
+    for &e in &nest.deps[..nest.many] {
         length += dep_length(e);
-        i += 1;
     }
     length
 }
@@ -150,10 +126,7 @@ fn deps_length(nest: Nest) -> usize
 fn dep_length(e: Dependence) -> usize
     ensures { result ≡ length (line_text (dep_frame (dep_in e))) }
 {
-    if e.kind == INDEPENDENT {
-        return 7;
-    }
-    9
+    if e.kind == INDEPENDENT { 7 } else { 9 }
 }
 
 // Writes the joint text from the start of a buffer that has room for it; gives its length.
@@ -177,8 +150,7 @@ fn put_all_points(n: Nest, m: Nest, out: &mut [u8]) -> usize
     requires m_in_bounds { length (points_text (joint_in n m)) ≤ length out.old }
     ensures { Writes (points_text (joint_in n m)) out.old out.new result }
 {
-    let open = [DO];
-    let at = put_frame(out, &open);
+    let at = put_frame(out, &[DO]);
     at + put_inside(n, m, &mut out[at..])
 }
 
@@ -199,9 +171,8 @@ fn put_second(m: Nest, out: &mut [u8]) -> usize
     requires m_in_bounds { length (second_text (nest_in m)) ≤ length out.old }
     ensures { Writes (second_text (nest_in m)) out.old out.new result }
 {
-    let close = [ENDDO];
     let at = put_points(m, out);
-    at + put_frame(&mut out[at..], &close)
+    at + put_frame(&mut out[at..], &[ENDDO])
 }
 
 // Writes the dependences of the joint nest, the first paper's before the second's, a line each, from the start of the
@@ -224,21 +195,14 @@ fn put_points(nest: Nest, out: &mut [u8]) -> usize
     requires nest_in_bounds { length (points_text (nest_in nest)) ≤ length out.old }
     ensures { Writes (points_text (nest_in nest)) out.old out.new result }
 {
-    let count = nest.count;
-    let flags = nest.flags;
     let mut at: usize = 0;
     let mut f: usize = 0;
-    let mut i: usize = 0;
-    while i < count {
-        if is_next(&nest.flagged, flags, f, i) {
-            let flag = [FLAGGED];
-            at += put_frame(&mut out[at..], &flag);
+    for (i, &point) in nest.points[..nest.count].iter().enumerate() {
+        if is_next(&nest.flagged, nest.flags, f, i) {
+            at += put_frame(&mut out[at..], &[FLAGGED]);
             f += 1;
-            i += 1;
         } else {
-            let frame = [nest.points[i]];
-            at += put_frame(&mut out[at..], &frame);
-            i += 1;
+            at += put_frame(&mut out[at..], &[point]);
         }
     }
     at
@@ -249,10 +213,7 @@ fn is_next(flagged: &[u8], flags: usize, f: usize, i: usize) -> bool
     requires { flags ≤ length flagged.now }
     ensures { result ≡ is_next i (drop f (take flags flagged.now)) }
 {
-    if f < flags {
-        return i == flagged[f] as usize;
-    }
-    false
+    f < flags && i == flagged[f] as usize
 }
 
 // Writes the dependences, moved along by so many points, a line each, from the start of the lent part; gives the
@@ -263,13 +224,9 @@ fn put_deps(nest: Nest, by: u8, out: &mut [u8]) -> usize
     requires nest_in_bounds { length (deps_text (moved_deps by (nest_in nest).deps)) ≤ length out.old }
     ensures { Writes (deps_text (moved_deps by (nest_in nest).deps)) out.old out.new result }
 {
-    let many = nest.many;
     let mut at: usize = 0;
-    let mut i: usize = 0;
-    while i < many {
-        let e = moved(nest.deps[i], by);
-        at += put_dep(e, &mut out[at..]);
-        i += 1;
+    for &e in &nest.deps[..nest.many] {
+        at += put_dep(moved(e, by), &mut out[at..]);
     }
     at
 }
@@ -279,19 +236,11 @@ fn moved(e: Dependence, by: u8) -> Dependence
     requires { StaysBytes by (dep_in e) }
     ensures { dep_in result ≡ moved_dep by (dep_in e) }
 {
-    if e.kind == INDEPENDENT {
-        return Dependence {
-            kind: e.kind,
-            d: e.d,
-            s: by + e.s,
-            t: by + e.t,
-        };
-    }
     Dependence {
-        kind: e.kind,
-        d: by + e.d,
+        d: if e.kind == INDEPENDENT { e.d } else { by + e.d },
         s: by + e.s,
         t: by + e.t,
+        ..e
     }
 }
 
@@ -301,9 +250,8 @@ fn put_dep(e: Dependence, out: &mut [u8]) -> usize
     ensures { Writes (line_text (dep_frame (dep_in e))) out.old out.new result }
 {
     if e.kind == INDEPENDENT {
-        let line = [INDEPENDENT, e.s, e.t];
-        return put_frame(out, &line);
+        put_frame(out, &[INDEPENDENT, e.s, e.t])
+    } else {
+        put_frame(out, &[CARRIED, e.d, e.s, e.t])
     }
-    let ring = [CARRIED, e.d, e.s, e.t];
-    put_frame(out, &ring)
 }

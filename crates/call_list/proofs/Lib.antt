@@ -1,5 +1,4 @@
 -- Laws of the list.
-pub mod Records
 pub mod ShortEnds
 pub mod Steps
 pub mod Turns

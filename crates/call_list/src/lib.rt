@@ -2,6 +2,7 @@
 #![tactic(auto)]
 
 ghost use Rattle.std.specs.Prelude.{◌≡◌, ◌+◌, ◌^◌, ◌<◌, ◌≤◌, length};
+ghost use Rattle.paper_refusals.specs.Numbers.{number_in};
 ghost use Rattle.paper_nests.specs.Kinds.{POINTS};
 ghost use Rattle.paper_nests.specs.Loops.{HasEnds};
 ghost use Rattle.paper_nests.specs.Stored.{dep_in, nest_in, IsCounted};
@@ -12,7 +13,7 @@ ghost use Rattle.call_list.specs.Lists.{EndsFit, all_deps, begun, step_of};
 
 use desk::{Answer, Desk};
 use paper_nests::{CARRIED, Dependence, INDEPENDENT, Nest};
-use paper_placements::Cut;
+use paper_refusals::Refusal;
 
 // The ENDDO of every DO of a nest, by the DO's point: found once for a list, looked up for each record. A byte each, as
 // the table goes into every step by value.
@@ -29,10 +30,8 @@ pub fn check_list(desk: Desk, list: &[Dependence]) -> Answer
 {
     let ends = ends_on(desk);
     let mut found = begin(desk);
-    let mut i = 0;
-    while i < list.len() {
-        found = step(desk, ends, found, list[i], i);
-        i += 1;
+    for (i, &e) in list.iter().enumerate() {
+        found = step(desk, ends, found, e, i);
     }
     found
 }
@@ -42,10 +41,7 @@ pub fn ends_on(desk: Desk) -> Ends
     requires { IsMade desk }
     ensures { HasEnds (nest_in desk.nest).points result.of }
 {
-    let nest = desk.nest;
-    let count = nest.count;
-    let points = nest.points;
-    ends_in(&points[..count])
+    ends_in(desk.nest.points())
 }
 
 // The ends of the loops of some points.
@@ -55,23 +51,26 @@ fn ends_in(points: &[u8]) -> Ends
 {
     let ends = paper_nests::ends_of(points);
     let mut of = [0u8; Nest::POINTS];
-    let mut next = 0;
-    while next < points.len() {
-        let d = next;
-        next += 1;
+    for d in 0..points.len() {
         if points[d] == paper_nests::DO {
             of[d] = ends[d] as u8;
         }
     }
-    Ends { of: of }
+    Ends { of }
 }
 
 // The answer before the first record: 10, 11, or nothing yet.
 pub fn begin(desk: Desk) -> Answer
     ensures { result ≡ begun (desk_in desk) }
 {
-    let number = desk::key_fault(desk.loaded, desk.planned);
-    desk::refused(number)
+    match desk::key_fault(desk.loaded, desk.planned) {
+        Err(refusal) => desk::refused(refusal),
+        Ok(()) => Answer {
+            number: 0,
+            line: 0,
+            value: 0,
+        },
+    }
 }
 
 // The answer after the record at index i of the list. A refusal stays; a faulty record refuses with its place, i + 1,
@@ -83,43 +82,31 @@ pub fn step(desk: Desk, ends: Ends, found: Answer, e: Dependence, i: usize) -> A
     if found.number != 0 {
         return found;
     }
-    let nest = desk.nest;
-    let count = nest.count;
-    let points = nest.points;
-    let d = e.d as usize;
-    let end = ends.of[d] as usize;
-    let number = record_fault(&points[..count], end, e);
-    if number != 0 {
+    let end = ends.of[e.d as usize] as usize;
+    if let Err(refusal) = record_fault(desk.nest.points(), end, e) {
         return Answer {
-            number: number,
+            number: u8::from(refusal),
             line: i + 1,
             value: 0,
         };
     }
-    if found.value != 0 {
-        return found;
-    }
-    let key = desk.key;
-    let cut = paper_placements::cut_in(end, key, e);
-    match cut {
-        Cut::Uncut => Answer {
+    if found.value == 0 && paper_placements::cut_in(end, desk.key, e).is_none() {
+        return Answer {
             number: 0,
             line: 0,
             value: i + 1,
-        },
-        Cut::By(_) => found,
+        };
     }
+    found
 }
 
-// The refusal of a listed record: 2 for an unknown kind, 6 or 7, or 0 for none; `end` is the ENDDO of the loop that
-// carries it.
-fn record_fault(points: &[u8], end: usize, e: Dependence) -> u8
+// Whether a listed record may stand: 2 for an unknown kind, 6 or 7; `end` is the ENDDO of the loop that carries it.
+fn record_fault(points: &[u8], end: usize, e: Dependence) -> Result<(), Refusal>
     requires { CarriedTo points.now (dep_in e) end }
-    ensures { result ≡ record_fault points.now (dep_in e) }
+    ensures { number_in result ≡ record_fault points.now (dep_in e) }
 {
-    let kind = e.kind;
-    match kind {
+    match e.kind {
         INDEPENDENT | CARRIED => paper_nests::dep_fault(points, end, e),
-        _ => 2,
+        _ => Err(Refusal::WrongKind),
     }
 }

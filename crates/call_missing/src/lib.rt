@@ -21,9 +21,8 @@ pub fn missing_runs(desk: Desk) -> Chosen
     requires { IsMade desk }
     ensures { MissingSays desk result }
 {
-    let number = key_fault(desk.loaded, desk.planned);
-    if number != 0 {
-        return not_chosen(number);
+    if let Err(refusal) = key_fault(desk.loaded, desk.planned) {
+        return not_chosen(refusal);
     }
     let nest = desk.nest;
     let flagged = set_of(&nest.flagged, nest.flags);
@@ -41,9 +40,7 @@ pub fn listed_by(nest: Nest, p: Placement, e: Dependence) -> Placement
     requires among { Among (dep_in e) (nest_in nest).deps }
     ensures { gaps_in result.words ≡ listed_by (nest_in nest) (gaps_in p.words) (dep_in e) }
 {
-    let count = nest.count;
-    let points = nest.points;
-    let ends = paper_nests::ends_of(&points[..count]);
+    let ends = paper_nests::ends_of(nest.points());
     let loops = with_barrier(&ends, set_of(&nest.flagged, nest.flags), p);
     list_by(&ends, loops, p, Placement::empty(), e)
 }
@@ -55,16 +52,11 @@ fn listed_loops(nest: Nest, flagged: Placement, key: Placement) -> Placement
     requires are_dos { AreDos (nest_in nest).points flagged.words }
     ensures { ListedSays (nest_in nest).points (nest_in nest).deps flagged.words key.words result.words }
 {
-    let count = nest.count;
-    let points = nest.points;
-    let ends = paper_nests::ends_of(&points[..count]);
+    let ends = paper_nests::ends_of(nest.points());
     let loops = with_barrier(&ends, flagged, key);
     let mut listed = Placement::empty();
-    let mut i = nest.many;
-    while 0 < i {
-        i -= 1;
-        let e = nest.deps[i];
-        listed = list_by(&ends, loops, key, listed, e);
+    for i in (0..nest.many).rev() {
+        listed = list_by(&ends, loops, key, listed, nest.deps[i]);
     }
     listed
 }
@@ -110,11 +102,11 @@ fn list_by(
     }
     let d = e.d as usize;
     let end = ends[d];
-    if is_covered(ends, loops, key, s, t, d + 1, t) {
-        if is_covered(ends, loops, key, s, t, s + 1, end) {
-            let front = list_range(ends, loops, listed, s, t, d + 1, t);
-            return list_range(ends, loops, front, s, t, s + 1, end);
-        }
+    if is_covered(ends, loops, key, s, t, d + 1, t)
+        && is_covered(ends, loops, key, s, t, s + 1, end)
+    {
+        let front = list_range(ends, loops, listed, s, t, d + 1, t);
+        return list_range(ends, loops, front, s, t, s + 1, end);
     }
     listed
 }
@@ -178,30 +170,22 @@ fn after(d: usize, end: usize, s: usize, t: usize) -> usize
     ensures { result ≡ pick (is_apart d end s t) (end + 1) (d + 1) }
 {
     if is_apart(d, end, s, t) {
-        return end + 1;
+        end + 1
+    } else {
+        d + 1
     }
-    d + 1
 }
 
 // Neither s nor t lies from the DO d to the ENDDO.
 fn is_apart(d: usize, end: usize, s: usize, t: usize) -> bool
     ensures { result ≡ is_apart d end s t }
 {
-    if belongs(d, end, s) {
-        return false;
-    }
-    if belongs(d, end, t) {
-        return false;
-    }
-    true
+    !belongs(d, end, s) && !belongs(d, end, t)
 }
 
 // The point lies from the DO d to the ENDDO.
 fn belongs(d: usize, end: usize, p: usize) -> bool
     ensures { result ≡ between d p end }
 {
-    if d <= p {
-        return p <= end;
-    }
-    false
+    d <= p && p <= end
 }

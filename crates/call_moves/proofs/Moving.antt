@@ -1,15 +1,15 @@
 -- Put and Lift: what each way through the code says of the reply.
--- Main statements: `refused_with`, `made_with`; `ready`; `put_refused`, `put_there`, `put_barred`, `put_made`;
--- `lift_refused`, `lift_missing`, `lift_made`.
+-- Main statements: `refused_with`, `made_with`; `ready`; `put_there`, `put_barred`, `put_made`; `lift_missing`,
+-- `lift_made`.
 use mathlib.Core.Path.{◌≡◌, refl, sym, ◌∙◌, ap}
 use mathlib.Core.Bool.{Bool, true, false, ◌&&◌, not}
 use mathlib.Core.List.{List}
-use Prim.Native.Nat.{ℕ, ◌≤◌, ◌<◌}
+use Prim.Native.Nat.{ℕ, ◌<◌}
 use native.Mathlib.Omega.{arith}
 use lib.Dec.{eqb, ltb}
-use borrow.Author.Tests.{ltb-true, eq-eqb, ne_eqb, lt-ltb, le-ltb}
+use borrow.Author.Tests.{ltb-true, eq-eqb, ne_eqb}
 use Rattle.laws.specs.Choice.{when, first_of, is_in}
-use Rattle.laws.proofs.Choices.{first_set, first_none}
+use Rattle.laws.proofs.Choices.{first_none}
 use Rattle.paper_nests.specs.Stored.{nest_in}
 use Rattle.paper_placements.specs.Words.{GAPS, holds}
 use Rattle.paper_placements.proofs.Words.{in_gaps}
@@ -59,18 +59,6 @@ module _ (d : DD.Desk) (made : IsMade d) (r : DM.Moved) where
 abbrev fault_in : Bool → ℕ → ℕ → ℕ
 fault_in loaded count g = first_of (when (not loaded) 10) (when (not (ltb 0 g && ltb g count)) 8)
 
-pub in_range : (loaded : Bool) (count g : ℕ) → loaded ≡ true → 0 < g → g < count → 0 ≡ fault_in loaded count g
-in_range loaded count g a h k = rw (a, lt-ltb 0 g h, lt-ltb g count k)
-
-pub gap_high : (loaded : Bool) (count g : ℕ) → loaded ≡ true → 0 < g → count ≤ g → 8 ≡ fault_in loaded count g
-gap_high loaded count g a h k = rw (a, lt-ltb 0 g h, le-ltb g count k)
-
-pub gap_zero : (loaded : Bool) (count g : ℕ) → loaded ≡ true → g ≤ 0 → 8 ≡ fault_in loaded count g
-gap_zero loaded count g a h = rw (a, le-ltb 0 g h)
-
-pub no_nest : (loaded : Bool) (count g : ℕ) → loaded ≡ false → 10 ≡ fault_in loaded count g
-no_nest loaded count g a = rw a
-
 All-three
     : (t a b : Bool) → first_of (when (not t) 10) (when (not (a && b)) 8) ≡ 0 → (t ≡ true) × (a ≡ true) × (b ≡ true)
 All-three true true true h = (refl, refl, refl)
@@ -116,19 +104,6 @@ module _ (d : DD.Desk) (g : ℕ) (made : IsMade d) (r : DM.Moved) where
   -- 12 and 16 of a Put
   abbrev put_later : ℕ
   put_later = first_of (when (is_in g (desk_in d).sitting) 12) (when (is_in g (desk_in d).nest_is.barred) 16)
-
-  pub put_refused : (k : ℕ) → k ≡ told → (k ≡ 0 → ⊥) → r ≡ refused_as k d → PutSays d g r
-  put_refused k e h is =
-      refused_with d made r (put_fault (desk_in d) g) (after_put (desk_in d) g) k
-      (first_set (gap_fault (desk_in d) g) put_later (λ q. h (e ∙ (fault_told ∙ q))) ∙ sym (e ∙ fault_told))
-      h is
-
-  pub lift_refused : (k : ℕ) → k ≡ told → (k ≡ 0 → ⊥) → r ≡ refused_as k d → LiftSays d g r
-  lift_refused k e h is =
-      refused_with d made r (lift_fault (desk_in d) g) (after_lift (desk_in d) g) k
-      (first_set (gap_fault (desk_in d) g) (when (not (is_in g (desk_in d).sitting)) 12) (λ q. h (e ∙ (fault_told ∙ q))) ∙
-      sym (e ∙ fault_told))
-      h is
 
   -- no number: there is a nest, and the gap is one of its gaps
   module _ (none : told ≡ 0) where

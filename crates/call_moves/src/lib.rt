@@ -4,6 +4,7 @@
 
 ghost use Rattle.std.specs.Prelude.{◌≡◌, not, ◌&&◌, ◌<◌, ltb};
 ghost use Rattle.laws.specs.Choice.{when, first_of};
+ghost use Rattle.paper_refusals.specs.Numbers.{number_of, number_in};
 ghost use Rattle.desk.specs.Desks.{IsMade};
 ghost use Rattle.paper_nests.specs.Stored.{nest_in};
 ghost use Rattle.paper_placements.specs.Words.{GAPS, holds};
@@ -16,6 +17,7 @@ use desk::{Answer, Desk};
 use desk_moves::{Move, Moves};
 use desk_sitting::Sitting;
 use paper_nests::Nest;
+use paper_refusals::Refusal;
 
 // The number of a refusal, 0 for none, with line 0; how many dependences remain uncut; the desk after the call.
 #[repr(C)]
@@ -32,19 +34,17 @@ pub fn put_gap(desk: Desk, gap: usize) -> Moved
     requires { IsMade desk }
     ensures { PutSays desk gap result }
 {
-    let number = gap_fault(desk.loaded, desk.nest.count, gap);
-    if number != 0 {
-        return refused(number, desk);
+    let nest = desk.nest;
+    if let Err(refusal) = gap_fault(desk.loaded, nest.count, gap) {
+        return refused(refusal, desk);
     }
-    let before = desk.sitting;
-    if before.placement.holds(gap) {
-        return refused(12, desk);
+    if desk.sitting.placement.holds(gap) {
+        return refused(Refusal::NothingMoved, desk);
     }
-    let barred = paper_barred::barred_of(desk.nest);
-    if barred.holds(gap) {
-        return refused(16, desk);
+    if paper_barred::barred_of(nest).holds(gap) {
+        return refused(Refusal::BarredGap, desk);
     }
-    let after = desk_sitting::put(desk.nest, before, gap);
+    let after = desk_sitting::put(nest, desk.sitting, gap);
     accepted(desk, after, with_move(desk.moves, gap, true))
 }
 
@@ -53,16 +53,14 @@ pub fn lift_gap(desk: Desk, gap: usize) -> Moved
     requires { IsMade desk }
     ensures { LiftSays desk gap result }
 {
-    let fault = gap_fault(desk.loaded, desk.nest.count, gap);
-    if fault != 0 {
-        return refused(fault, desk);
+    if let Err(refusal) = gap_fault(desk.loaded, desk.nest.count, gap) {
+        return refused(refusal, desk);
     }
-    let before = desk.sitting;
-    if before.placement.holds(gap) {
-        let after = desk_sitting::lift(desk.nest, before, gap);
-        return accepted(desk, after, with_move(desk.moves, gap, false));
+    if !desk.sitting.placement.holds(gap) {
+        return refused(Refusal::NothingMoved, desk);
     }
-    refused(12, desk)
+    let after = desk_sitting::lift(desk.nest, desk.sitting, gap);
+    accepted(desk, after, with_move(desk.moves, gap, false))
 }
 
 // Undoes the latest Put or Lift. Numbers 10, 13.
@@ -70,24 +68,25 @@ pub fn take_back(desk: Desk) -> Moved
     requires { IsMade desk }
     ensures { BackSays desk result }
 {
-    let loaded = desk.loaded;
-    if loaded {
-        let moves = desk.moves;
-        if moves.many == 0 {
-            return refused(13, desk);
-        }
-        let after = undone(desk.nest, desk.sitting, moves.latest());
-        return accepted(desk, after, moves.pop());
+    if !desk.loaded {
+        return refused(Refusal::NoNest, desk);
     }
-    refused(10, desk)
+    if desk.moves.many == 0 {
+        return refused(Refusal::NoMoveLeft, desk);
+    }
+    let after = undone(desk.nest, desk.sitting, desk.moves.latest());
+    accepted(desk, after, desk.moves.pop())
 }
 
 // Writes the sitting as text from the start of the buffer. Numbers 10, 9.
 pub fn write_sitting(desk: Desk, out: &mut [u8]) -> Answer
     ensures { SittingSays desk out.old out.new result }
 {
-    let sitting = desk.sitting;
-    desk::write_placement(desk::key_fault(desk.loaded, true), sitting.placement, out)
+    desk::write_placement(
+        desk::key_fault(desk.loaded, true),
+        desk.sitting.placement,
+        out,
+    )
 }
 
 // The moves with one more, of a gap put or lifted.
@@ -98,7 +97,7 @@ fn with_move(moves: Moves, gap: usize, put: bool) -> Moves
 {
     moves.push(Move {
         gap: gap as u8,
-        put: put,
+        put,
     })
 }
 
@@ -109,50 +108,50 @@ fn undone(nest: Nest, s: Sitting, m: Move) -> Sitting
     ensures { UndoneSays (nest_in nest) m s result }
 {
     let gap = m.gap as usize;
-    let put = m.put;
-    if put {
-        return desk_sitting::lift(nest, s, gap);
+    if m.put {
+        desk_sitting::lift(nest, s, gap)
+    } else {
+        desk_sitting::put(nest, s, gap)
     }
-    desk_sitting::put(nest, s, gap)
 }
 
-// The number of a gap: 10 without a nest, 8 out of range, or 0.
-fn gap_fault(loaded: bool, count: usize, gap: usize) -> u8
-    ensures { result ≡ first_of (when (not loaded) 10) (when (not (ltb 0 gap && ltb gap count)) 8) }
+// Whether a call on a gap may go on: 10 without a nest, 8 out of range.
+fn gap_fault(loaded: bool, count: usize, gap: usize) -> Result<(), Refusal>
+    ensures { number_in result ≡ first_of (when (not loaded) 10) (when (not (ltb 0 gap && ltb gap count)) 8) }
 {
-    if loaded {
-        if 0 < gap {
-            if gap < count {
-                return 0;
-            }
-        }
-        return 8;
+    if !loaded {
+        return Err(Refusal::NoNest);
     }
-    10
+    if gap == 0 || gap >= count {
+        return Err(Refusal::WrongGap);
+    }
+    Ok(())
 }
 
 // The desk with this sitting and these moves.
 fn accepted(desk: Desk, after: Sitting, moves: Moves) -> Moved
     ensures { result ≡ moved_to desk after moves }
 {
-    let mut d = desk;
-    d.sitting = after;
-    d.moves = moves;
     Moved {
         number: 0,
         line: 0,
         uncut: after.uncut,
-        desk: d,
+        desk: Desk {
+            sitting: after,
+            moves,
+            ..desk
+        },
     }
 }
 
-fn refused(number: u8, desk: Desk) -> Moved
-    ensures { result ≡ refused_as number desk }
+// The reply that refuses.
+fn refused(refusal: Refusal, desk: Desk) -> Moved
+    ensures { result ≡ refused_as (number_of refusal) desk }
 {
     Moved {
-        number: number,
+        number: u8::from(refusal),
         line: 0,
         uncut: 0,
-        desk: desk,
+        desk,
     }
 }

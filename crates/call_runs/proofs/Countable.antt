@@ -1,13 +1,13 @@
 -- A paper and turns that can be counted, taken apart.
--- Main statements: `countable`; `counted_by_turns`, `barred_not`, `flagged_not`.
+-- Main statement: `countable`.
 use mathlib.Core.Path.{◌≡◌}
-use mathlib.Core.Bool.{true, false, ◌&&◌}
+use mathlib.Core.Bool.{true, ◌&&◌}
 use mathlib.Core.List.{List, []}
 use Prim.Native.Nat.{ℕ}
 use native.Mathlib.Omega.{arith}
 use lib.Dec.{eqb}
 use lib.ListN.{length}
-use borrow.Author.Tests.{eqb-true, eq-eqb, ne_eqb}
+use borrow.Author.Tests.{eqb-true}
 use Rattle.laws.proofs.Members.{no_members}
 use Rattle.laws.proofs.Tests.{and_true}
 use Rattle.paper_nests.specs.Nests.{Nest}
@@ -19,26 +19,14 @@ pub record Countable (inner : ℕ) (n : Nest) (ts : List ℕ) : Type 0 where
   pub none_flagged : n.flagged ≡ []
   pub fits : fit_in OUTER inner n.points ts ≡ true
 
-module _ (inner : ℕ) (n : Nest) (ts : List ℕ) where
-  pub countable : can_count inner n ts ≡ true → Countable inner n ts
-  countable h =
-      let runs = eqb (length n.flagged) 0 in
-      let fits = fit_in OUTER inner n.points ts in
-      let z = and_true (eqb (length n.barred) 0) (runs && fits) h in
-      let y = and_true runs fits z.1 in
-      record {
-        none_barred = no_members n.barred (omega (arith, eqb-true (length n.barred) 0 z.0));
-        none_flagged = no_members n.flagged (omega (arith, eqb-true (length n.flagged) 0 y.0));
-        fits = y.1;
-      }
-
-  pub barred_not : (length n.barred ≡ 0 → ⊥) → can_count inner n ts ≡ false
-  barred_not h = rw (ne_eqb (length n.barred) 0 h)
-
-  module _ (h : length n.barred ≡ 0) where
-    pub flagged_not : (length n.flagged ≡ 0 → ⊥) → can_count inner n ts ≡ false
-    flagged_not k = rw (eq-eqb (length n.barred) 0 h, ne_eqb (length n.flagged) 0 k)
-
-    -- the turns decide
-    pub counted_by_turns : length n.flagged ≡ 0 → can_count inner n ts ≡ fit_in OUTER inner n.points ts
-    counted_by_turns k = rw (eq-eqb (length n.barred) 0 h, eq-eqb (length n.flagged) 0 k)
+pub countable : (inner : ℕ) (n : Nest) (ts : List ℕ) → can_count inner n ts ≡ true → Countable inner n ts
+countable inner n ts h =
+    let runs = eqb (length n.flagged) 0 in
+    let fits = fit_in OUTER inner n.points ts in
+    let z = and_true (eqb (length n.barred) 0) (runs && fits) h in
+    let y = and_true runs fits z.1 in
+    record {
+      none_barred = no_members n.barred (omega (arith, eqb-true (length n.barred) 0 z.0));
+      none_flagged = no_members n.flagged (omega (arith, eqb-true (length n.flagged) 0 y.0));
+      fits = y.1;
+    }

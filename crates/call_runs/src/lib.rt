@@ -3,6 +3,7 @@
 
 ghost use Rattle.std.specs.Prelude.{◌≡◌, true};
 ghost use Rattle.desk.specs.Desks.{IsMade};
+ghost use Rattle.paper_refusals.specs.Numbers.{number_of};
 ghost use Rattle.paper_nests.specs.Valid.{is_valid};
 ghost use Rattle.paper_nests.specs.Stored.{nest_in, IsCounted};
 ghost use Rattle.paper_placements.specs.Placements.{are_gaps};
@@ -12,6 +13,7 @@ ghost use Rattle.call_runs.specs.Says.{can_count, CallsSays, PlacementSays, refu
 use desk::{Desk, key_fault};
 use paper_nests::Nest;
 use paper_placements::Placement;
+use paper_refusals::{Fault, Refusal};
 use run_count::{INNER, OUTER, calls_of, turns_fit};
 
 // The number and the line of a refusal, 0 and 0 for none, and the calls.
@@ -28,13 +30,10 @@ pub fn count_calls(desk: Desk, turns: &[u8]) -> Calls
     requires { IsMade desk }
     ensures { CallsSays desk turns.now result }
 {
-    let number = key_fault(desk.loaded, desk.planned);
-    if number != 0 {
-        return refused(number, 0);
+    if let Err(refusal) = key_fault(desk.loaded, desk.planned) {
+        return refused(Fault::from(refusal));
     }
-    let nest = desk.nest;
-    let key = desk.key;
-    calls_under(nest, key, turns, INNER)
+    calls_under(desk.nest, desk.key, turns, INNER)
 }
 
 // The barrier calls of the placement that the text spells, given a number of turns, from 1, for each loop in order of
@@ -43,17 +42,14 @@ pub fn placement_calls(desk: Desk, text: &[u8], turns: &[u8]) -> Calls
     requires { IsMade desk }
     ensures { PlacementSays desk text.now turns.now result }
 {
-    let number = key_fault(desk.loaded, true);
-    if number != 0 {
-        return refused(number, 0);
+    if let Err(refusal) = key_fault(desk.loaded, true) {
+        return refused(Fault::from(refusal));
     }
     let nest = desk.nest;
-    let reading = paper_texts::read_placement(nest.count, paper_barred::barred_of(nest), text);
-    if reading.number != 0 {
-        return refused(reading.number, reading.line);
+    match paper_texts::read_placement(nest.count, paper_barred::barred_of(nest), text) {
+        Err(fault) => refused(fault),
+        Ok(placement) => calls_under(nest, placement, turns, OUTER),
     }
-    let placement = reading.placement;
-    calls_under(nest, placement, turns, OUTER)
 }
 
 // The placement's calls; 17 where they cannot be counted.
@@ -63,16 +59,14 @@ fn calls_under(nest: Nest, p: Placement, turns: &[u8], inner: u8) -> Calls
     requires words_value { are_gaps (nest_in nest) (gaps_in p.words) ≡ true }
     ensures { result ≡ calls_under inner (nest_in nest) turns.now (gaps_in p.words) }
 {
-    if can_count(nest, turns, inner) {
-        let count = nest.count;
-        let points = nest.points;
-        return Calls {
-            number: 0,
-            line: 0,
-            calls: calls_of(&points[..count], p, turns),
-        };
+    if !can_count(nest, turns, inner) {
+        return refused(Fault::from(Refusal::WrongTurns));
     }
-    refused(17, 0)
+    Calls {
+        number: 0,
+        line: 0,
+        calls: calls_of(nest.points(), p, turns),
+    }
 }
 
 // Nothing is barred, every loop runs, and the turns fit the nest's loops, those of the loops inside from `inner`.
@@ -80,23 +74,16 @@ pub fn can_count(nest: Nest, turns: &[u8], inner: u8) -> bool
     requires { IsCounted nest }
     ensures { result ≡ can_count inner (nest_in nest) turns.now }
 {
-    if nest.bars != 0 {
-        return false;
-    }
-    if nest.flags != 0 {
-        return false;
-    }
-    let count = nest.count;
-    let points = nest.points;
-    turns_fit(&points[..count], turns, OUTER, inner)
+    nest.bars == 0 && nest.flags == 0 && turns_fit(nest.points(), turns, OUTER, inner)
 }
 
-fn refused(number: u8, line: usize) -> Calls
-    ensures { result ≡ refusal number line }
+// The reply that refuses.
+fn refused(fault: Fault) -> Calls
+    ensures { result ≡ refusal (number_of fault.refusal) fault.line }
 {
     Calls {
-        number: number,
-        line: line,
+        number: u8::from(fault.refusal),
+        line: fault.line,
         calls: 0,
     }
 }

@@ -1,4 +1,3 @@
--- Laws of tables filled place by place, of the pass over the points, and of the call.
+-- Laws of tables filled place by place, and of the pass over the points.
 pub mod Filling
 pub mod Passing
-pub mod Answers

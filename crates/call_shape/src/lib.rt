@@ -3,6 +3,7 @@
 
 ghost use Rattle.std.specs.Prelude.{◌≡◌, true, ◌≤◌, eqb, length};
 ghost use Rattle.laws.specs.Choice.{when};
+ghost use Rattle.paper_refusals.specs.Numbers.{number_of};
 ghost use Rattle.paper_nests.specs.Kinds.{DO, POINTS};
 ghost use Rattle.paper_nests.specs.Valid.{is_shape};
 ghost use Rattle.desk.specs.Desks.{IsMade};
@@ -11,6 +12,7 @@ ghost use Rattle.call_shape.specs.Says.{ShapeSays, Tells, Blank};
 
 use desk::Desk;
 use paper_nests::Nest;
+use paper_refusals::Refusal;
 
 // The number and the line of a refusal, 0 and 0 for none; by each gap the DO of its loop; by each DO its ENDDO; by each
 // point how many loops it is inside. Every other place has 0.
@@ -29,14 +31,10 @@ pub fn nest_shape(desk: Desk) -> Shape
     requires { IsMade desk }
     ensures { ShapeSays desk result }
 {
-    let loaded = desk.loaded;
-    if loaded {
-        let nest = desk.nest;
-        let count = nest.count;
-        let points = nest.points;
-        return shape_of(&points[..count]);
+    if !desk.loaded {
+        return blank(Refusal::NoNest);
     }
-    blank(10)
+    shape_of(desk.nest.points())
 }
 
 // The shape of the points, in one pass over them and the tables of their loops.
@@ -50,21 +48,18 @@ fn shape_of(points: &[u8]) -> Shape
     let mut ends = [0; Nest::POINTS];
     let mut depths = [0; Nest::POINTS];
     let mut depth: usize = 0;
-    let mut p = 0;
-    while p < points.len() {
-        let kind = points[p];
+    for (p, &kind) in points.iter().enumerate() {
         owners[p] = around[p] as u8;
         ends[p] = end_at(kind, closing[p]) as u8;
         depths[p] = inside(kind, depth) as u8;
         depth = paper_nests::deeper(depth, kind);
-        p += 1;
     }
     Shape {
         number: 0,
         line: 0,
-        owners: owners,
-        ends: ends,
-        depths: depths,
+        owners,
+        ends,
+        depths,
     }
 }
 
@@ -72,10 +67,7 @@ fn shape_of(points: &[u8]) -> Shape
 fn end_at(kind: u8, end: usize) -> usize
     ensures { result ≡ when (eqb kind DO) end }
 {
-    if kind == paper_nests::DO {
-        return end;
-    }
-    0
+    if kind == paper_nests::DO { end } else { 0 }
 }
 
 // How many loops a point is inside, of those open before it: an ENDDO is not inside its own.
@@ -83,20 +75,18 @@ fn inside(kind: u8, depth: usize) -> usize
     ensures { result ≡ inside_of kind depth }
 {
     if kind == paper_nests::ENDDO {
-        if 0 < depth {
-            return depth - 1;
-        }
-        return 0;
+        depth.saturating_sub(1)
+    } else {
+        depth
     }
-    depth
 }
 
 // The reply that tells nothing.
-fn blank(number: u8) -> Shape
-    ensures { Blank number result }
+fn blank(refusal: Refusal) -> Shape
+    ensures { Blank (number_of refusal) result }
 {
     Shape {
-        number: number,
+        number: u8::from(refusal),
         line: 0,
         owners: [0; Nest::POINTS],
         ends: [0; Nest::POINTS],

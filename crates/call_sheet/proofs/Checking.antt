@@ -1,37 +1,20 @@
--- A sheet checked: its counts and lengths one after the other, its sets along the list.
--- Main definition: `Checked`. Main statements: `not_sized`, `sized_last`, `rows_few`, `set_with`, `set_without`,
--- `checked_start`, `checked_bad`, `checked_on`, `checked_done`.
-use mathlib.Core.Path.{◌≡◌, refl, sym, ◌∙◌}
+-- A sheet checked: its sets along the list.
+-- Main definition: `Checked`. Main statements: `set_with`, `checked_bad`, `checked_on`, `checked_done`.
+use mathlib.Core.Path.{◌≡◌, sym, ◌∙◌}
 use mathlib.Core.Bool.{true, false, ◌&&◌}
 use mathlib.Core.List.{List, []}
-use Prim.Native.Nat.{ℕ, suc, ◌+◌, ◌-◌, ◌*◌, ◌/◌, ◌^◌, ◌≤◌, ◌<◌}
-use native.Mathlib.Nat.{mul-le-mul, div-lt_iff_lt-mul, one-le-pow}
+use Prim.Native.Nat.{ℕ, suc, ◌+◌, ◌*◌, ◌/◌, ◌^◌, ◌≤◌, ◌<◌}
+use native.Mathlib.Nat.{div-lt_iff_lt-mul, one-le-pow}
 use native.Mathlib.Numerals.{add-one}
 use native.Mathlib.Omega.{arith}
 use lib.Dec.{eqb, ltb}
 use lib.ListN.{length, get_or, drop, drop_of_length-le}
 use lib.Seq.{drop-cons}
-use borrow.Author.Tests.{eq-eqb, eqb-true, ltb-true, lt-ltb, le-ltb, le-leb}
+use borrow.Author.Tests.{eq-eqb, eqb-true, ltb-true, lt-ltb}
 use Rattle.laws.specs.Bits.{bit}
 use Rattle.laws.proofs.Choices.{pick_by}
-use Rattle.laws.proofs.Tests.{false_by, bool_by}
-use Rattle.call_sheet.specs.Sheets.{PROCESSORS, PHASES, Sheet, sheet, is_sized, is_set, next_of, are_sets}
-use Rattle.call_sheet.proofs.Sets.{Sized, sized_is}
-
--- ---- counts and lengths
-
-pub not_sized : (s : Sheet) → (Sized s → ⊥) → false ≡ is_sized s
-not_sized s h = sym (false_by (λ z. h (sized_is s z)))
-
--- the last test, where the others hold
-pub sized_last :
-    (m n : ℕ) (ds ws : List ℕ) → 1 ≤ m → m ≤ PROCESSORS → 1 ≤ n → n ≤ PHASES → length ds ≡ n * m →
-    eqb (length ws) ((n - 1) * m) ≡ is_sized (sheet m n ds ws)
-sized_last m n ds ws a b c d e =
-    rw (le-leb 1 m a, le-leb m PROCESSORS b, le-leb 1 n c, le-leb n PHASES d, eq-eqb (length ds) (n * m) e)
-
-pub rows_few : (n m : ℕ) → n ≤ PHASES → m ≤ PROCESSORS → n * m ≤ PHASES * PROCESSORS
-rows_few n m h l = mul-le-mul h l
+use Rattle.laws.proofs.Tests.{bool_by}
+use Rattle.call_sheet.specs.Sheets.{is_set, next_of, are_sets}
 
 -- ---- one set
 
@@ -56,15 +39,6 @@ below_power v m = bool_by (eqb (v / 2 ^ m) 0) (ltb v (2 ^ m)) under over
 pub set_with : (m p v : ℕ) → bit v p ≡ true → eqb (v / 2 ^ m) 0 ≡ is_set m p v
 set_with m p v h = rw h (below_power v m)
 
-pub set_without : (m p v : ℕ) → bit v p ≡ false → false ≡ is_set m p v
-set_without m p v h = rw h
-
-pub next_on : (m p : ℕ) → p + 1 < m → p + 1 ≡ next_of m p
-next_on m p h = rw (lt-ltb (suc p) m (omega arith)) (omega arith)
-
-pub next_round : (m p : ℕ) → m ≤ p + 1 → 0 ≡ next_of m p
-next_round m p h = rw (le-ltb (suc p) m (omega arith))
-
 -- ---- the sets along the list
 
 -- what is to check from place i on, which is processor p's, is what is to check of the whole
@@ -72,9 +46,6 @@ pub record Checked (m : ℕ) (ws : List ℕ) (p i : ℕ) : Type 0 where
   pub inside : i ≤ length ws
   pub there : p < m
   pub rest : are_sets m p (drop i ws) ≡ are_sets m 0 ws
-
-pub checked_start : (m : ℕ) (ws : List ℕ) → 1 ≤ m → Checked m ws 0 0
-checked_start m ws h = record { inside = omega arith; there = h; rest = refl }
 
 module _ (m : ℕ) (ws : List ℕ) (p i : ℕ) (c : Checked m ws p i) where
   here : i < length ws →

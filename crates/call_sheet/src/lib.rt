@@ -4,9 +4,12 @@
 ghost use Rattle.std.specs.Prelude.{◌≡◌, true, ◌+◌, ◌*◌, ◌<◌, ◌≤◌, max, length};
 ghost use Rattle.laws.specs.Choice.{when};
 ghost use Rattle.laws.specs.Bits.{bit};
+ghost use Rattle.paper_refusals.specs.Numbers.{number_of};
 ghost use Rattle.call_sheet.specs.Sheets.{PROCESSORS, PHASES, sheet, latest, end_waiting};
 ghost use Rattle.call_sheet.specs.Sheets.{is_sized, is_set, next_of, are_sets};
 ghost use Rattle.call_sheet.specs.Says.{ends_of, LONGEST, time_at, longest_from, barriers_to, Timed, pass_time, PassRoom};
+
+use paper_refusals::Refusal;
 
 // The most processors and the most phases of a sheet.
 pub const PROCESSORS: usize = 16;
@@ -32,26 +35,26 @@ pub struct RunEnds {
 pub fn ends(processors: usize, phases: usize, durations: &[u16], waits: &[u16]) -> RunEnds
     ensures { result ≡ ends_of (sheet processors phases durations.now waits.now) }
 {
-    if is_sized(processors, phases, durations, waits) {
-        if are_sets(processors, waits) {
-            let waiting = end_waiting(processors, phases, durations, waits);
-            let barriers = end_barriers(processors, phases, durations);
-            return RunEnds {
-                number: 0,
-                line: 0,
-                waiting: waiting,
-                barriers: barriers,
-            };
-        }
-        return RunEnds {
-            number: 20,
-            line: 0,
-            waiting: 0,
-            barriers: 0,
-        };
+    if !is_sized(processors, phases, durations, waits) {
+        return refused(Refusal::WrongSize);
+    }
+    if !are_sets(processors, waits) {
+        return refused(Refusal::WrongSet);
     }
     RunEnds {
-        number: 19,
+        number: 0,
+        line: 0,
+        waiting: end_waiting(processors, phases, durations, waits),
+        barriers: end_barriers(processors, phases, durations),
+    }
+}
+
+// The reply that refuses.
+fn refused(refusal: Refusal) -> RunEnds
+    ensures { result ≡ record { number = number_of refusal; line = 0; waiting = 0; barriers = 0 } }
+{
+    RunEnds {
+        number: u8::from(refusal),
         line: 0,
         waiting: 0,
         barriers: 0,
@@ -62,22 +65,10 @@ pub fn ends(processors: usize, phases: usize, durations: &[u16], waits: &[u16]) 
 fn is_sized(processors: usize, phases: usize, durations: &[u16], waits: &[u16]) -> bool
     ensures { result ≡ is_sized (sheet processors phases durations.now waits.now) }
 {
-    if processors < 1 {
-        return false;
-    }
-    if PROCESSORS < processors {
-        return false;
-    }
-    if phases < 1 {
-        return false;
-    }
-    if PHASES < phases {
-        return false;
-    }
-    if durations.len() != phases * processors {
-        return false;
-    }
-    waits.len() == (phases - 1) * processors
+    (1..=PROCESSORS).contains(&processors)
+        && (1..=PHASES).contains(&phases)
+        && durations.len() == phases * processors
+        && waits.len() == (phases - 1) * processors
 }
 
 // Every set has its own processor and none that does not exist.
@@ -87,14 +78,11 @@ fn are_sets(processors: usize, waits: &[u16]) -> bool
     ensures { result ≡ are_sets processors 0 waits.now }
 {
     let mut p = 0;
-    let mut i = 0;
-    while i < waits.len() {
-        if is_set(processors, p, waits[i]) {
-            p = next(processors, p);
-            i += 1;
-        } else {
+    for &set in waits {
+        if !is_set(processors, p, set) {
             return false;
         }
+        p = next(processors, p);
     }
     true
 }
@@ -105,10 +93,7 @@ fn is_set(processors: usize, p: usize, set: u16) -> bool
     requires processors_bound { processors ≤ PROCESSORS }
     ensures { result ≡ is_set processors p set }
 {
-    if has(set, p) {
-        return (set as u32) >> processors == 0;
-    }
-    false
+    has(set, p) && (set as u32) >> processors == 0
 }
 
 // The processor after p; after the last the first.
@@ -131,12 +116,7 @@ fn has(set: u16, q: usize) -> bool
 fn later(best: u32, time: u32, chosen: bool) -> u32
     ensures { result ≡ max best (when chosen time) }
 {
-    if chosen {
-        if best < time {
-            return time;
-        }
-    }
-    best
+    if chosen { best.max(time) } else { best }
 }
 
 // The latest of the times of the processors in the set.
@@ -146,11 +126,8 @@ fn latest_of(times: &[u32], set: u16, processors: usize) -> u32
     ensures { result ≡ latest (bit set) (time_at times.now) processors }
 {
     let mut best = 0;
-    let mut q = 0;
-    while q < processors {
-        let chosen = has(set, q);
-        best = later(best, times[q], chosen);
-        q += 1;
+    for q in 0..processors {
+        best = later(best, times[q], has(set, q));
     }
     best
 }
@@ -161,10 +138,8 @@ fn start(processors: usize, durations: &[u16], times: &mut [u32])
     requires processors_in_bounds_2 { processors ≤ length times.old }
     ensures { Timed (time_at durations.now) times.old times.new processors }
 {
-    let mut p = 0;
-    while p < processors {
+    for p in 0..processors {
         times[p] = durations[p] as u32;
-        p += 1;
     }
 }
 
@@ -182,11 +157,9 @@ fn pass(
     ensures { Timed (pass_time processors durations.now from waits.now asked
         earlier.now) times.old times.new processors }
 {
-    let mut p = 0;
-    while p < processors {
+    for p in 0..processors {
         let last = latest_of(earlier, waits[asked + p], processors);
         times[p] = last + durations[from + p] as u32;
-        p += 1;
     }
 }
 
@@ -198,16 +171,13 @@ fn end_waiting(processors: usize, phases: usize, durations: &[u16], waits: &[u16
     let mut earlier = [0; PROCESSORS];
     let mut times = [0; PROCESSORS];
     start(processors, durations, &mut earlier);
-    let mut k = 0;
-    let mut asked = 0;
-    while k + 1 < phases {
+    for k in 0..phases - 1 {
+        let asked = k * processors;
         let from = asked + processors;
         pass(
             processors, durations, from, waits, asked, &earlier, &mut times,
         );
         earlier = times;
-        asked = from;
-        k += 1;
     }
     latest_of(&earlier, ALL, processors)
 }
@@ -219,12 +189,8 @@ fn end_barriers(processors: usize, phases: usize, durations: &[u16]) -> u32
     ensures { result ≡ barriers_to processors durations.now phases }
 {
     let mut end = 0;
-    let mut k = 0;
-    let mut from = 0;
-    while k < phases {
-        end += longest(processors, durations, from);
-        from += processors;
-        k += 1;
+    for k in 0..phases {
+        end += longest(processors, durations, k * processors);
     }
     end
 }
@@ -236,10 +202,8 @@ fn longest(processors: usize, durations: &[u16], from: usize) -> u32
     ensures upper_bound { result ≤ LONGEST }
 {
     let mut best = 0;
-    let mut p = 0;
-    while p < processors {
-        best = later(best, durations[from + p] as u32, true);
-        p += 1;
+    for p in 0..processors {
+        best = best.max(durations[from + p] as u32);
     }
     best
 }

@@ -1,6 +1,5 @@
 -- What each way through the two calls says of the reply.
--- Main statements: `relied_refused`, `relied_unread`, `relied_no_dependence`, `relied_given`; `one_end_no_nest`,
--- `one_end_no_dependence`, `one_end_given`.
+-- Main statements: `relied_unread`, `relied_no_dependence`, `relied_given`; `one_end_given`.
 use mathlib.Core.Path.{◌≡◌, sym, ◌∙◌, ap, subst}
 use mathlib.Core.Bool.{true, false}
 use mathlib.Core.List.{List}
@@ -14,8 +13,8 @@ use Rattle.paper_texts.specs.PlacementTexts.{Placed, placed}
 use Rattle.desk.specs.declared.Desk as DD
 use Rattle.desk.specs.declared.Chosen as DC
 use Rattle.desk.specs.Desks.{desk_in, state_fault, Fault, fault}
-use Rattle.desk.specs.Says.{read_in, NotChosen}
-use Rattle.desk.proofs.Choosing.{Chooses-none, chooses}
+use Rattle.desk.specs.Says.{read_in}
+use Rattle.desk.proofs.Choosing.{chooses}
 use Rattle.call_skipped.specs.Relied.{relied_at}
 use Rattle.call_skipped.specs.OneEnd.{one_end_at}
 use Rattle.call_skipped.specs.Says.{number_fault, relied_fault, NoneChosen, LoopsSays, ReliedSays}
@@ -48,15 +47,6 @@ module _ (d : DD.Desk) (i : ℕ) (m : IsCounted d.nest) where
     abbrev loops : List ℕ
     loops = relied_at (desk_in d).nest_is (read_in (desk_in d) s).gaps i
 
-    -- 10
-    pub relied_refused
-        : (k : ℕ) → k ≡ state_fault false (desk_in d) → (k ≡ 0 → ⊥) → (r : DC.Chosen) → NoneChosen k 0 r
-        → ReliedSays d s i r
-    relied_refused k e h r =
-        let f : relied_fault (desk_in d) s i ≡ fault k 0 =
-        rw (ne_eqb (state_fault false (desk_in d)) 0 (λ z. h (e ∙ z))) (ap (λ (n : ℕ). fault n 0) (sym e)) in
-        none_by (relied_fault (desk_in d) s i) loops k 0 r f h
-
     module _
         (none : state_fault false (desk_in d) ≡ 0) (n l : ℕ) (gs : List ℕ) (e : placed n l gs ≡ read_in (desk_in d) s) where
       -- the faults of the text
@@ -84,15 +74,7 @@ module _ (d : DD.Desk) (i : ℕ) (m : IsCounted d.nest) where
             given_by (relied_fault (desk_in d) s i) loops r (read ∙ ap (λ (k : ℕ). fault k 0) (is_number h)) a b
             (c ∙ ap (λ (x : Placed). relied_at (nest_in d.nest) x.gaps i) e)
 
-  pub one_end_no_nest : (r : DC.Chosen) → d.loaded ≡ false → NotChosen 10 r → OneEndSays d i r
-  one_end_no_nest r h = Chooses-none (one_end_fault (desk_in d) i) _ r 10 (rw h) (λ z. omega arith)
-
-  module _ (nest : d.loaded ≡ true) where
-    pub one_end_no_dependence : (r : DC.Chosen) → d.nest.many ≤ i → NotChosen 6 r → OneEndSays d i r
-    one_end_no_dependence r h =
-        Chooses-none (one_end_fault (desk_in d) i) _ r 6 (rw nest (no_number h)) (λ z. omega arith)
-
-    pub one_end_given
-        : i < d.nest.many → (r : DC.Chosen) → r.number ≡ 0 → r.line ≡ 0
-        → gaps_in r.set.words ≡ one_end_at (nest_in d.nest) i → OneEndSays d i r
-    one_end_given h r n l g = chooses (one_end_fault (desk_in d) i) _ r (rw nest (is_number h)) n l g
+  pub one_end_given
+      : d.loaded ≡ true → i < d.nest.many → (r : DC.Chosen) → r.number ≡ 0 → r.line ≡ 0
+      → gaps_in r.set.words ≡ one_end_at (nest_in d.nest) i → OneEndSays d i r
+  one_end_given nest h r n l g = chooses (one_end_fault (desk_in d) i) _ r (rw nest (is_number h)) n l g

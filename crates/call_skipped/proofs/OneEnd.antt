@@ -1,6 +1,5 @@
 -- Loops that have one end of a dependence alone: by their DOs and ENDDOs, as words, and as a statement.
--- Main statements: `beyond_end`, `source_alone`, `target_alone`, `none_alone`; `splits_iff`, `in_one_end`;
--- `no_one_end`, `one_end_set`.
+-- Main statements: `splits_iff`, `in_one_end`; `no_one_end`, `one_end_set`.
 use mathlib.Core.Path.{◌≡◌, refl, sym, ◌∙◌, ap}
 use mathlib.Core.Bool.{Bool, true, false, ◌&&◌, not}
 use mathlib.Core.List.{List}
@@ -9,15 +8,14 @@ use Prim.Native.Nat.{ℕ, ◌≤◌, ◌<◌}
 use native.Mathlib.Omega.{arith}
 use lib.Dec.{eqb, ltb}
 use lib.ListN.{length}
-use borrow.Author.Tests.{eqb-true, eq-eqb, ltb-true, lt-ltb, le-ltb, le-leb, lt-leb, not-true}
+use borrow.Author.Tests.{eqb-true, eq-eqb, ltb-true, lt-ltb, not-true}
 use Rattle.laws.specs.Choice.{between, is_in}
 use Rattle.laws.specs.Entries.{at}
 use Rattle.laws.proofs.Tests.{le_or, false_by, and_true, and_intro, or-true, or_left, or_right}
-use Rattle.laws.proofs.Connectives.{and_off, or_off}
-use Rattle.laws.proofs.Ranges.{between_in}
+use Rattle.laws.proofs.Connectives.{and_off}
 use Rattle.paper_nests.specs.Kinds.{CARRIED, POINTS}
 use Rattle.paper_nests.specs.Nests.{Dep}
-use Rattle.paper_nests.specs.Loops.{end_of, HasEnds, in_loop, is_inside}
+use Rattle.paper_nests.specs.Loops.{end_of, HasEnds, in_loop}
 use Rattle.paper_nests.specs.Valid.{is_shape}
 use Rattle.paper_nests.proofs.Levels.{point_in}
 use Rattle.paper_nests.proofs.Loops.{end-after}
@@ -26,34 +24,6 @@ use Rattle.paper_placements.proofs.Words.{gaps_of_in, gaps_of_to, gaps_of_same, 
 use Rattle.call_missing.specs.Foreign.{AreFlags, belongs}
 use Rattle.call_missing.proofs.Apart.{belongs_between}
 use Rattle.call_skipped.specs.OneEnd.{has_one_end, goes_on, is_split, one_end_by, Splits, is_one_end, WithOneEnd}
-
--- a point inside lies from the DO to the ENDDO
-inside_between : (d end p : ℕ) → is_inside d end p ≡ true → between d p end ≡ true
-inside_between d end p h =
-    let z = and_true (ltb d p) (ltb p end) h in
-    let a = ltb-true d p z.0 in
-    let b = ltb-true p end z.1 in
-    between_in d p end (omega arith) (omega arith)
-
--- a point that is not before the DO is behind the ENDDO, or lies between
-pub beyond_end : (d end p : ℕ) → d ≤ p → ltb end p ≡ not (between d p end)
-beyond_end d end p h = ⊎_elim
-    (λ (z : p ≤ end). rw (le-leb d p h, le-leb p end z, le-ltb end p z))
-    (λ (z : end < p). rw (le-leb d p h, lt-leb p end z, lt-ltb end p z))
-    (le_or p end)
-
-module _ (d end s t : ℕ) where
-  -- s inside: t must be beyond; else t inside: s must be beyond
-  pub source_alone : is_inside d end s ≡ true → is_one_end d end s t ≡ not (between d t end)
-  source_alone h =
-      rw (h, inside_between d end s h, and_off (is_inside d end t)) (or_off (not (between d t end)))
-
-  pub target_alone
-      : is_inside d end s ≡ false → is_inside d end t ≡ true → is_one_end d end s t ≡ not (between d s end)
-  target_alone h k = rw (h, k)
-
-  pub none_alone : is_inside d end s ≡ false → is_inside d end t ≡ false → is_one_end d end s t ≡ false
-  none_alone h k = rw (h, k)
 
 module _ (ps fs : List ℕ) (e : Dep) where
   -- the test as a statement, and back

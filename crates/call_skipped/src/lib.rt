@@ -4,6 +4,7 @@
 
 ghost use Rattle.std.specs.Prelude.{◌≡◌, true, not, ◌≤◌, ◌<◌, length};
 ghost use Rattle.laws.specs.Choice.{between};
+ghost use Rattle.paper_refusals.specs.Numbers.{number_of};
 ghost use Rattle.paper_nests.specs.Valid.{is_valid};
 ghost use Rattle.paper_nests.specs.Stored.{dep_in, nest_in, IsCounted};
 ghost use Rattle.paper_placements.specs.Words.{GAPS, gaps_in};
@@ -15,6 +16,7 @@ use call_missing::listed_by;
 use desk::{Chosen, Desk, key_fault, not_chosen};
 use paper_nests::{Dependence, Nest, is_inside};
 use paper_placements::{Placement, set_of};
+use paper_refusals::{Fault, Refusal};
 
 // The set of the loops on which the placement that the text spells relies for the dependence of that number: where they
 // are skipped, it is not cut. Numbers 10, then 1, 2, 8, 16 with their line, then 6.
@@ -22,25 +24,23 @@ pub fn relied_on(desk: Desk, text: &[u8], dependence: usize) -> Chosen
     requires { IsMade desk }
     ensures { ReliedSays desk text.now dependence result }
 {
-    let number = key_fault(desk.loaded, true);
-    if number != 0 {
-        return none_chosen(number, 0);
+    if let Err(refusal) = key_fault(desk.loaded, true) {
+        return none_chosen(Fault::from(refusal));
     }
     let nest = desk.nest;
-    let reading = paper_texts::read_placement(nest.count, paper_barred::barred_of(nest), text);
-    if reading.number != 0 {
-        return none_chosen(reading.number, reading.line);
+    let barred = paper_barred::barred_of(nest);
+    let placement = match paper_texts::read_placement(nest.count, barred, text) {
+        Ok(placement) => placement,
+        Err(fault) => return none_chosen(fault),
+    };
+    if nest.many <= dependence {
+        return none_chosen(Fault::from(Refusal::WrongPoint));
     }
-    if dependence < nest.many {
-        let placement = reading.placement;
-        let e = nest.deps[dependence];
-        return Chosen {
-            number: 0,
-            line: 0,
-            set: listed_by(nest, placement, e),
-        };
+    Chosen {
+        number: 0,
+        line: 0,
+        set: listed_by(nest, placement, nest.deps[dependence]),
     }
-    none_chosen(6, 0)
 }
 
 // The set of the loops that have one end alone of the dependence of that number, where it goes forward into the next
@@ -49,20 +49,18 @@ pub fn one_end(desk: Desk, dependence: usize) -> Chosen
     requires { IsMade desk }
     ensures { OneEndSays desk dependence result }
 {
-    let loaded = desk.loaded;
-    if loaded {
-        let nest = desk.nest;
-        if dependence < nest.many {
-            let e = nest.deps[dependence];
-            return Chosen {
-                number: 0,
-                line: 0,
-                set: with_end_of(nest, e),
-            };
-        }
-        return not_chosen(6);
+    if !desk.loaded {
+        return not_chosen(Refusal::NoNest);
     }
-    not_chosen(10)
+    let nest = desk.nest;
+    if nest.many <= dependence {
+        return not_chosen(Refusal::WrongPoint);
+    }
+    Chosen {
+        number: 0,
+        line: 0,
+        set: with_end_of(nest, nest.deps[dependence]),
+    }
 }
 
 // The flagged loops that have one end of the dependence alone, where it goes forward into the next turn.
@@ -71,24 +69,19 @@ fn with_end_of(nest: Nest, e: Dependence) -> Placement
     requires nest_value { is_valid (nest_in nest) ≡ true }
     ensures { gaps_in result.words ≡ one_end_by (nest_in nest).points (nest_in nest).flagged (dep_in e) }
 {
-    if goes_on(e) {
-        let count = nest.count;
-        let points = nest.points;
-        let ends = paper_nests::ends_of(&points[..count]);
-        let flagged = set_of(&nest.flagged, nest.flags);
-        return with_one_end(&ends, flagged, e.s as usize, e.t as usize);
+    if !goes_on(e) {
+        return Placement::empty();
     }
-    Placement::empty()
+    let ends = paper_nests::ends_of(nest.points());
+    let flagged = set_of(&nest.flagged, nest.flags);
+    with_one_end(&ends, flagged, e.s as usize, e.t as usize)
 }
 
 // The dependence is carried, with s before t: it goes forward into the next turn.
 fn goes_on(e: Dependence) -> bool
     ensures { result ≡ goes_on (dep_in e) }
 {
-    if e.kind == paper_nests::CARRIED {
-        return e.s < e.t;
-    }
-    false
+    e.kind == paper_nests::CARRIED && e.s < e.t
 }
 
 // Those of the loops that have one of s and t alone.
@@ -113,32 +106,23 @@ fn with_one_end(ends: &[usize], loops: Placement, s: usize, t: usize) -> Placeme
 fn has_one_end(d: usize, end: usize, s: usize, t: usize) -> bool
     ensures { result ≡ is_one_end d end s t }
 {
-    if is_inside(d, end, s) {
-        return is_beyond(d, end, t);
-    }
-    if is_inside(d, end, t) {
-        return is_beyond(d, end, s);
-    }
-    false
+    is_inside(d, end, s) && is_beyond(d, end, t) || is_inside(d, end, t) && is_beyond(d, end, s)
 }
 
 // The point lies before the DO d or behind the ENDDO.
 fn is_beyond(d: usize, end: usize, p: usize) -> bool
     ensures { result ≡ not (between d p end) }
 {
-    if p < d {
-        return true;
-    }
-    end < p
+    p < d || end < p
 }
 
 // The reply that chooses nothing, with the line of a text.
-fn none_chosen(number: u8, line: usize) -> Chosen
-    ensures { NoneChosen number line result }
+fn none_chosen(fault: Fault) -> Chosen
+    ensures { NoneChosen (number_of fault.refusal) fault.line result }
 {
     Chosen {
-        number: number,
-        line: line,
+        number: u8::from(fault.refusal),
+        line: fault.line,
         set: Placement::empty(),
     }
 }

@@ -1,4 +1,4 @@
--- Laws of slips: their numbers and lengths, how they are written, what the calls answer, that the candidate's shows no
+-- Laws of slips: their numbers and lengths, how they are written, the placement that is read, that the candidate's shows no
 -- key.
 pub mod Bytes
 pub mod Lengths

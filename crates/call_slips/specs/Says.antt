@@ -1,10 +1,12 @@
 -- What the two calls promise: reply and every lent byte. Neither changes the desk.
--- Main definitions: `ReadOn`, `candidate_fault`, `CandidateSays`, `examiner_fault`, `ExaminerSays`.
-use Rattle.std.specs.Prelude.{◌≡◌, Bool, true, false, List, ℕ, eqb, ltb, length}
+-- Main definitions: `gaps_read`, `ReadOn`, `candidate_fault`, `CandidateSays`, `examiner_fault`, `ExaminerSays`.
+use Rattle.std.specs.Prelude.{◌≡◌, Bool, true, false, List, [], ℕ, eqb, ltb, length, Result, Ok, Err}
 use Rattle.laws.specs.Choice.{pick, when}
+use Rattle.paper_refusals.specs.declared.Fault as PF
+use Rattle.paper_refusals.specs.Numbers.{fault_number, fault_line}
 use Rattle.paper_lines.specs.Writing.{over}
+use Rattle.paper_placements.specs.declared.Placement.{Placement}
 use Rattle.paper_placements.specs.Words.{gaps_in}
-use Rattle.paper_texts.specs.declared.PlacementReading.{PlacementReading}
 use Rattle.paper_texts.specs.PlacementTexts.{placed}
 use Rattle.desk.specs.declared.Desk as DD
 use Rattle.desk.specs.declared.Answer as DA
@@ -12,9 +14,14 @@ use Rattle.desk.specs.Desks.{Desk, desk_in, state_fault, Fault, fault}
 use Rattle.desk.specs.Says.{read_in}
 use Rattle.call_slips.specs.Texts.{slip_text, examiner_text}
 
+-- the gaps that were read; none where the text is refused
+abbrev pub gaps_read : Result Placement PF.Fault → List ℕ
+gaps_read (Ok p) = gaps_in p.words
+gaps_read (Err f) = []
+
 -- the reading of a placement text for the desk's nest, as by Mark
-pub record ReadOn (d : DD.Desk) (s : List ℕ) (r : PlacementReading) : Type 0 where
-  pub read_is : placed r.number r.line (gaps_in r.placement.words) ≡ read_in (desk_in d) s
+pub record ReadOn (d : DD.Desk) (s : List ℕ) (r : Result Placement PF.Fault) : Type 0 where
+  pub read_is : placed (fault_number r) (fault_line r) (gaps_read r) ≡ read_in (desk_in d) s
 
 -- 02, job 9: 10, and 11 where a key is wanted; then the faults of the text s, with their line, as by Mark; then 9 where
 -- the buffer's length, here `room`, is less than the slip's

@@ -2,10 +2,11 @@
 #![tactic(auto)]
 
 ghost use Rattle.std.specs.Prelude.{◌≡◌, true, ◌<◌, ◌≤◌, length};
+ghost use Rattle.paper_refusals.specs.Numbers.{number_of};
 ghost use Rattle.paper_nests.specs.Kinds.{DEPENDENCES};
 ghost use Rattle.paper_nests.specs.Valid.{is_valid};
 ghost use Rattle.paper_nests.specs.Stored.{nest_in, IsCounted};
-ghost use Rattle.paper_placements.specs.Answers.{cut_of};
+ghost use Rattle.paper_placements.specs.Answers.{place_of};
 ghost use Rattle.paper_placements.specs.Placements.{are_gaps};
 ghost use Rattle.paper_placements.specs.Words.{gaps_in};
 ghost use Rattle.desk.specs.Desks.{IsMade};
@@ -17,8 +18,9 @@ ghost use Rattle.call_slips.specs.Writers.{Wrote, Unread, SlipLength, ExaminerLe
 use desk::{Answer, Desk, Verdict, judge, key_fault, refused};
 use paper_lines::put_frame;
 use paper_nests::Nest;
-use paper_placements::{Cut, Placement, cut_in, uncut};
-use paper_texts::{PlacementReading, write_counts};
+use paper_placements::{Placement, cut_in, uncut};
+use paper_refusals::{Fault, Refusal};
+use paper_texts::write_counts;
 
 // The kinds of a slip's lines: the first uncut dependence, the verdict, the gap that cuts a dependence.
 const FIRST_UNCUT: u8 = 35;
@@ -52,23 +54,18 @@ pub fn candidate_slip(desk: Desk, text: &[u8], out: &mut [u8]) -> Answer
     requires { IsMade desk }
     ensures { CandidateSays desk text.now out.old out.new result }
 {
-    let number = key_fault(desk.loaded, true);
-    if number != 0 {
-        return refused(number);
-    }
-    let reading = read_on(desk, text);
-    if reading.number != 0 {
-        return unread(reading.number, reading.line);
+    if let Err(refusal) = key_fault(desk.loaded, true) {
+        return refused(refusal);
     }
     let nest = desk.nest;
-    let placement = reading.placement;
-    if out.len() < slip_length(nest) {
-        return refused(9);
-    }
-    Answer {
-        number: 0,
-        line: 0,
-        value: write_slip(nest, placement, out),
+    match read_on(desk, text) {
+        Err(fault) => unread(fault),
+        Ok(_) if out.len() < slip_length(nest) => refused(Refusal::ShortBuffer),
+        Ok(placement) => Answer {
+            number: 0,
+            line: 0,
+            value: write_slip(nest, placement, out),
+        },
     }
 }
 
@@ -78,29 +75,23 @@ pub fn examiner_slip(desk: Desk, text: &[u8], out: &mut [u8]) -> Answer
     requires { IsMade desk }
     ensures { ExaminerSays desk text.now out.old out.new result }
 {
-    let number = key_fault(desk.loaded, desk.planned);
-    if number != 0 {
-        return refused(number);
-    }
-    let reading = read_on(desk, text);
-    if reading.number != 0 {
-        return unread(reading.number, reading.line);
+    if let Err(refusal) = key_fault(desk.loaded, desk.planned) {
+        return refused(refusal);
     }
     let nest = desk.nest;
-    let placement = reading.placement;
-    if out.len() < examiner_length(nest) {
-        return refused(9);
-    }
-    let key = desk.key;
-    Answer {
-        number: 0,
-        line: 0,
-        value: write_examiner(nest, key, placement, out),
+    match read_on(desk, text) {
+        Err(fault) => unread(fault),
+        Ok(_) if out.len() < examiner_length(nest) => refused(Refusal::ShortBuffer),
+        Ok(placement) => Answer {
+            number: 0,
+            line: 0,
+            value: write_examiner(nest, desk.key, placement, out),
+        },
     }
 }
 
 // Reads a placement text for the desk's nest, as Mark does.
-pub fn read_on(desk: Desk, text: &[u8]) -> PlacementReading
+pub fn read_on(desk: Desk, text: &[u8]) -> Result<Placement, Fault>
     requires made { IsMade desk }
     requires loaded_value { desk.loaded ≡ true }
     ensures { ReadOn desk text.now result }
@@ -110,12 +101,12 @@ pub fn read_on(desk: Desk, text: &[u8]) -> PlacementReading
 }
 
 // The answer to a text that is refused.
-fn unread(number: u8, line: usize) -> Answer
-    ensures { Unread number line result }
+fn unread(fault: Fault) -> Answer
+    ensures { Unread (number_of fault.refusal) fault.line result }
 {
     Answer {
-        number: number,
-        line: line,
+        number: u8::from(fault.refusal),
+        line: fault.line,
         value: 0,
     }
 }
@@ -125,16 +116,10 @@ fn slip_length(nest: Nest) -> usize
     requires { IsCounted nest }
     ensures { SlipLength (nest_in nest) result }
 {
-    let count = nest.count;
     let mut length: usize = FIRST_LINE;
-    let mut d: usize = 0;
-    while d < count {
-        let kind = nest.points[d];
-        if kind == paper_nests::DO {
+    for &point in &nest.points[..nest.count] {
+        if point == paper_nests::DO {
             length += COUNT_LINE;
-            d += 1;
-        } else {
-            d += 1;
         }
     }
     length
@@ -159,9 +144,7 @@ fn write_slip(nest: Nest, placement: Placement, out: &mut [u8]) -> usize
 {
     let first = uncut(nest, placement);
     let at = write_first(first, out);
-    let count = nest.count;
-    let points = nest.points;
-    at + write_counts(&points[..count], placement, &mut out[at..])
+    at + write_counts(&nest.points[..nest.count], placement, &mut out[at..])
 }
 
 // Writes the examiner's slip.
@@ -181,11 +164,11 @@ fn write_examiner(nest: Nest, key: Placement, placement: Placement, out: &mut [u
     cuts + write_cuts(nest, placement, &mut out[cuts..])
 }
 
-// Writes the line of the first uncut dependence, where `first` is its number plus 1, 0 for none.
-fn write_first(first: usize, out: &mut [u8]) -> usize
-    requires first_bound { first ≤ DEPENDENCES }
-    requires first_in_bounds { length (first_text first) ≤ length out.old }
-    ensures { Wrote (first_text first) out.old out.new result }
+// Writes the line of the first uncut dependence, by its number.
+fn write_first(first: Option<usize>, out: &mut [u8]) -> usize
+    requires first_bound { place_of first ≤ DEPENDENCES }
+    requires first_in_bounds { length (first_text (place_of first)) ≤ length out.old }
+    ensures { Wrote (first_text (place_of first)) out.old out.new result }
 {
     let number = shown(first);
     let frame = [
@@ -197,13 +180,10 @@ fn write_first(first: usize, out: &mut [u8]) -> usize
 }
 
 // The number that the line shows.
-fn shown(first: usize) -> usize
-    ensures { result ≡ shown first }
+fn shown(first: Option<usize>) -> usize
+    ensures { result ≡ shown (place_of first) }
 {
-    if first < 1 {
-        return NONE;
-    }
-    first - 1
+    first.unwrap_or(NONE)
 }
 
 // Writes the line of the verdict.
@@ -235,7 +215,7 @@ fn put_verdict(code: u8, d: usize, theirs: usize, ours: usize, out: &mut [u8]) -
     put_frame(out, &frame)
 }
 
-// Writes for each dependence in order a line with the lowest gap that cuts it.
+// Writes for each dependence in order a line with the lowest gap that cuts it, 0 if none does.
 fn write_cuts(nest: Nest, placement: Placement, out: &mut [u8]) -> usize
     requires counted { IsCounted nest }
     requires nest_value { is_valid (nest_in nest) ≡ true }
@@ -245,29 +225,12 @@ fn write_cuts(nest: Nest, placement: Placement, out: &mut [u8]) -> usize
     ensures { Wrote (cuts_text (nest_in nest).points (nest_in nest).deps (gaps_in placement.words))
         out.old out.new result }
 {
-    let count = nest.count;
-    let points = nest.points;
-    let ends = paper_nests::ends_of(&points[..count]);
-    let many = nest.many;
+    let ends = paper_nests::ends_of(&nest.points[..nest.count]);
     let mut at: usize = 0;
-    let mut i: usize = 0;
-    while i < many {
-        let e = nest.deps[i];
-        let d = e.d as usize;
-        let gap = gap_of(cut_in(ends[d], placement, e));
+    for &e in &nest.deps[..nest.many] {
+        let gap = cut_in(ends[e.d as usize], placement, e).unwrap_or(0);
         let frame = [CUT_BY, (gap % 256) as u8];
         at += put_frame(&mut out[at..], &frame);
-        i += 1;
     }
     at
-}
-
-// The gap that cuts; 0 for none.
-fn gap_of(cut: Cut) -> usize
-    ensures { result ≡ cut_of cut }
-{
-    match cut {
-        Cut::By(g) => g,
-        Cut::Uncut => 0,
-    }
 }

@@ -3,6 +3,7 @@
 
 ghost use Rattle.std.specs.Prelude.{◌≡◌, ℕ, ◌<◌};
 ghost use Rattle.laws.specs.Entries.{at};
+ghost use Rattle.paper_refusals.specs.Numbers.{number_of};
 ghost use Rattle.paper_nests.specs.Kinds.{POINTS};
 ghost use Rattle.desk.specs.Desks.{IsMade};
 ghost use Rattle.call_standing.specs.Says.{StandingSays, Blank, Few};
@@ -10,6 +11,7 @@ ghost use Rattle.call_standing.specs.Says.{StandingSays, Blank, Few};
 use desk::Desk;
 use paper_nests::Nest;
 use paper_placements::Placement;
+use paper_refusals::Refusal;
 
 // The number and the line of a refusal, 0 and 0 for none; the candidate's barriers; how many of them each loop has at
 // its own gaps, by its DO; how many of them cut each dependence; how many dependences none cuts. Every other place has
@@ -30,26 +32,22 @@ pub fn sitting_stands(desk: Desk) -> Standing
     requires { IsMade desk }
     ensures { StandingSays desk result }
 {
-    let loaded = desk.loaded;
-    if loaded {
-        let nest = desk.nest;
-        let count = nest.count;
-        let points = nest.points;
-        let sitting = desk.sitting;
-        let placement = sitting.placement;
-        let table = paper_counts::counts_of(&points[..count], placement);
-        let counts = in_bytes(&table);
-        let cuts = sitting.counts;
-        return Standing {
-            number: 0,
-            line: 0,
-            placement: placement,
-            counts: counts,
-            cuts: cuts,
-            uncut: sitting.uncut,
-        };
+    if !desk.loaded {
+        return blank(Refusal::NoNest);
     }
-    blank(10)
+    let sitting = desk.sitting;
+    let placement = sitting.placement;
+    let table = paper_counts::counts_of(desk.nest.points(), placement);
+    let counts = in_bytes(&table);
+    let cuts = sitting.counts;
+    Standing {
+        number: 0,
+        line: 0,
+        placement,
+        counts,
+        cuts,
+        uncut: sitting.uncut,
+    }
 }
 
 // The table's entries as bytes.
@@ -58,20 +56,18 @@ fn in_bytes(table: &[usize; Nest::POINTS]) -> [u8; Nest::POINTS]
     ensures { (i : ℕ) → i < POINTS → at result i ≡ at table.now i }
 {
     let mut bytes = [0; Nest::POINTS];
-    let mut i = 0;
-    while i < Nest::POINTS {
+    for i in 0..Nest::POINTS {
         bytes[i] = table[i] as u8;
-        i += 1;
     }
     bytes
 }
 
 // The reply that tells nothing.
-fn blank(number: u8) -> Standing
-    ensures { Blank number result }
+fn blank(refusal: Refusal) -> Standing
+    ensures { Blank (number_of refusal) result }
 {
     Standing {
-        number: number,
+        number: u8::from(refusal),
         line: 0,
         placement: Placement::empty(),
         counts: [0; Nest::POINTS],

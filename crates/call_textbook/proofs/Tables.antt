@@ -1,23 +1,18 @@
 -- The tables of the ring laid out twice: the last unbarred places, filled from the first place on, and the latest
 -- starts, entered one dependence after the other.
 -- Main definitions: `Freed`, `Collecting`. Main statements: `held_barred`, `unheld_free`; `free_start`, `free_barred`,
--- `free_open`, `free_done`; `raised`, `raised_before`; `entered_none`, `entered_once`, `entered_twice`;
--- `collect_start`, `next_placed`, `collect_on`, `collect_done`.
+-- `free_open`, `free_done`; `collect_start`, `next_placed`, `collect_on`, `collect_done`.
 use mathlib.Core.Path.{◌≡◌, refl, sym, ap, ◌∙◌, subst}
 use mathlib.Core.Bool.{Bool, true, false, not}
 use mathlib.Core.List.{List, [], ◌∷◌}
-use mathlib.Core.Logic.{inl, inr, ⊎_elim}
+use mathlib.Core.Logic.{inl, inr}
 use Prim.Native.Nat.{ℕ, zero, suc, ◌+◌, ◌-◌, ◌≤◌, ◌<◌, max}
 use native.Mathlib.Omega.{arith}
-use lib.Dec.{eqb, leb}
 use lib.ListN.{length, get_or, set, drop, length-set}
-use lib.Seq.{get_or-set_same, get_or-set_other}
-use borrow.Author.Tests.{eq-eqb, ne_eqb, le-leb, lt-leb}
 use Rattle.laws.specs.Choice.{pick}
 use Rattle.laws.specs.Entries.{at}
 use Rattle.laws.proofs.Copies.{copies, copies_at}
 use Rattle.laws.proofs.Stores.{stored}
-use Rattle.laws.proofs.Tests.{eq_or}
 use Rattle.paper_nests.specs.declared.Dependence as DE
 use Rattle.paper_nests.specs.Nests.{Dep}
 use Rattle.paper_nests.specs.Stored.{dep_in, deps_in}
@@ -25,8 +20,8 @@ use Rattle.paper_nests.proofs.Stored.{deps_in_at}
 use Rattle.paper_placements.specs.Words.{GAPS, holds, gaps_in}
 use Rattle.paper_placements.proofs.Words.{in_gaps}
 use Rattle.paper_placements.specs.Placements.{is_free}
-use Rattle.call_textbook.specs.Places.{PLACES, gap_at, last_place, last_free, start_at, latest_of}
-use Rattle.call_textbook.specs.Steps.{Placed, AllPlaced, FreeSays, LatestSays, EnterSays, RaiseSays}
+use Rattle.call_textbook.specs.Places.{PLACES, gap_at, last_place, last_free, latest_of}
+use Rattle.call_textbook.specs.Steps.{Placed, AllPlaced, FreeSays, LatestSays, EnterSays}
 
 -- a gap that the words hold is barred, any other is not
 module _ (ws : List ℕ) (g : ℕ) (held : Bool) (fits : g < GAPS) (is_held_lem : held ≡ holds ws g) where
@@ -100,82 +95,6 @@ last_free_le bs m (suc p) = go (is_free bs (gap_at m (suc p))) (last_free_le bs 
 -- an entry is a place of the table
 pub free_within : (bs : List ℕ) (m : ℕ) (free : List ℕ) → FreeSays bs m free → (p : ℕ) → p ≤ m + m → at free p ≤ m + m
 free_within bs m free t p l = omega (arith, t p l, last_free_le bs m p)
-
--- ---- one start
-
-pub raised : (p start : ℕ) (xs : List ℕ) → p < length xs → at xs p < start → RaiseSays p start xs (set xs p start)
-raised p start xs l h q = ⊎_elim
-    (λ (e : q ≡ p). rw (e, eq-eqb p p refl, get_or-set_same xs p start 0 l) (omega arith))
-    (λ (e : q ≡ p → ⊥). rw (ne_eqb q p e, get_or-set_other xs p q start 0 e))
-    (eq_or q p)
-
-pub raised_before : (p start : ℕ) (xs : List ℕ) → start ≤ at xs p → RaiseSays p start xs xs
-raised_before p start xs h q = ⊎_elim
-    (λ (e : q ≡ p). rw (e, eq-eqb p p refl) (omega arith))
-    (λ (e : q ≡ p → ⊥). rw (ne_eqb q p e))
-    (eq_or q p)
-
--- ---- one dependence
-
-module _
-    (free : List ℕ) (m : ℕ) (e : Dep) (placed : Placed m e) (xs : List ℕ) (end start : ℕ)
-    (end_is : end ≡ at free (last_place m e)) (start_is : start ≡ suc e.s)
-  where
-    -- the start at place p, where the dependence has an unbarred gap
-    start_here : (p : ℕ) (x y : Bool) → start ≤ end → eqb p end ≡ x → eqb p (end + m) ≡ y
-        → start_at (at free) m e p ≡ pick x start (pick y (start + m) 0)
-    start_here p x y l a b =
-        let u : leb (suc e.s) end ≡ true = le-leb (suc e.s) end (omega arith) in
-        rw (sym end_is, u, a, b, sym start_is)
-
-    pub entered_none : end < start → EnterSays free m e xs xs
-    entered_none h p l =
-        let u : leb (suc e.s) end ≡ false = lt-leb (suc e.s) end (omega arith) in
-        let z : start_at (at free) m e p ≡ 0 = rw (sym end_is, u) in
-        omega arith
-
-    pub entered_twice
-        : (ys zs : List ℕ) → start ≤ end → RaiseSays end start xs ys → RaiseSays (end + m) (start + m) ys zs
-        → EnterSays free m e xs zs
-    entered_twice ys zs h a b p l = ⊎_elim
-        (λ (q : p ≡ end).
-        let f : eqb p (end + m) ≡ false = ne_eqb p (end + m) (λ w. omega (arith, placed.source)) in
-        let z = start_here p true false h (eq-eqb p end q) f in
-        let y : at zs p ≡ at ys p = b p ∙ rw f in
-        let x : at ys p ≡ max start (at xs end) = a p ∙ rw (eq-eqb p end q) in
-        let w : at xs p ≡ at xs end = ap (at xs) q in
-        omega arith)
-        (λ (q : p ≡ end → ⊥).
-        ⊎_elim
-        (λ (r : p ≡ end + m).
-        let z = start_here p false true h (ne_eqb p end q) (eq-eqb p (end + m) r) in
-        let y : at zs p ≡ max (start + m) (at ys (end + m)) = b p ∙ rw (eq-eqb p (end + m) r) in
-        let x : at ys p ≡ at xs p = a p ∙ rw (ne_eqb p end q) in
-        let w : at ys (end + m) ≡ at ys p = ap (at ys) (sym r) in
-        omega arith)
-        (λ (r : p ≡ end + m → ⊥).
-        let z = start_here p false false h (ne_eqb p end q) (ne_eqb p (end + m) r) in
-        let y : at zs p ≡ at ys p = b p ∙ rw (ne_eqb p (end + m) r) in
-        let x : at ys p ≡ at xs p = a p ∙ rw (ne_eqb p end q) in
-        omega arith)
-        (eq_or p (end + m)))
-        (eq_or p end)
-
-    -- an end behind the ring has no place once more round it
-    pub entered_once : (ys : List ℕ) → start ≤ end → m < end → RaiseSays end start xs ys → EnterSays free m e xs ys
-    entered_once ys h k a p l =
-        let f : eqb p (end + m) ≡ false = ne_eqb p (end + m) (λ w. omega arith) in
-        ⊎_elim
-        (λ (q : p ≡ end).
-        let z = start_here p true false h (eq-eqb p end q) f in
-        let x : at ys p ≡ max start (at xs end) = a p ∙ rw (eq-eqb p end q) in
-        let w : at xs p ≡ at xs end = ap (at xs) q in
-        omega arith)
-        (λ (q : p ≡ end → ⊥).
-        let z = start_here p false false h (ne_eqb p end q) f in
-        let x : at ys p ≡ at xs p = a p ∙ rw (ne_eqb p end q) in
-        omega arith)
-        (eq_or p end)
 
 -- ---- all dependences
 

@@ -18,6 +18,7 @@ ghost use Rattle.call_textbook.specs.Says.{TextbookSays};
 use desk::{Chosen, Desk, not_chosen};
 use paper_nests::{Dependence, Nest};
 use paper_placements::Placement;
+use paper_refusals::Refusal;
 
 // As many places as a table has: those of the longest ring, laid out twice, and place 0.
 const PLACES: usize = 512;
@@ -27,26 +28,21 @@ pub fn textbook(desk: Desk) -> Chosen
     requires { IsMade desk }
     ensures { TextbookSays desk result }
 {
-    let loaded = desk.loaded;
-    if loaded {
-        let nest = desk.nest;
-        let count = nest.count;
-        let points = nest.points;
-        let single = paper_nests::is_one_loop(&points[..count]);
-        if single {
-            let blocked = plan_paper::is_blocked(nest);
-            if blocked {
-                return not_chosen(15);
-            }
-            return Chosen {
-                number: 0,
-                line: 0,
-                set: smallest(nest, paper_barred::barred_of(nest)),
-            };
-        }
-        return not_chosen(14);
+    if !desk.loaded {
+        return not_chosen(Refusal::NoNest);
     }
-    not_chosen(10)
+    let nest = desk.nest;
+    if !paper_nests::is_one_loop(nest.points()) {
+        return not_chosen(Refusal::NotOneLoop);
+    }
+    if plan_paper::is_blocked(nest) {
+        return not_chosen(Refusal::Blocked);
+    }
+    Chosen {
+        number: 0,
+        line: 0,
+        set: smallest(nest, paper_barred::barred_of(nest)),
+    }
 }
 
 // The placement of the textbook method for a nest of one loop, where `barred` holds the barred gaps.
@@ -56,26 +52,23 @@ fn smallest(nest: Nest, barred: Placement) -> Placement
     requires nest_value_2 { one_loop (nest_in nest).points ≡ true }
     ensures { SmallestSays (nest_in nest).points (nest_in nest).deps barred.words result.words }
 {
-    if 0 < nest.many {
-        let m = nest.count - 1;
-        let latest = latest_starts(nest, barred, m);
-        let g = first_barrier(&latest, barred, m);
-        if 0 < g {
-            return lay(&latest, m, g);
-        }
+    if nest.many == 0 {
         return Placement::empty();
     }
-    Placement::empty()
+    let m = nest.count - 1;
+    let latest = latest_starts(nest, barred, m);
+    let g = first_barrier(&latest, barred, m);
+    if g == 0 {
+        return Placement::empty();
+    }
+    lay(&latest, m, g)
 }
 
 // The gap at a place of a ring of m gaps laid out twice.
 fn gap_at(m: usize, p: usize) -> usize
     ensures { result ≡ gap_at m p }
 {
-    if p <= m {
-        return p;
-    }
-    p - m
+    if p <= m { p } else { p - m }
 }
 
 // The last place of a dependence's gaps on a ring of m; the first is the one after its source.
@@ -86,12 +79,10 @@ fn last_place(m: usize, e: Dependence) -> usize
     let s = e.s as usize;
     let t = e.t as usize;
     if e.kind == paper_nests::INDEPENDENT {
-        return t;
+        t
+    } else {
+        m + s.min(t)
     }
-    if s < t {
-        return m + s;
-    }
-    m + t
 }
 
 // Of each place the last unbarred place at or before it; 0 for none.
@@ -100,16 +91,12 @@ fn last_free(barred: Placement, m: usize) -> [usize; PLACES]
     ensures { FreeSays (gaps_in barred.words) m result }
 {
     let mut free = [0; PLACES];
-    let mut p = 1;
-    while p <= m + m {
-        let gap = gap_at(m, p);
-        if barred.holds(gap) {
-            free[p] = free[p - 1];
-            p += 1;
+    for p in 1..m + m + 1 {
+        free[p] = if barred.holds(gap_at(m, p)) {
+            free[p - 1]
         } else {
-            free[p] = p;
-            p += 1;
-        }
+            p
+        };
     }
     free
 }
@@ -123,12 +110,8 @@ fn latest_starts(nest: Nest, barred: Placement, m: usize) -> [usize; PLACES]
 {
     let free = last_free(barred, m);
     let mut latest = [0; PLACES];
-    let many = nest.many;
-    let mut i = 0;
-    while i < many {
-        let e = nest.deps[i];
+    for &e in &nest.deps[..nest.many] {
         enter(&mut latest, &free, m, e);
-        i += 1;
     }
     latest
 }
@@ -170,19 +153,14 @@ fn first_barrier(latest: &[usize; PLACES], barred: Placement, m: usize) -> usize
 {
     let mut best = 0;
     let mut least = PLACES;
-    let mut g = 1;
-    while g <= m {
+    for g in 1..m + 1 {
         if barred.holds(g) {
-            g += 1;
-        } else {
-            let cuts = count_cuts(latest, m, g);
-            if cuts < least {
-                least = cuts;
-                best = g;
-                g += 1;
-            } else {
-                g += 1;
-            }
+            continue;
+        }
+        let cuts = count_cuts(latest, m, g);
+        if cuts < least {
+            least = cuts;
+            best = g;
         }
     }
     best
@@ -196,14 +174,10 @@ fn count_cuts(latest: &[usize; PLACES], m: usize, g: usize) -> usize
 {
     let mut cuts = 0;
     let mut last = g;
-    let mut p = g + 1;
-    while p < g + m {
+    for p in g + 1..g + m {
         if last < latest[p] {
             cuts += 1;
             last = p;
-            p += 1;
-        } else {
-            p += 1;
         }
     }
     cuts
@@ -215,17 +189,12 @@ fn lay(latest: &[usize; PLACES], m: usize, g: usize) -> Placement
     requires g_nonzero { (0 < g) × (g ≤ m) }
     ensures { LaySays (at latest.now) m g result.words }
 {
-    let empty = Placement::empty();
-    let mut placement = empty.put(g);
+    let mut placement = Placement::empty().put(g);
     let mut last = g;
-    let mut p = g + 1;
-    while p < g + m {
+    for p in g + 1..g + m {
         if last < latest[p] {
             placement = placement.put(gap_at(m, p));
             last = p;
-            p += 1;
-        } else {
-            p += 1;
         }
     }
     placement

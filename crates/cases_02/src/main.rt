@@ -202,10 +202,8 @@ fn after_turns(desk: Desk, many: usize) -> Desk
     ensures { IsMade result }
 {
     let mut d = desk;
-    let mut i = 0;
-    while i < many {
+    for _ in 0..many {
         d = turned(d, 5);
-        i += 1;
     }
     d
 }
@@ -228,10 +226,8 @@ fn after_backs(desk: Desk, many: usize) -> Desk
     ensures { IsMade result }
 {
     let mut d = desk;
-    let mut i = 0;
-    while i < many {
+    for _ in 0..many {
         d = after_back(d);
-        i += 1;
     }
     d
 }

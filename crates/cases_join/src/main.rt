@@ -181,9 +181,9 @@ struct Size {
 
 fn sized(loops: usize, statements: usize, dependences: usize) -> Size {
     Size {
-        loops: loops,
-        statements: statements,
-        dependences: dependences,
+        loops,
+        statements,
+        dependences,
     }
 }
 

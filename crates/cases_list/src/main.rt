@@ -132,17 +132,17 @@ fn lend(desk: Desk, list: [Dependence; 5]) -> Answer
 fn independent(d: u8, s: u8, t: u8) -> Dependence {
     Dependence {
         kind: INDEPENDENT,
-        d: d,
-        s: s,
-        t: t,
+        d,
+        s,
+        t,
     }
 }
 
 fn carried(d: u8, s: u8, t: u8) -> Dependence {
     Dependence {
         kind: CARRIED,
-        d: d,
-        s: s,
-        t: t,
+        d,
+        s,
+        t,
     }
 }

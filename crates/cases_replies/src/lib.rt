@@ -5,18 +5,16 @@
 ghost use Rattle.std.specs.Prelude.{◌≤◌, length, ◌≡◌, take};
 ghost use Rattle.desk.specs.Desks.{IsMade};
 
-use desk::{Answer, Chosen, Desk, Marked, PlainDesk, Verdict};
+use desk::{Answer, Chosen, Desk, PlainDesk, Verdict};
+use paper_placements::Placement;
 use std::io;
 
 // A desk that has read a text and worked out its key.
 pub fn planned(text: &[u8]) -> Desk
     ensures { IsMade result }
 {
-    let empty = Desk::empty();
-    let loaded = desk::load_nest(empty, text);
-    let desk = loaded.desk;
-    let reply = desk::plan_key(desk);
-    reply.desk
+    let loaded = desk::load_nest(Desk::empty(), text);
+    desk::plan_key(loaded.desk).desk
 }
 
 // Papers P and R of document 01, with their keys.
@@ -47,16 +45,14 @@ pub fn after_load(desk: Desk, text: &[u8]) -> Desk
     requires { IsMade desk }
     ensures { IsMade result }
 {
-    let reply = desk::load_nest(desk, text);
-    reply.desk
+    desk::load_nest(desk, text).desk
 }
 
 pub fn after_plan(desk: Desk) -> Desk
     requires { IsMade desk }
     ensures { IsMade result }
 {
-    let reply = desk::plan_key(desk);
-    reply.desk
+    desk::plan_key(desk).desk
 }
 
 pub fn after_reset(desk: Desk) -> Desk
@@ -69,24 +65,21 @@ pub fn after_put(desk: Desk, gap: usize) -> Desk
     requires { IsMade desk }
     ensures { IsMade result }
 {
-    let moved = call_moves::put_gap(desk, gap);
-    moved.desk
+    call_moves::put_gap(desk, gap).desk
 }
 
 pub fn after_lift(desk: Desk, gap: usize) -> Desk
     requires { IsMade desk }
     ensures { IsMade result }
 {
-    let moved = call_moves::lift_gap(desk, gap);
-    moved.desk
+    call_moves::lift_gap(desk, gap).desk
 }
 
 pub fn after_back(desk: Desk) -> Desk
     requires { IsMade desk }
     ensures { IsMade result }
 {
-    let moved = call_moves::take_back(desk);
-    moved.desk
+    call_moves::take_back(desk).desk
 }
 
 // The desk's nest and key as a desk of the kind before sittings, gone over.
@@ -94,13 +87,11 @@ pub fn gone_over(desk: Desk) -> Desk
     requires { IsMade desk }
     ensures { IsMade result }
 {
-    let nest = desk.nest;
-    let key = desk.key;
     desk::go_over(PlainDesk {
         loaded: desk.loaded,
-        nest: nest,
+        nest: desk.nest,
         planned: desk.planned,
-        key: key,
+        key: desk.key,
     })
 }
 
@@ -110,20 +101,22 @@ pub fn gone_over_with(desk: Desk, text: &[u8]) -> Desk
     ensures { IsMade result }
 {
     let nest = desk.nest;
-    let reading = paper_texts::read_placement(nest.count, paper_barred::barred_of(nest), text);
-    let key = reading.placement;
+    let key = paper_texts::read_placement(
+        nest.count,
+        paper_barred::barred_of(nest),
+        text,
+    ).unwrap_or(Placement::empty());
     desk::go_over(PlainDesk {
         loaded: desk.loaded,
-        nest: nest,
+        nest,
         planned: desk.planned,
-        key: key,
+        key,
     })
 }
 
 // Load accepts the text (number 0, line 0), or refuses it with this number and line.
 pub fn is_refused(text: &[u8], number: u8, line: usize) -> bool {
-    let empty = Desk::empty();
-    let reply = desk::load_nest(empty, text);
+    let reply = desk::load_nest(Desk::empty(), text);
     reply.number == number && reply.line == line
 }
 
@@ -154,11 +147,7 @@ pub fn has_count(desk: Desk, point: usize, count: usize) -> bool
 pub fn is_uncut(desk: Desk, text: &[u8], first: usize) -> bool
     requires { IsMade desk }
 {
-    let marked = desk::mark_placement(desk, text);
-    let Marked::Given(verdict) = marked else {
-        return false;
-    };
-    let Verdict::Uncut(i) = verdict else {
+    let Ok(Verdict::Uncut(i)) = desk::mark_placement(desk, text) else {
         return false;
     };
     i == first
@@ -168,11 +157,7 @@ pub fn is_uncut(desk: Desk, text: &[u8], first: usize) -> bool
 pub fn is_dearer(desk: Desk, text: &[u8], d: usize, theirs: usize, ours: usize) -> bool
     requires { IsMade desk }
 {
-    let marked = desk::mark_placement(desk, text);
-    let Marked::Given(verdict) = marked else {
-        return false;
-    };
-    let Verdict::Dearer(counts) = verdict else {
+    let Ok(Verdict::Dearer(counts)) = desk::mark_placement(desk, text) else {
         return false;
     };
     counts.d == d && counts.theirs == theirs && counts.ours == ours
@@ -182,25 +167,17 @@ pub fn is_dearer(desk: Desk, text: &[u8], d: usize, theirs: usize, ours: usize) 
 pub fn is_best(desk: Desk, text: &[u8]) -> bool
     requires { IsMade desk }
 {
-    let marked = desk::mark_placement(desk, text);
-    let Marked::Given(verdict) = marked else {
-        return false;
-    };
-    match verdict {
-        Verdict::Best => true,
-        _ => false,
-    }
+    matches!(desk::mark_placement(desk, text), Ok(Verdict::Best))
 }
 
 // Mark refuses the text with this number and line.
 pub fn is_unread(desk: Desk, text: &[u8], number: u8, line: usize) -> bool
     requires { IsMade desk }
 {
-    let marked = desk::mark_placement(desk, text);
-    let Marked::Refused(fault) = marked else {
+    let Err(fault) = desk::mark_placement(desk, text) else {
         return false;
     };
-    fault.number == number && fault.line == line
+    u8::from(fault.refusal) == number && fault.line == line
 }
 
 // Put replies this.
@@ -252,10 +229,8 @@ pub fn repeat(text: &mut [u8], at: usize, line: &[u8], times: usize) -> usize
     ensures whole { result ≡ length (take result text.new) }
 {
     let mut n = at;
-    let mut i = 0;
-    while i < times {
+    for _ in 0..times {
         n = put(text, n, line);
-        i += 1;
     }
     n
 }
@@ -266,26 +241,22 @@ fn put(text: &mut [u8], at: usize, line: &[u8]) -> usize
     ensures { result ≤ length text.new }
 {
     let mut n = at;
-    let mut i = 0;
-    while i < line.len() {
-        if n < text.len() {
-            text[n] = line[i];
-            n += 1;
-            i += 1;
-        } else {
+    for &byte in line {
+        if text.len() <= n {
             return n;
         }
+        text[n] = byte;
+        n += 1;
     }
     n
 }
 
 // The answer has this number, and what it wrote is this text.
 fn is_written(out: &[u8], answer: Answer, number: u8, text: &[u8]) -> bool {
-    let length = answer.value;
-    if length <= out.len() {
-        return answer.number == number && answer.line == 0 && check::same(&out[..length], text);
-    }
-    false
+    answer.value <= out.len()
+        && answer.number == number
+        && answer.line == 0
+        && check::same(&out[..answer.value], text)
 }
 
 // Writes a case's line.

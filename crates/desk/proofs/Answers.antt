@@ -18,7 +18,7 @@ use Rattle.paper_order.specs.Verdicts.{Verdict, mark_of}
 use Rattle.paper_texts.specs.PlacementTexts.{Placed, placed, key_text}
 use Rattle.desk.specs.declared.Desk as DD
 use Rattle.desk.specs.declared.Answer as DA
-use Rattle.desk.specs.Desks.{Desk, desk_in, state_fault, Fault, fault}
+use Rattle.desk.specs.Desks.{desk_in, state_fault, Fault, fault}
 use Rattle.desk.specs.Says.{RefusedAs, count_fault, CountSays, text_fault, WrittenAs}
 use Rattle.desk.specs.Says.{refused, given, read_in, place_fault, marked}
 

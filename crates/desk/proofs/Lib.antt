@@ -9,7 +9,6 @@ pub mod Made
 pub mod TwoDesks
 pub mod ReadAgain
 pub mod Over
-pub mod Plans
 pub mod ListCases
 pub mod Unread
 -- the promises can be kept, and which calls they exclude

@@ -2,41 +2,46 @@
 -- by what it says, and not since none could say anything.
 -- Main definitions: `Marks`, `Loads`, `Writes`. Main statements: `marks`, `loads`, `writes`.
 use mathlib.Core.Path.{◌≡◌, refl, sym, ap}
-use mathlib.Core.Bool.{Bool, true, false}
-use mathlib.Core.List.{List, [], ◌∷◌}
-use Prim.Native.Nat.{ℕ}
+use Rattle.std.proofs.Common.{Result, Ok, Err}
+use mathlib.Core.Bool.{Bool, true, false, ◌&&◌, not}
+use mathlib.Core.List.{List, [], ◌∷◌, ◌++◌}
+use Prim.Native.Nat.{ℕ, suc}
 use native.Mathlib.Omega.{arith}
-use lib.Dec.{eqb}
-use lib.ListN.{length}
+use lib.Dec.{eqb, ltb}
+use lib.ListN.{length, get_or}
 use lib.Seq.{take-length}
-use borrow.Author.Tests.{eqb-true}
-use Rattle.laws.specs.Choice.{pick, pick_t}
+use borrow.Author.Tests.{eqb-true, eqb-false}
+use Rattle.laws.specs.Choice.{pick, pick_t, when, first_of, is_in}
 use Rattle.paper_nests.specs.declared.Dependence as DE
 use Rattle.paper_nests.specs.Nests.{Dep, Nest}
 use Rattle.paper_nests.specs.Stored.{deps_in, nest_in}
 use Rattle.paper_nests.specs.Valid.{is_valid}
 use Rattle.paper_nests.proofs.Deps.{valid_is}
 use Rattle.paper_nests.proofs.Flags.{flags_few}
-use Rattle.paper_order.specs.Verdicts.{Verdict, Uncut, Dearer, Best}
+use Rattle.paper_order.specs.Verdicts.{Verdict, Uncut, Dearer, Best, mark_of}
 use Rattle.paper_placements.proofs.Words.{holds_empty, gaps_none}
 use Rattle.desk_moves.specs.Ring as Ring
+use Rattle.paper_lines.specs.Lines.{Line, lines_of, is_good, frame_of}
 use Rattle.paper_texts.specs.NestTexts.{read_nest}
+use Rattle.paper_texts.specs.PlacementTexts.{BARRIER, barrier_fault, placed_fault, Placed, placed, place_lines, read_placement}
 use Rattle.paper_texts.proofs.Accepted.{accepted_valid}
 use Rattle.desk.specs.declared.Desk as DD
 use Rattle.desk.specs.declared.Reply as DR
 use Rattle.desk.specs.declared.Answer as DA
-use Rattle.desk.specs.declared.Marked as DM
+use Rattle.paper_refusals.specs.declared.Refusal.{Refusal}
+use Rattle.paper_refusals.specs.declared.Refusal.TheVariants.{NoFrame, WrongKind, WrongGap, NoNest, NoKey, BarredGap}
+use Rattle.paper_refusals.specs.declared.Fault as PF
+use Rattle.paper_refusals.specs.Numbers.{number_of}
 use Rattle.desk.specs.declared.Verdict as DV
 use Rattle.desk.specs.declared.Verdict.TheVariants as VV
-use Rattle.desk.specs.declared.Marked.TheVariants as MV
-use Rattle.desk.specs.Desks.{loaded_desk, desk_in, IsMade}
-use Rattle.desk.specs.Says.{Holds, LoadSays, Mark, refused, given, mark_in, marked, MarkSays}
+use Rattle.desk.specs.Desks.{loaded_desk, desk_in, IsMade, Fault, fault, state_fault}
+use Rattle.desk.specs.Says.{Holds, LoadSays, Mark, refused, given, mark_in, read_in, marked, MarkSays}
 use Rattle.desk.specs.Says.{write_fault, WriteSays}
 use Rattle.desk.proofs.Held.{held}
 use Rattle.desk.proofs.TwoDesks.{text_length, text_over}
 
 abbrev pub Marker : Type 0
-Marker = DD.Desk → List ℕ → DM.Marked
+Marker = DD.Desk → List ℕ → Result DV.Verdict PF.Fault
 
 abbrev pub Loader : Type 0
 Loader = DD.Desk → List ℕ → DR.Reply
@@ -65,18 +70,109 @@ verdict_out (Uncut i) = VV.Uncut i
 verdict_out (Dearer loop theirs ours) = VV.Dearer (record { d = loop; theirs = theirs; ours = ours })
 verdict_out Best = VV.Best
 
-abbrev mark_out : Mark → DM.Marked
-mark_out (refused f) = MV.Refused (record { number = f.number; line = f.place })
-mark_out (given v) = MV.Given (verdict_out v)
+-- the refusal of a number that Mark gives
+abbrev refusal_of : ℕ → Refusal
+refusal_of n =
+    pick
+    (eqb n 1)
+    NoFrame
+    (pick (eqb n 2) WrongKind (pick (eqb n 8) WrongGap (pick (eqb n 16) BarredGap (pick (eqb n 10) NoNest NoKey))))
 
-mark-out : (m : Mark) → mark_in (mark_out m) ≡ m
-mark-out (refused f) = refl
-mark-out (given (Uncut i)) = refl
-mark-out (given (Dearer loop theirs ours)) = refl
-mark-out (given Best) = refl
+abbrev mark_out : Mark → Result DV.Verdict PF.Fault
+mark_out (refused f) = Err (record { refusal = refusal_of f.number; line = f.place })
+mark_out (given v) = Ok (verdict_out v)
+
+-- Mark's numbers: none, or one of these
+abbrev Numbered : ℕ → Type 0
+Numbered n = (n ≡ 0 → ⊥) → number_of (refusal_of n) ≡ n
+
+of_state : (a b : Bool) → Numbered (first_of (when a 10) (when b 11))
+of_state true b z = refl
+of_state false true z = refl
+of_state false false z = absurd (z refl)
+
+of_barrier : (k l b : Bool) → Numbered (first_of (when k 2) (first_of (when l 8) (when b 16)))
+of_barrier true l b z = refl
+of_barrier false true b z = refl
+of_barrier false false true z = refl
+of_barrier false false false z = absurd (z refl)
+
+of_line : (g : Bool) (n : ℕ) → Numbered n → Numbered (first_of (when g 1) n)
+of_line true n h z = refl
+of_line false n h z = h z
+
+by_fault
+    : (e k : ℕ) (rest : Placed) → Numbered e → Numbered rest.number
+    → Numbered (pick (eqb e 0) rest (placed e k [])).number
+by_fault e k rest h r = go (eqb e 0)
+  where
+    go : (t : Bool) → Numbered (pick t rest (placed e k [])).number
+    go true = r
+    go false = h
+
+of_lines : (k last n : ℕ) (bs gs : List ℕ) (ls : List Line) → Numbered (place_lines k last n bs gs ls).number
+unfolding place_lines
+of_lines k last n bs gs [] = λ z. absurd (z refl)
+of_lines k last n bs gs (l ∷ ls) =
+    by_fault
+    (placed_fault last n bs l)
+    k
+    (place_lines (suc k) (get_or (frame_of l.bytes) 1 0) n bs (gs ++ (get_or (frame_of l.bytes) 1 0 ∷ [])) ls)
+    (of_line
+    (not (is_good l))
+    (barrier_fault last n bs (frame_of l.bytes))
+    (of_barrier
+    (not (eqb (get_or (frame_of l.bytes) 0 0) BARRIER && eqb (length (frame_of l.bytes)) 2))
+    (not (ltb last (get_or (frame_of l.bytes) 1 0) && ltb (get_or (frame_of l.bytes) 1 0) n))
+    (is_in (get_or (frame_of l.bytes) 1 0) bs)))
+    (of_lines (suc k) (get_or (frame_of l.bytes) 1 0) n bs (gs ++ (get_or (frame_of l.bytes) 1 0 ∷ [])) ls)
+
+of_text : (n : ℕ) (bs s : List ℕ) → Numbered (read_placement n bs s).number
+unfolding read_placement
+of_text n bs s = of_lines 1 0 n bs [] (lines_of s)
+
+mark-given : (v : Verdict) → mark_in (Ok (verdict_out v)) ≡ given v
+mark-given (Uncut i) = refl
+mark-given (Dearer loop theirs ours) = refl
+mark-given Best = refl
+
+mark-refused : (f : Fault) → number_of (refusal_of f.number) ≡ f.number → mark_in (mark_out (refused f)) ≡ refused f
+mark-refused f e = ap (λ (n : ℕ). refused (fault n f.place)) e
 
 pub marks : Marks (λ d s. mark_out (marked (desk_in d) s))
-marks d s m = mark-out (marked (desk_in d) s)
+marks d s m = by_state (eqb (state_fault true (desk_in d)) 0) refl
+  where
+    of_fault
+        : (f : Fault)
+        → Numbered f.number
+        → mark_in
+        (mark_out
+        (pick (eqb f.number 0) (given (mark_of (desk_in d).nest_is (desk_in d).key (read_in (desk_in d) s).gaps)) (refused f)))
+        ≡ pick (eqb f.number 0) (given (mark_of (desk_in d).nest_is (desk_in d).key (read_in (desk_in d) s).gaps)) (refused f)
+    of_fault f h = go (eqb f.number 0) refl
+      where
+        go
+            : (t : Bool)
+            → eqb f.number 0 ≡ t
+            → mark_in (mark_out (pick t (given (mark_of (desk_in d).nest_is (desk_in d).key (read_in (desk_in d) s).gaps)) (refused f)))
+            ≡ pick t (given (mark_of (desk_in d).nest_is (desk_in d).key (read_in (desk_in d) s).gaps)) (refused f)
+        go true e = mark-given (mark_of (desk_in d).nest_is (desk_in d).key (read_in (desk_in d) s).gaps)
+        go false e = mark-refused f (h (eqb-false f.number 0 e))
+
+    by_state
+        : (t : Bool)
+        → eqb (state_fault true (desk_in d)) 0 ≡ t
+        → mark_in (mark_out (marked (desk_in d) s)) ≡ marked (desk_in d) s
+    by_state true e =
+        rw e
+        (of_fault
+        (fault (read_in (desk_in d) s).number (read_in (desk_in d) s).place)
+        (of_text (length (desk_in d).nest_is.points) (desk_in d).nest_is.barred s))
+    by_state false e =
+        rw e
+        (of_fault
+        (fault (state_fault true (desk_in d)) 0)
+        (of_state (not (desk_in d).has_nest) (not (desk_in d).has_key)))
 
 -- ---- a writer
 

@@ -1,8 +1,10 @@
 -- What the public calls promise: reply, desk after, every lent byte.
 -- Main definitions: `EmptySays`, `LoadSays`, `PlanSays`, `ChosenSays`, `CountSays`, `MarkSays`, `WrittenAs`,
 -- `WriteSays`, `OverSays`.
-use Rattle.std.specs.Prelude.{◌≡◌, true, not, List, [], ℕ, eqb, ltb, length}
+use Rattle.std.specs.Prelude.{◌≡◌, true, not, List, [], ℕ, eqb, ltb, length, Result, Ok, Err}
 use Rattle.laws.specs.Choice.{pick, pick_t, when, first_of}
+use Rattle.paper_refusals.specs.declared.Fault as PF
+use Rattle.paper_refusals.specs.Numbers.{number_of}
 use Rattle.paper_nests.specs.Nests.{Dep}
 use Rattle.paper_nests.specs.Loops.{is_do}
 use Rattle.paper_nests.specs.Stored.{nest_in, IsCounted}
@@ -19,10 +21,8 @@ use Rattle.desk.specs.declared.PlainDesk as OD
 use Rattle.desk.specs.declared.Reply as DR
 use Rattle.desk.specs.declared.Answer as DA
 use Rattle.desk.specs.declared.Chosen as DC
-use Rattle.desk.specs.declared.Marked as DM
 use Rattle.desk.specs.declared.Verdict as DV
 use Rattle.desk.specs.declared.Verdict.TheVariants as VV
-use Rattle.desk.specs.declared.Marked.TheVariants as MV
 use Rattle.desk.specs.Desks.{Desk, empty_desk, loaded_desk, with_key, desk_in, over_in, Fault, fault}
 use Rattle.desk.specs.Desks.{state_fault, plan_fault, list_fault, list_uncut}
 
@@ -89,9 +89,9 @@ verdict_in (VV.Uncut i) = Uncut i
 verdict_in (VV.Dearer x) = Dearer x.d x.theirs x.ours
 verdict_in VV.Best = Best
 
-abbrev pub mark_in : DM.Marked → Mark
-mark_in (MV.Refused f) = refused (fault f.number f.line)
-mark_in (MV.Given v) = given (verdict_in v)
+abbrev pub mark_in : Result DV.Verdict PF.Fault → Mark
+mark_in (Err f) = refused (fault (number_of f.refusal) f.line)
+mark_in (Ok v) = given (verdict_in v)
 
 abbrev pub read_in : Desk → List ℕ → Placed
 read_in x s = read_placement (length x.nest_is.points) x.nest_is.barred s
@@ -108,8 +108,13 @@ marked x s =
     (refused (place_fault x s))
 
 -- Mark changes nothing
-abbrev pub MarkSays : DD.Desk → List ℕ → DM.Marked → Type 0
+abbrev pub MarkSays : DD.Desk → List ℕ → Result DV.Verdict PF.Fault → Type 0
 MarkSays d s r = mark_in r ≡ marked (desk_in d) s
+
+-- the number that a state gives, by what stands for numbers; 0 where it gives none
+abbrev pub number_by : {N : Type 0} → (N → ℕ) → Result (Unit {0}) N → ℕ
+number_by number (Ok x) = 0
+number_by number (Err n) = number n
 
 -- a placement as text, where the desk's state gives no number: 9; the text from the start of the buffer, every later
 -- byte as it was, and the length

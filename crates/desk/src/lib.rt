@@ -2,21 +2,23 @@
 // calls; each takes it by value.
 #![tactic(auto)]
 
-ghost use Rattle.std.specs.Prelude.{◌≡◌, true, not};
+ghost use Rattle.std.specs.Prelude.{◌≡◌, true, not, ℕ};
 ghost use Rattle.desk.specs.Desks.{IsMade, IsMadePlain};
 ghost use Rattle.laws.specs.Choice.{when, first_of};
+ghost use Rattle.paper_refusals.specs.Numbers.{number_of, number_in};
 ghost use Rattle.paper_nests.specs.Valid.{is_valid};
 ghost use Rattle.paper_nests.specs.Stored.{nest_in, IsCounted};
 ghost use Rattle.paper_placements.specs.Placements.{are_gaps};
 ghost use Rattle.paper_placements.specs.Words.{gaps_in};
 ghost use Rattle.paper_order.specs.Verdicts.{mark_of};
 ghost use Rattle.desk.specs.Says.{EmptySays, LoadSays, PlanSays, CountSays, MarkSays, WriteSays, OverSays};
-ghost use Rattle.desk.specs.Says.{RefusedAs, NotChosen, WrittenAs, verdict_in};
+ghost use Rattle.desk.specs.Says.{RefusedAs, NotChosen, WrittenAs, number_by, verdict_in};
 
 use desk_moves::Moves;
 use desk_sitting::Sitting;
 use paper_nests::Nest;
-use paper_placements::{Compared, Counts, Placement};
+use paper_placements::{Counts, Placement};
+use paper_refusals::{Fault, Refusal};
 
 // A desk: whether there is a nest, the nest, whether there is a key, the key, the candidate's sitting, the moves that
 // can be taken back.
@@ -69,13 +71,6 @@ pub struct Chosen {
     pub set: Placement,
 }
 
-// The number and the line of a refusal.
-#[derive(Clone, Copy)]
-pub struct Fault {
-    pub number: u8,
-    pub line: usize,
-}
-
 // What the desk says of a placement: the first uncut dependence, or the first loop that is dearer, or best.
 #[derive(Clone, Copy)]
 pub enum Verdict {
@@ -84,10 +79,28 @@ pub enum Verdict {
     Best,
 }
 
-#[derive(Clone, Copy)]
-pub enum Marked {
-    Refused(Fault),
-    Given(Verdict),
+// What stands for the number of a refusal: the refusal, or the number itself.
+pub trait Numbered {
+    ghost number: { Self → ℕ };
+
+    fn number(self) -> u8
+        ensures { result ≡ number self };
+}
+
+impl Numbered for Refusal {
+    ghost number = { number_of };
+
+    fn number(self) -> u8 {
+        u8::from(self)
+    }
+}
+
+impl Numbered for u8 {
+    ghost number = { λ n. n };
+
+    fn number(self) -> u8 {
+        self
+    }
 }
 
 impl Desk {
@@ -111,26 +124,23 @@ impl Desk {
 pub fn load_nest(desk: Desk, text: &[u8]) -> Reply
     ensures { LoadSays desk text.now result }
 {
-    let reading = paper_texts::read_nest(text);
-    let number = reading.number;
-    if number != 0 {
-        return Reply {
-            number: number,
-            line: reading.line,
-            desk: desk,
-        };
-    }
-    let nest = reading.nest;
-    Reply {
-        number: 0,
-        line: reading.line,
-        desk: Desk {
-            loaded: true,
-            nest: nest,
-            planned: false,
-            key: Placement::empty(),
-            sitting: Sitting::empty(nest.many),
-            moves: Moves::empty(),
+    match paper_texts::read_nest(text) {
+        Err(fault) => Reply {
+            number: u8::from(fault.refusal),
+            line: fault.line,
+            desk,
+        },
+        Ok(nest) => Reply {
+            number: 0,
+            line: 0,
+            desk: Desk {
+                loaded: true,
+                nest,
+                planned: false,
+                key: Placement::empty(),
+                sitting: Sitting::empty(nest.many),
+                moves: Moves::empty(),
+            },
         },
     }
 }
@@ -140,37 +150,28 @@ pub fn plan_key(desk: Desk) -> Reply
     requires { IsMade desk }
     ensures { PlanSays desk result }
 {
-    let loaded = desk.loaded;
-    if loaded {
-        let nest = desk.nest;
-        let paper = plan_paper::plan_paper(nest);
-        if paper.blocked {
-            return Reply {
-                number: 15,
-                line: 0,
-                desk: desk,
-            };
-        }
-        let key = paper.key;
-        let sitting = desk.sitting;
-        let moves = desk.moves;
+    if !desk.loaded {
         return Reply {
-            number: 0,
+            number: u8::from(Refusal::NoNest),
             line: 0,
-            desk: Desk {
-                loaded: true,
-                nest: nest,
-                planned: true,
-                key: key,
-                sitting: sitting,
-                moves: moves,
-            },
+            desk,
         };
     }
+    let Some(key) = plan_paper::plan_paper(desk.nest) else {
+        return Reply {
+            number: u8::from(Refusal::Blocked),
+            line: 0,
+            desk,
+        };
+    };
     Reply {
-        number: 10,
+        number: 0,
         line: 0,
-        desk: desk,
+        desk: Desk {
+            planned: true,
+            key,
+            ..desk
+        },
     }
 }
 
@@ -179,47 +180,29 @@ pub fn loop_count(desk: Desk, point: usize) -> Answer
     requires { IsMade desk }
     ensures { CountSays desk point result }
 {
-    let number = key_fault(desk.loaded, desk.planned);
-    if number != 0 {
-        return refused(number);
+    if let Err(refusal) = key_fault(desk.loaded, desk.planned) {
+        return refused(refusal);
     }
-    let nest = desk.nest;
-    let count = nest.count;
-    let points = nest.points;
-    let key = desk.key;
-    if paper_nests::is_do(&points[..count], point) {
-        return Answer {
-            number: 0,
-            line: 0,
-            value: paper_placements::count_of(&points[..count], point, key),
-        };
+    let points = desk.nest.points();
+    if !paper_nests::is_do(points, point) {
+        return refused(Refusal::WrongPoint);
     }
-    refused(6)
+    Answer {
+        number: 0,
+        line: 0,
+        value: paper_placements::count_of(points, point, desk.key),
+    }
 }
 
 // Reads a placement text and says how it stands beside the key. Numbers 10, 11, then 1, 2, 8, 16 with their line.
-pub fn mark_placement(desk: Desk, text: &[u8]) -> Marked
+pub fn mark_placement(desk: Desk, text: &[u8]) -> Result<Verdict, Fault>
     requires { IsMade desk }
     ensures { MarkSays desk text.now result }
 {
-    let number = key_fault(desk.loaded, desk.planned);
-    if number != 0 {
-        return Marked::Refused(Fault {
-            number: number,
-            line: 0,
-        });
-    }
+    key_fault(desk.loaded, desk.planned)?;
     let nest = desk.nest;
-    let reading = paper_texts::read_placement(nest.count, paper_barred::barred_of(nest), text);
-    if reading.number != 0 {
-        return Marked::Refused(Fault {
-            number: reading.number,
-            line: reading.line,
-        });
-    }
-    let placement = reading.placement;
-    let key = desk.key;
-    Marked::Given(judge(nest, key, placement))
+    let placement = paper_texts::read_placement(nest.count, paper_barred::barred_of(nest), text)?;
+    Ok(judge(nest, desk.key, placement))
 }
 
 // Writes the key as text from the start of the buffer. Numbers 10, 11, 9.
@@ -247,10 +230,10 @@ pub fn go_over(old: PlainDesk) -> Desk
     let sitting = Sitting::empty(nest.many);
     let desk = Desk {
         loaded: old.loaded,
-        nest: nest,
+        nest,
         planned: false,
         key: Placement::empty(),
-        sitting: sitting,
+        sitting,
         moves: Moves::empty(),
     };
     if old.planned {
@@ -268,29 +251,32 @@ pub fn judge(nest: Nest, key: Placement, placement: Placement) -> Verdict
     requires words_value_2 { are_gaps (nest_in nest) (gaps_in placement.words) ≡ true }
     ensures { verdict_in result ≡ mark_of (nest_in nest) (gaps_in key.words) (gaps_in placement.words) }
 {
-    let first = paper_placements::uncut(nest, placement);
-    if first != 0 {
-        return Verdict::Uncut(first - 1);
+    if let Some(first) = paper_placements::uncut(nest, placement) {
+        return Verdict::Uncut(first);
     }
-    let count = nest.count;
-    let points = nest.points;
-    let compared = paper_placements::compare(&points[..count], key, placement);
-    match compared {
-        Compared::Differ(counts) => Verdict::Dearer(counts),
-        Compared::Same => Verdict::Best,
+    match paper_placements::compare(&nest.points[..nest.count], key, placement) {
+        Some(counts) => Verdict::Dearer(counts),
+        None => Verdict::Best,
     }
 }
 
-// Writes a placement as text from the start of the buffer, unless the desk's state gives a number. Number 9.
-pub fn write_placement(state: u8, placement: Placement, out: &mut [u8]) -> Answer
-    ensures { WrittenAs state (gaps_in placement.words) out.old out.new result }
+// Writes a placement as text from the start of the buffer, unless the desk's state refuses it. Number 9.
+pub fn write_placement<N: Numbered>(
+    state: Result<(), N>,
+    placement: Placement,
+    out: &mut [u8],
+) -> Answer
+    ensures { WrittenAs (number_by N.number state) (gaps_in placement.words) out.old out.new result }
 {
-    if state != 0 {
-        return refused(state);
+    let number = match state {
+        Ok(()) => 0,
+        Err(refusal) => refusal.number(),
+    };
+    if number != 0 {
+        return refused(number);
     }
-    let length = paper_texts::text_length(placement);
-    if out.len() < length {
-        return refused(9);
+    if out.len() < paper_texts::text_length(placement) {
+        return refused(Refusal::ShortBuffer);
     }
     Answer {
         number: 0,
@@ -299,33 +285,36 @@ pub fn write_placement(state: u8, placement: Placement, out: &mut [u8]) -> Answe
     }
 }
 
-// The number of a call that wants a key: 10 without a nest, 11 without a key, or 0.
-pub fn key_fault(loaded: bool, planned: bool) -> u8
-    ensures { result ≡ first_of (when (not loaded) 10) (when (not planned) 11) }
+// Whether a call that wants a key may go on: 10 without a nest, 11 without a key.
+pub fn key_fault(loaded: bool, planned: bool) -> Result<(), Refusal>
+    ensures { number_in result ≡ first_of (when (not loaded) 10) (when (not planned) 11) }
 {
-    if loaded {
-        if planned { 0 } else { 11 }
-    } else {
-        10
+    if !loaded {
+        return Err(Refusal::NoNest);
     }
+    if !planned {
+        return Err(Refusal::NoKey);
+    }
+    Ok(())
 }
 
-pub fn refused(number: u8) -> Answer
-    ensures { RefusedAs number result }
+// The answer that refuses.
+pub fn refused<N: Numbered>(refusal: N) -> Answer
+    ensures { RefusedAs (N.number refusal) result }
 {
     Answer {
-        number: number,
+        number: refusal.number(),
         line: 0,
         value: 0,
     }
 }
 
 // The reply that chooses nothing.
-pub fn not_chosen(number: u8) -> Chosen
-    ensures { NotChosen number result }
+pub fn not_chosen<N: Numbered>(refusal: N) -> Chosen
+    ensures { NotChosen (N.number refusal) result }
 {
     Chosen {
-        number: number,
+        number: refusal.number(),
         line: 0,
         set: Placement::empty(),
     }

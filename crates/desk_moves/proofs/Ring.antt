@@ -94,10 +94,6 @@ module _ (ring : List DM.Move) (m : DM.Move) (many head n : ℕ) (long : length 
   push_full e h l =
       rw l (written 63 e h (omega arith) ∙ ap (λ (ms : List DM.Move). m ∷ ms) (back_take ring 63 1 head))
 
--- the place before the next
-pub before_next : (i : ℕ) → before (i + 1) ≡ i
-before_next i = let z : i + 1 ≡ suc i = omega arith in rw z
-
 -- ---- one move less
 
 module _ (ring : List DM.Move) (many head : ℕ) (some : 0 < many) where
@@ -116,7 +112,3 @@ module _ (ring : List DM.Move) (many head : ℕ) (some : 0 < many) where
       go : (k : ℕ) → 0 < k → back_from ring (k - 1) at ≡ drop 1 (back_from ring k head)
       go zero h = absurd (omega arith)
       go (suc k) h = let z : suc k - 1 ≡ k = omega arith in rw (z, e)
-
-pub before_inner : (i : ℕ) → (i ≡ 0 → ⊥) → i - 1 ≡ before i
-before_inner zero h = absurd (h refl)
-before_inner (suc i) h = omega arith

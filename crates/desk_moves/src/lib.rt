@@ -42,12 +42,9 @@ impl Moves {
         ensures { PushSays self m result }
     {
         let mut r = self;
-        let at = place_after(r.head);
-        r.ring[at] = m;
-        r.head = at;
-        if r.many < Moves::KEPT {
-            r.many = r.many + 1;
-        }
+        r.head = place_after(r.head);
+        r.ring[r.head] = m;
+        r.many = (r.many + 1).min(Moves::KEPT);
         r
     }
 
@@ -57,8 +54,7 @@ impl Moves {
         requires many_nonzero { 0 < self.many }
         ensures { LatestSays self result }
     {
-        let at = self.head;
-        self.ring[at]
+        self.ring[self.head]
     }
 
     // The moves without the latest.
@@ -67,10 +63,11 @@ impl Moves {
         requires many_nonzero { 0 < self.many }
         ensures { PopSays self result }
     {
-        let mut r = self;
-        r.head = place_before(r.head);
-        r.many = r.many - 1;
-        r
+        Moves {
+            head: place_before(self.head),
+            many: self.many - 1,
+            ..self
+        }
     }
 }
 
@@ -79,10 +76,7 @@ fn place_after(i: usize) -> usize
     requires { i < KEPT }
     ensures { (before result ≡ i) × (result < KEPT) }
 {
-    if i + 1 == Moves::KEPT {
-        return 0;
-    }
-    i + 1
+    if i + 1 == Moves::KEPT { 0 } else { i + 1 }
 }
 
 // The place before place i, round the ring.
@@ -90,8 +84,5 @@ fn place_before(i: usize) -> usize
     requires { i < KEPT }
     ensures { (result ≡ before i) × (result < KEPT) }
 {
-    if i == 0 {
-        return Moves::KEPT - 1;
-    }
-    i - 1
+    if i == 0 { Moves::KEPT - 1 } else { i - 1 }
 }

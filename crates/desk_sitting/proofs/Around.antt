@@ -1,6 +1,6 @@
 -- The walk back from a gap that finds the loops around it.
 -- Main statements: `Walked`, what a turn keeps; `walk_start`, `walk_around`, `walk_over_do`, `walk_over_end`,
--- `walk_over_other`, `walk_done`.
+-- `walk_over_other`.
 use mathlib.Core.Path.{◌≡◌, refl, sym, ap, ◌∙◌}
 use mathlib.Core.Bool.{Bool, true, false, ◌&&◌}
 use mathlib.Core.List.{List}
@@ -190,12 +190,3 @@ module _ (ps : List ℕ) (shape : is_shape ps ≡ true) (g : ℕ) (there : lengt
         → (get_or ps (i - 1) 0 ≡ ENDDO → ⊥)
         → Walked ps g depth (i - 1) table
     walk_over_other = over_other depth (i - 1) table here
-
-pub walk_done
-    : (ps : List ℕ) (g depth i : ℕ) (table : List Bool)
-    → Walked ps g depth i table
-    → i ≤ 0
-    → (d : ℕ)
-    → is_do ps d ≡ true
-    → get_or table d false ≡ is_around ps g d
-walk_done ps g depth i table w h d = w.filled d (omega arith)

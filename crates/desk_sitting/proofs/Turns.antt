@@ -1,5 +1,5 @@
 -- The turn of a move: the dependence that the code reads before i, and the test that it has the gap.
--- Main statements: `turn_of`, `turn_inside`, `gap_told`.
+-- Main statements: `turn_of`, `gap_told`.
 use mathlib.Core.Path.{◌≡◌}
 use mathlib.Core.Bool.{Bool, true, false}
 use mathlib.Core.List.{List, [], ◌∷◌}
@@ -10,7 +10,7 @@ use lib.ListN.{get_or, drop}
 use Rattle.laws.proofs.Tests.{and_true}
 use Rattle.paper_nests.specs.declared.Dependence as DE
 use Rattle.paper_nests.specs.declared.Nest as DN
-use Rattle.paper_nests.specs.Kinds.{INDEPENDENT, DEPENDENCES}
+use Rattle.paper_nests.specs.Kinds.{INDEPENDENT}
 use Rattle.paper_nests.specs.Nests.{Dep}
 use Rattle.paper_nests.specs.Loops.{is_around}
 use Rattle.paper_nests.specs.Gaps.{has_gap}
@@ -46,9 +46,6 @@ module _
   where
     there : i - 1 < nest.many
     there = omega (arith, m.within, ready.counted.many_is)
-
-    pub turn_inside : i - 1 < DEPENDENCES
-    turn_inside = omega (arith, there, ready.counted.many_fits)
 
     here
         : drop (i - 1) (nest_in nest).deps ≡ dep_in (dep_at nest (i - 1)) ∷ drop (suc (i - 1)) (nest_in nest).deps

@@ -42,10 +42,10 @@ pub fn put(nest: Nest, s: Sitting, g: usize) -> Sitting
     requires g_value { holds s.placement.words g ≡ false }
     ensures { PutSays (nest_in nest) g s result }
 {
-    let mut r = recounted(nest, s, g, true);
-    let p = s.placement;
-    r.placement = p.put(g);
-    r
+    Sitting {
+        placement: s.placement.put(g),
+        ..recounted(nest, s, g, true)
+    }
 }
 
 // The sitting without the barrier at gap g.
@@ -54,10 +54,10 @@ pub fn lift(nest: Nest, s: Sitting, g: usize) -> Sitting
     requires g_value { holds s.placement.words g ≡ true }
     ensures { LiftSays (nest_in nest) g s result }
 {
-    let mut r = recounted(nest, s, g, false);
-    let p = s.placement;
-    r.placement = lifted(p, g);
-    r
+    Sitting {
+        placement: lifted(s.placement, g),
+        ..recounted(nest, s, g, false)
+    }
 }
 
 // The sitting with the counts of one more barrier, at gap g, or of one less; its placement is still the old one.
@@ -66,17 +66,12 @@ fn recounted(nest: Nest, s: Sitting, g: usize, put: bool) -> Sitting
     requires g_value { holds s.placement.words g ≡ not put }
     ensures { CountsAre (nest_in nest) (after_move put g (barriers s)) result }
 {
-    let count = nest.count;
-    let points = nest.points;
-    let around = loops_around(&points[..count], g);
+    let around = loops_around(nest.points(), g);
     let mut counts = s.counts;
     let mut uncut = s.uncut;
-    let mut i = nest.many;
-    while 0 < i {
-        i -= 1;
+    for i in (0..nest.many).rev() {
         let e = nest.deps[i];
-        let d = e.d as usize;
-        if has_gap(e, g, around[d]) {
+        if has_gap(e, g, around[e.d as usize]) {
             let c = counts[i];
             if put {
                 counts[i] = c + 1;
@@ -91,12 +86,7 @@ fn recounted(nest: Nest, s: Sitting, g: usize, put: bool) -> Sitting
             }
         }
     }
-    let p = s.placement;
-    Sitting {
-        placement: p,
-        counts: counts,
-        uncut: uncut,
-    }
+    Sitting { counts, uncut, ..s }
 }
 
 // Of each DO before gap g, whether its loop is around the gap: one walk back from the gap.
@@ -107,18 +97,12 @@ fn loops_around(points: &[u8], g: usize) -> [bool; Nest::POINTS]
 {
     let mut around = [false; Nest::POINTS];
     let mut depth: usize = 0;
-    let mut i = g;
-    while 0 < i {
-        i -= 1;
-        let p = points[i];
-        if p == paper_nests::DO {
-            if depth == 0 {
-                around[i] = true;
-            } else {
-                depth -= 1;
-            }
-        } else if p == paper_nests::ENDDO {
-            depth += 1;
+    for i in (0..g).rev() {
+        match points[i] {
+            paper_nests::DO if depth == 0 => around[i] = true,
+            paper_nests::DO => depth -= 1,
+            paper_nests::ENDDO => depth += 1,
+            _ => {}
         }
     }
     around
@@ -131,22 +115,13 @@ fn has_gap(e: Dependence, g: usize, around: bool) -> bool
     let s = e.s as usize;
     let t = e.t as usize;
     if e.kind == paper_nests::INDEPENDENT {
-        if s < g {
-            return g <= t;
-        }
-        return false;
+        return s < g && g <= t;
     }
     if s < g {
-        if around {
-            return true;
-        }
-        return g <= t;
+        return around || g <= t;
     }
     let d = e.d as usize;
-    if d < g {
-        return g <= t;
-    }
-    false
+    d < g && g <= t
 }
 
 // The placement without gap g, which it holds.
@@ -156,7 +131,6 @@ fn lifted(p: Placement, g: usize) -> Placement
     ensures { (i : ℕ) → holds result.words i ≡ (not (eqb i g) && holds p.words i) }
 {
     let mut q = p;
-    let at = g / 64;
-    q.words[at] = q.words[at] ^ (1 << (g % 64));
+    q.words[g / 64] ^= 1 << (g % 64);
     q
 }

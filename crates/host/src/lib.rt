@@ -35,8 +35,9 @@ use call_runs::Calls;
 use call_shape::Shape;
 use call_sheet::RunEnds;
 use call_standing::Standing;
-use desk::{Answer, Chosen, Desk, Marked, PlainDesk, Reply, Verdict};
+use desk::{Answer, Chosen, Desk, PlainDesk, Reply, Verdict};
 use paper_nests::Dependence;
+use paper_refusals::Fault;
 
 // Mark's answer in numbers alone: the number and the line of a refusal, or 0 and 0 with the verdict's code. Uncut (0)
 // has a dependence in a; Dearer (1) has a loop in a, their count in b and our count in c; Best is 2. All else is 0.
@@ -135,9 +136,9 @@ pub extern "C" fn desk_list(desk: Desk, list: &[u8]) -> Answer
 {
     let ends = call_list::ends_on(desk);
     let mut found = call_list::begin(desk);
-    let mut i: usize = 0;
-    let mut at: usize = 0;
-    while RECORD <= list.len() - at {
+    let records = list.len() / RECORD;
+    for i in 0..records {
+        let at = i * RECORD;
         let e = Dependence {
             kind: list[at],
             d: list[at + 1],
@@ -145,17 +146,16 @@ pub extern "C" fn desk_list(desk: Desk, list: &[u8]) -> Answer
             t: list[at + 3],
         };
         found = call_list::step(desk, ends, found, e, i);
-        i += 1;
-        at += RECORD;
     }
-    if at < list.len() {
+    let end = records * RECORD;
+    if end < list.len() {
         let none = Dependence {
             kind: 0,
             d: 0,
             s: 0,
             t: 0,
         };
-        return call_list::step(desk, ends, found, none, i);
+        return call_list::step(desk, ends, found, none, records);
     }
     found
 }
@@ -358,19 +358,19 @@ pub extern "C" fn desk_version() -> Version
 }
 
 // Mark's answer in numbers.
-fn in_numbers(marked: Marked) -> Mark
+fn in_numbers(marked: Result<Verdict, Fault>) -> Mark
     ensures { result ≡ mark_out (mark_in marked) }
 {
     match marked {
-        Marked::Refused(fault) => Mark {
-            number: fault.number,
+        Err(fault) => Mark {
+            number: u8::from(fault.refusal),
             line: fault.line,
             verdict: 0,
             a: 0,
             b: 0,
             c: 0,
         },
-        Marked::Given(verdict) => given(verdict),
+        Ok(verdict) => given(verdict),
     }
 }
 
@@ -391,9 +391,9 @@ fn coded(verdict: u8, a: usize, b: usize, c: usize) -> Mark
     Mark {
         number: 0,
         line: 0,
-        verdict: verdict,
-        a: a,
-        b: b,
-        c: c,
+        verdict,
+        a,
+        b,
+        c,
     }
 }

@@ -7,15 +7,19 @@ use mathlib.Core.Bool.{true, false}
 use mathlib.Core.List.{List}
 use Prim.Native.Nat.{ℕ, ◌≤◌, ◌<◌}
 use native.Mathlib.Omega.{arith}
+use Rattle.std.proofs.Common.{Ok, Err}
 use lib.ListN.{length, drop, length-append}
 use borrow.Author.Tests.{lt-ltb, le-ltb, eq-eqb}
+use Rattle.paper_refusals.specs.declared.Fault.{Fault}
+use Rattle.paper_refusals.specs.Numbers.{number_of}
+use Rattle.paper_refusals.proofs.Numbers.{never_zero}
+use Rattle.paper_nests.specs.declared.Nest as DN
 use Rattle.paper_nests.specs.Nests.{Nest}
 use Rattle.paper_nests.specs.Valid.{is_valid}
 use Rattle.paper_nests.specs.Stored.{nest_in}
 use Rattle.paper_lines.specs.Writing.{over}
 use Rattle.paper_placements.specs.Placements.{are_gaps}
 use Rattle.paper_placements.specs.Words.{gaps_in}
-use Rattle.paper_texts.specs.declared.Reading.{Reading}
 use Rattle.paper_texts.specs.NestTexts.{Got, read_nest}
 use Rattle.paper_texts.specs.Program.{LONGEST, refusal_text, planned_text, program_text}
 use Rattle.paper_texts.specs.Reads.{IsRead}
@@ -72,74 +76,65 @@ unfolding program_text
 answer_long input o out r long =
     by-text input o out r (refusal_text 5 0) (rw (lt-ltb LONGEST (length input) long))
 
--- a text that is read
-module _ (input : List ℕ) (short : length input ≤ LONGEST) (g : Reading) (read : IsRead input g) where
-  number_is : g.number ≡ (read_nest input).number
+-- a text that is refused: its line fits two bytes, and the refusal is written
+module _ (input : List ℕ) (short : length input ≤ LONGEST) (f : Fault) (read : IsRead input (Err f)) where
+  number_is : number_of f.refusal ≡ (read_nest input).number
   number_is = ap (λ (x : Got). x.number) read.got_is
 
-  place_is : g.line ≡ (read_nest input).place
+  place_is : f.line ≡ (read_nest input).place
   place_is = ap (λ (x : Got). x.place) read.got_is
 
-  nest_is : nest_in g.nest ≡ (read_nest input).nest_is
-  nest_is = ap (λ (x : Got). x.nest_is) read.got_is
-
-  -- a refusal's line fits two bytes
-  pub line_fits : g.line < LINES
+  pub line_fits : f.line < LINES
   line_fits = omega (arith, place_is, place_within input)
 
-  -- an accepted text's nest is valid
-  pub accepted_nest : g.number ≡ 0 → is_valid (nest_in g.nest) ≡ true
-  accepted_nest h = ap is_valid nest_is ∙ accepted_valid input (sym number_is ∙ h)
+  refused_text : answer_to input ≡ refusal_text (number_of f.refusal) f.line
+  refused_text =
+      program_refused input (key_of (read_nest input).nest_is) short (λ z. never_zero f.refusal (number_is ∙ z)) ∙
+      rw (number_is, place_is)
 
-  refused_text
-      : (g.number ≡ 0 → ⊥)
-      → answer_to input ≡ refusal_text g.number g.line
-  refused_text h =
-      program_refused input (key_of (read_nest input).nest_is) short (λ z. h (number_is ∙ z)) ∙ rw (number_is, place_is)
+  pub answer_refused
+      : (o out : List ℕ) (r : ℕ)
+      → r ≡ length (refusal_text (number_of f.refusal) f.line)
+      → out ≡ over (refusal_text (number_of f.refusal) f.line) o
+      → Answered input o out r
+  answer_refused o out r = by-text input o out r (refusal_text (number_of f.refusal) f.line) refused_text
 
-  nest-text : g.number ≡ 0 → answer_to input ≡ planned_text (nest_in g.nest) (key_of (nest_in g.nest))
-  nest-text h =
-      program_read input (key_of (read_nest input).nest_is) short (sym number_is ∙ h) ∙
+-- a text that is accepted: its nest is valid, and the key and the counts are written, or that it is blocked
+module _ (input : List ℕ) (short : length input ≤ LONGEST) (n : DN.Nest) (read : IsRead input (Ok n)) where
+  nest_is : nest_in n ≡ (read_nest input).nest_is
+  nest_is = ap (λ (x : Got). x.nest_is) read.got_is
+
+  none : (read_nest input).number ≡ 0
+  none = ap (λ (x : Got). x.number) (sym read.got_is)
+
+  pub accepted_nest : is_valid (nest_in n) ≡ true
+  accepted_nest = ap is_valid nest_is ∙ accepted_valid input none
+
+  nest-text : answer_to input ≡ planned_text (nest_in n) (key_of (nest_in n))
+  nest-text =
+      program_read input (key_of (read_nest input).nest_is) short none ∙
       ap (λ (x : Nest). planned_text x (key_of x)) (sym nest_is)
 
-  key-text
-      : (ws : List ℕ)
-      → g.number ≡ 0
-      → is_blocked (nest_in g.nest) ≡ false
-      → gaps_in ws ≡ key_of (nest_in g.nest)
-      → answer_to input ≡ key_and_counts (nest_in g.nest) (gaps_in ws)
-  key-text ws h o e =
-      nest-text h ∙ planned_open (nest_in g.nest) (key_of (nest_in g.nest)) o ∙
-      ap (key_and_counts (nest_in g.nest)) (sym e)
-
-  -- refused: the refusal is written; accepted: the key and the counts
   module _ (o out : List ℕ) (r : ℕ) where
-    pub answer_refused
-        : (g.number ≡ 0 → ⊥)
-        → r ≡ length (refusal_text g.number g.line)
-        → out ≡ over (refusal_text g.number g.line) o
-        → Answered input o out r
-    answer_refused h = by-text input o out r (refusal_text g.number g.line) (refused_text h)
-
     pub answer_blocked
-        : g.number ≡ 0
-        → is_blocked (nest_in g.nest) ≡ true
+        : is_blocked (nest_in n) ≡ true
         → r ≡ length (refusal_text 15 0)
         → out ≡ over (refusal_text 15 0) o
         → Answered input o out r
-    answer_blocked h b =
+    answer_blocked b =
         by-text input o out r (refusal_text 15 0)
-        (nest-text h ∙ planned_blocked (nest_in g.nest) (key_of (nest_in g.nest)) b)
+        (nest-text ∙ planned_blocked (nest_in n) (key_of (nest_in n)) b)
 
     pub answer_key
         : (ws : List ℕ)
-        → g.number ≡ 0
-        → is_blocked (nest_in g.nest) ≡ false
-        → gaps_in ws ≡ key_of (nest_in g.nest)
-        → r ≡ length (key_and_counts (nest_in g.nest) (gaps_in ws))
-        → out ≡ over (key_and_counts (nest_in g.nest) (gaps_in ws)) o
+        → is_blocked (nest_in n) ≡ false
+        → gaps_in ws ≡ key_of (nest_in n)
+        → r ≡ length (key_and_counts (nest_in n) (gaps_in ws))
+        → out ≡ over (key_and_counts (nest_in n) (gaps_in ws)) o
         → Answered input o out r
-    answer_key ws h b e = by-text input o out r (key_and_counts (nest_in g.nest) (gaps_in ws)) (key-text ws h b e)
+    answer_key ws h e =
+        by-text input o out r (key_and_counts (nest_in n) (gaps_in ws))
+        (nest-text ∙ planned_open (nest_in n) (key_of (nest_in n)) h ∙ ap (key_and_counts (nest_in n)) (sym e))
 
 -- an answer lies within the buffer
 pub answer_within : (input o out : List ℕ) (r : ℕ) → Answered input o out r → r ≤ length out

@@ -1,29 +1,18 @@
--- How long the program's texts are, and that the halves of line numbers are bytes.
--- Main statements: `line_halves`, `key_room`.
+-- How long the program's texts are.
+-- Main statement: `key_room`.
 use mathlib.Core.Path.{◌≡◌}
 use mathlib.Core.Bool.{true}
-use mathlib.Core.List.{List, [], ◌∷◌}
-use Prim.Native.Nat.{ℕ, ◌+◌, ◌*◌, ◌/◌, ◌%◌, ◌≤◌, ◌<◌}
+use mathlib.Core.List.{List}
+use Prim.Native.Nat.{ℕ, ◌+◌, ◌*◌, ◌≤◌}
 use native.Mathlib.Omega.{arith}
 use lib.ListN.{length}
 use Rattle.paper_nests.specs.Kinds.{POINTS}
 use Rattle.paper_nests.specs.Nests.{Nest}
-use Rattle.paper_lines.specs.Lines.{line_text}
 use Rattle.paper_placements.specs.Placements.{are_gaps}
 use Rattle.paper_placements.proofs.GapLists.{rising_length}
 use Rattle.paper_texts.specs.PlacementTexts.{key_text}
-use Rattle.paper_texts.specs.Program.{REFUSAL, refusal_text}
 use Rattle.paper_texts.proofs.Written.{key_bytes}
-use Rattle.key_answer.specs.Answers.{ROOM, LINES}
-
--- a line number in two bytes
-pub line_halves
-    : (number line : ℕ)
-    → line < LINES
-    → line_text (REFUSAL ∷ (number ∷ (line / 256 % 256 ∷ (line % 256 ∷ [])))) ≡ refusal_text number line
-line_halves number line h =
-    let high : line / 256 % 256 ≡ line / 256 = omega arith in
-    rw high
+use Rattle.key_answer.specs.Answers.{ROOM}
 
 -- the buffer has room for the key and the counts
 pub key_room

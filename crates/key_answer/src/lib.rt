@@ -2,6 +2,7 @@
 #![tactic(auto)]
 
 ghost use Rattle.std.specs.Prelude.{◌≡◌, true, ◌<◌, ◌≤◌, length};
+ghost use Rattle.paper_refusals.specs.Numbers.{number_of};
 ghost use Rattle.paper_nests.specs.Valid.{is_valid};
 ghost use Rattle.paper_nests.specs.Stored.{nest_in, IsCounted};
 ghost use Rattle.paper_lines.specs.Writing.{over};
@@ -13,6 +14,7 @@ ghost use Rattle.key_answer.specs.Answers.{ROOM, LINES, key_and_counts, Answered
 use paper_lines::put_frame;
 use paper_nests::Nest;
 use paper_placements::Placement;
+use paper_refusals::{Fault, Refusal};
 use paper_texts::{read_nest, write_counts, write_text};
 use plan_paper::plan_paper;
 
@@ -29,20 +31,16 @@ pub fn answer(input: &[u8], out: &mut [u8]) -> usize
     ensures { Answered input.now out.old out.new result }
 {
     if LONGEST < input.len() {
-        return write_refusal(5, 0, out);
+        return write_refusal(Fault::from(Refusal::TooMany), out);
     }
-    let reading = read_nest(input);
-    let number = reading.number;
-    if number != 0 {
-        return write_refusal(number, reading.line, out);
+    let nest = match read_nest(input) {
+        Err(fault) => return write_refusal(fault, out),
+        Ok(nest) => nest,
+    };
+    match plan_paper(nest) {
+        None => write_refusal(Fault::from(Refusal::Blocked), out),
+        Some(key) => write_both(nest, key, out),
     }
-    let nest = reading.nest;
-    let paper = plan_paper(nest);
-    if paper.blocked {
-        return write_refusal(15, 0, out);
-    }
-    let key = paper.key;
-    write_both(nest, key, out)
 }
 
 // Writes a key's frames, then the counts; gives the length.
@@ -54,22 +52,21 @@ fn write_both(nest: Nest, key: Placement, out: &mut [u8]) -> usize
     ensures value { result ≡ length (key_and_counts (nest_in nest) (gaps_in key.words)) }
     ensures out_after { out.new ≡ over (key_and_counts (nest_in nest) (gaps_in key.words)) out.old }
 {
-    let count = nest.count;
-    let points = nest.points;
     let at = write_text(key, out);
-    at + write_counts(&points[..count], key, &mut out[at..])
+    at + write_counts(nest.points(), key, &mut out[at..])
 }
 
 // Writes a refusal: number, and line in two bytes, high first; gives the length.
-fn write_refusal(number: u8, line: usize, out: &mut [u8]) -> usize
-    requires line_bound { line < LINES }
+fn write_refusal(fault: Fault, out: &mut [u8]) -> usize
+    requires line_bound { fault.line < LINES }
     requires in_bounds { ROOM ≤ length out.old }
-    ensures value { result ≡ length (refusal_text number line) }
-    ensures out_after { out.new ≡ over (refusal_text number line) out.old }
+    ensures value { result ≡ length (refusal_text (number_of fault.refusal) fault.line) }
+    ensures out_after { out.new ≡ over (refusal_text (number_of fault.refusal) fault.line) out.old }
 {
+    let line = fault.line;
     let frame = [
         REFUSAL,
-        number,
+        u8::from(fault.refusal),
         (line / 256 % 256) as u8,
         (line % 256) as u8,
     ];

@@ -22,9 +22,9 @@ use Rattle.plan_theorem.proofs.KeyIsKey.{key_is_key}
 use Rattle.paper_lines.specs.Lines.{lines_of, frame_of}
 use Rattle.paper_texts.specs.NestTexts as T
 use Rattle.paper_texts.proofs.TextCases.{P-lines}
-use Rattle.desk.specs.declared.Fault as DF
 use Rattle.desk.specs.declared.Verdict as DV
 use Rattle.desk.specs.declared.Verdict.TheVariants as VV
+use Rattle.desk.specs.Desks.{Fault}
 use Rattle.pages.specs.Demands.{In, HowMany, Rising, Loop, Own, Paper, Valid, Gaps, Correct, Best, Key}
 use Rattle.pages.specs.Demands.{Spells, Says}
 use Rattle.pages.specs.Numbers.{IsGap, LoadNumber}
@@ -59,10 +59,10 @@ Accepts load = (t : List ℕ) → (load t ≡ true) ↔ ((p : Paper) × Spells t
 
 -- the numbers of Load
 abbrev pub Reader : Type 0
-Reader = List ℕ → DF.Fault
+Reader = List ℕ → Fault
 
 abbrev pub Reads : Reader → Type 0
-Reads read = (t : List ℕ) → LoadNumber t (read t).number (read t).line
+Reads read = (t : List ℕ) → LoadNumber t (read t).number (read t).place
 
 -- ---- small papers
 
@@ -226,13 +226,13 @@ accepts_fails load says keeps =
 -- a text of no byte refused as one without points (02, job 3)
 blank_fails : (read : Reader) → (read []).number ≡ 4 → Reads read → ⊥
 blank_fails read says keeps =
-    let r = load_is [] (read []).number (read []).line (keeps []) in
+    let r = load_is [] (read []).number (read []).place (keeps []) in
     omega (arith, blank_accepted, r.0)
 
 -- lines counted from 0
-zero_fails : (read : Reader) → ((t : List ℕ) → (read t).line ≡ 0) → Reads read → ⊥
+zero_fails : (read : Reader) → ((t : List ℕ) → (read t).place ≡ 0) → Reads read → ⊥
 zero_fails read says keeps =
-    let r = load_is (10 ∷ []) (read (10 ∷ [])).number (read (10 ∷ [])).line (keeps (10 ∷ [])) in
+    let r = load_is (10 ∷ []) (read (10 ∷ [])).number (read (10 ∷ [])).place (keeps (10 ∷ [])) in
     let z : ◌≡◌ {A = ℕ} 1 0 = sym (ap (λ (g : T.Got). g.place) feed_read) ∙ r.1 ∙ says (10 ∷ []) in
     omega arith
 
@@ -240,8 +240,8 @@ zero_fails read says keeps =
 one_number_fails
     : (read : Reader) (n : ℕ) → ((t : List ℕ) → ((read t).number ≡ 0) ⊎ ((read t).number ≡ n)) → Reads read → ⊥
 one_number_fails read n says keeps =
-    let r = load_is (10 ∷ []) (read (10 ∷ [])).number (read (10 ∷ [])).line (keeps (10 ∷ [])) in
-    let q = load_is (48 ∷ 51 ∷ 10 ∷ []) (read (48 ∷ 51 ∷ 10 ∷ [])).number (read (48 ∷ 51 ∷ 10 ∷ [])).line
+    let r = load_is (10 ∷ []) (read (10 ∷ [])).number (read (10 ∷ [])).place (keeps (10 ∷ [])) in
+    let q = load_is (48 ∷ 51 ∷ 10 ∷ []) (read (48 ∷ 51 ∷ 10 ∷ [])).number (read (48 ∷ 51 ∷ 10 ∷ [])).place
     (keeps (48 ∷ 51 ∷ 10 ∷ [])) in
     let a : (read (10 ∷ [])).number ≡ 1 = sym r.0 ∙ ap (λ (g : T.Got). g.number) feed_read in
     let b : (read (48 ∷ 51 ∷ 10 ∷ [])).number ≡ 4 = sym q.0 ∙ ap (λ (g : T.Got). g.number) early_read in
@@ -283,10 +283,10 @@ pub record PagesExclude : Type 0 where
   pub loader : Accepts (λ t. eqb (T.read_nest t).number 0)
   -- the page of the numbers
   pub blank_refused : (read : Reader) → (read []).number ≡ 4 → Reads read → ⊥
-  pub lines_from_0 : (read : Reader) → ((t : List ℕ) → (read t).line ≡ 0) → Reads read → ⊥
+  pub lines_from_0 : (read : Reader) → ((t : List ℕ) → (read t).place ≡ 0) → Reads read → ⊥
   pub one_number
       : (read : Reader) (n : ℕ) → ((t : List ℕ) → ((read t).number ≡ 0) ⊎ ((read t).number ≡ n)) → Reads read → ⊥
-  pub reader : Reads (λ t. record { number = (T.read_nest t).number; line = (T.read_nest t).place })
+  pub reader : Reads (λ t. record { number = (T.read_nest t).number; place = (T.read_nest t).place })
 
 pub pages_exclude : PagesExclude
 pages_exclude =

@@ -10,9 +10,11 @@ use lib.Dec.{eqb, ltb}
 use lib.ListN.{length, take, drop, get_or}
 use lib.Seq.{drop-append_seam}
 use borrow.Author.Tests.{eq-eqb, ne_eqb, eqb-true, ltb-false, le-ltb}
+use Rattle.std.proofs.Common.{Result, Ok, Err}
 use Rattle.laws.specs.Bits.{bit}
 use Rattle.laws.specs.Choice.{pick_t, when, is_in}
 use Rattle.laws.proofs.Tests.{never_both, eq_or, le_or, bool_by}
+use Rattle.paper_refusals.specs.declared.Fault as PF
 use Rattle.paper_nests.specs.declared.Dependence as DE
 use Rattle.paper_nests.specs.Nests.{Nest}
 use Rattle.paper_nests.specs.Valid.{is_valid}
@@ -34,8 +36,7 @@ use Rattle.paper_texts.proofs.PlacedTexts.{placed_spelling, placed_spells}
 use Rattle.desk.specs.declared.Desk as DD
 use Rattle.desk.specs.declared.Reply as DR
 use Rattle.desk.specs.declared.Answer as DA
-use Rattle.desk.specs.declared.Marked as DM
-use Rattle.desk.specs.declared.Marked.TheVariants as MV
+use Rattle.desk.specs.declared.Verdict as DV
 use Rattle.desk.specs.Desks.{Desk, desk_in, IsMade, state_fault, fault}
 use Rattle.desk.specs.Says.{PlanSays, MarkSays, WriteSays, mark_in, verdict_in, marked, write_fault}
 use Rattle.desk.specs.Says.{given, refused}
@@ -48,7 +49,7 @@ use Rattle.pages.specs.Demands.{Paper, paper_in, Spells, Places}
 use Rattle.pages.specs.Demands.{Since, SetIn, KeyOn, Marks, Planned, Demands}
 use Rattle.pages.proofs.Lists.{in_is, is-in}
 use Rattle.pages.proofs.Placements.{nest_of, nest_of_paper}
-use Rattle.pages.proofs.Placements.{rising_is, is_rising, counted, correct_is}
+use Rattle.pages.proofs.Placements.{rising_is, is_rising, correct_is}
 use Rattle.pages.proofs.Keys.{shaped, key-of}
 use Rattle.pages.proofs.Texts.{means_page, page_means, page_placed, placed_page, one_placed, unmapped, unmap}
 use Rattle.pages.proofs.Texts.{map_back}
@@ -230,15 +231,15 @@ module _ (d : DD.Desk) (m : IsMade d) (key : List ℕ) (k : KeyOn d key) where
       : (t : List ℕ) → ((read t).number ≡ 0 → ⊥) → marked (desk_in d) t ≡ refused (fault (read t).number (read t).place)
   mark_refused t z = rw (eq-eqb (state_fault true (desk_in d)) 0 state, ne_eqb (read t).number 0 z)
 
-  mark_means : (t : List ℕ) (x : DM.Marked) → MarkSays d t x → Marks (paper_on d) key t x
+  mark_means : (t : List ℕ) (x : Result DV.Verdict PF.Fault) → MarkSays d t x → Marks (paper_on d) key t x
   mark_means t x h =
       ⊎_elim (λ z. yes z x (h ∙ mark_read t z)) (λ z. not_read z x (h ∙ mark_refused t z)) (eq_or (read t).number 0)
     where
       yes
-          : (read t).number ≡ 0 → (x : DM.Marked) → mark_in x ≡ given (mark_of nest key (read t).gaps)
+          : (read t).number ≡ 0 → (x : Result DV.Verdict PF.Fault) → mark_in x ≡ given (mark_of nest key (read t).gaps)
           → Marks (paper_on d) key t x
-      yes z (MV.Refused f) e = let q : ◌≡◌ {A = ℕ} 0 1 = cc e in absurd (omega arith)
-      yes z (MV.Given v) e =
+      yes z (Err f) e = let q : ◌≡◌ {A = ℕ} 0 1 = cc e in absurd (omega arith)
+      yes z (Ok v) e =
           let s = placed_spells (length (paper_on d).points) (paper_on d).barred t z in
           let w : verdict_in v ≡ mark_of nest key (read t).gaps = cc e in (
             (read t).gaps,
@@ -249,10 +250,11 @@ module _ (d : DD.Desk) (m : IsMade d) (key : List ℕ) (k : KeyOn d key) where
           )
 
       not_read
-          : ((read t).number ≡ 0 → ⊥) → (x : DM.Marked) → mark_in x ≡ refused (fault (read t).number (read t).place)
+          : ((read t).number ≡ 0 → ⊥) → (x : Result DV.Verdict PF.Fault)
+          → mark_in x ≡ refused (fault (read t).number (read t).place)
           → Marks (paper_on d) key t x
-      not_read z (MV.Given v) e = let q : ◌≡◌ {A = ℕ} 0 1 = cc e in absurd (omega arith)
-      not_read z (MV.Refused f) e =
+      not_read z (Ok v) e = let q : ◌≡◌ {A = ℕ} 0 1 = cc e in absurd (omega arith)
+      not_read z (Err f) e =
           λ gs s.
           z (ap (λ (y : Placed). y.number)
           ((placed_spelling (length (paper_on d).points) (paper_on d).barred t gs few).1

@@ -9,8 +9,11 @@ use native.Mathlib.Omega.{arith}
 use lib.Dec.{eqb, ltb}
 use lib.ListN.{length, get_or}
 use borrow.Author.Tests.{eq-eqb, ne_eqb, eqb-true, ltb-true, ltb-false, not-true}
+use Rattle.std.proofs.Common.{Err}
 use Rattle.laws.specs.Choice.{pick, when, first_of, is_in}
 use Rattle.laws.proofs.Tests.{never, never_both, test, false_by, or-true, eq_or}
+use Rattle.paper_refusals.specs.declared.Fault as PF
+use Rattle.paper_refusals.specs.Numbers.{number_of}
 use Rattle.paper_nests.specs.declared.Dependence as DE
 use Rattle.paper_nests.specs.Nests.{Nest}
 use Rattle.paper_nests.specs.Loops.{is_do}
@@ -31,8 +34,6 @@ use Rattle.paper_order.specs.Verdicts.{mark_of}
 use Rattle.desk.specs.declared.Desk as DD
 use Rattle.desk.specs.declared.Reply as DR
 use Rattle.desk.specs.declared.Answer as DA
-use Rattle.desk.specs.declared.Fault as DF
-use Rattle.desk.specs.declared.Marked.TheVariants as MV
 use Rattle.desk.specs.Desks.{desk_in, IsMade, state_fault, plan_fault, Fault, fault, list_fault, list_uncut}
 use Rattle.desk.specs.Says.{PlanSays, CountSays, MarkSays, WriteSays, ListSays, count_fault, write_fault}
 use Rattle.desk.specs.Says.{check_fault, marked, Mark, given, refused}
@@ -309,8 +310,8 @@ list_kept d xs a m t h =
 -- ---- Mark
 
 mark_kept
-    : (d : DD.Desk) (t : List ℕ) (f : DF.Fault) → IsMade d → InTurn d → MarkSays d t (MV.Refused f)
-    → PlaceNumber (paper_on d) t f.number f.line
+    : (d : DD.Desk) (t : List ℕ) (f : PF.Fault) → IsMade d → InTurn d → MarkSays d t (Err f)
+    → PlaceNumber (paper_on d) t (number_of f.refusal) f.line
 mark_kept d t f m turn h = ⊎_elim (λ z. absurd (given_so z)) (λ z. refused_so z) (eq_or g.number 0)
   where
     g : Placed
@@ -323,11 +324,11 @@ mark_kept d t f m turn h = ⊎_elim (λ z. absurd (given_so z)) (λ z. refused_s
         let w : ◌≡◌ {A = ℕ} 0 1 = cc (h ∙ e) in
         omega arith
 
-    refused_so : (g.number ≡ 0 → ⊥) → PlaceNumber (paper_on d) t f.number f.line
+    refused_so : (g.number ≡ 0 → ⊥) → PlaceNumber (paper_on d) t (number_of f.refusal) f.line
     refused_so z =
         let e : marked (desk_in d) t ≡ refused (fault g.number g.place) =
         rw (eq-eqb (state_fault true (desk_in d)) 0 (in_turn d turn), ne_eqb g.number 0 z) in
-        let n : f.number ≡ g.number = ap (λ (x : Mark). (fault_in x).number) (h ∙ e) in
+        let n : number_of f.refusal ≡ g.number = ap (λ (x : Mark). (fault_in x).number) (h ∙ e) in
         let k : f.line ≡ g.place = ap (λ (x : Mark). (fault_in x).place) (h ∙ e) in
         subst (λ (j : ℕ). PlaceNumber (paper_on d) t j f.line) (sym n)
         (subst (λ (j : ℕ). PlaceNumber (paper_on d) t g.number j) (sym k)

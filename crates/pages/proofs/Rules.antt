@@ -21,7 +21,7 @@ use Rattle.paper_nests.specs.Valid.{are_flags, is_valid}
 use Rattle.paper_nests.specs.Stored.{dep_in}
 use Rattle.paper_nests.proofs.Levels.{point_in}
 use Rattle.paper_nests.proofs.Loops.{inside_by}
-use Rattle.paper_nests.proofs.Deps.{Fits, Valid, valid_is, is-valid, dep_fits, target_and_loop}
+use Rattle.paper_nests.proofs.Deps.{Fits, valid_is, is-valid, dep_fits, target_and_loop}
 use Rattle.paper_nests.proofs.Bars.{gap_within, bar_is_gap}
 use Rattle.paper_nests.proofs.Ring.{one_loop_is_first, first_is_one_loop}
 use Rattle.pages.specs.Demands as P

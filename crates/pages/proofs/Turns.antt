@@ -8,15 +8,16 @@ use native.Mathlib.Omega.{arith}
 use lib.Dec.{eqb, ltb}
 use lib.ListN.{length}
 use borrow.Author.Tests.{ne_eqb}
+use Rattle.std.proofs.Common.{Result, Ok, Err}
 use Rattle.laws.specs.Choice.{pick, when, first_of}
+use Rattle.paper_refusals.specs.declared.Fault as PF
+use Rattle.paper_refusals.specs.Numbers.{number_of}
 use Rattle.paper_order.specs.Verdicts.{mark_of}
 use Rattle.paper_texts.specs.PlacementTexts.{key_text}
 use Rattle.desk.specs.declared.Desk as DD
 use Rattle.desk.specs.declared.Reply as DR
 use Rattle.desk.specs.declared.Answer as DA
-use Rattle.desk.specs.declared.Fault as DF
-use Rattle.desk.specs.declared.Marked as DM
-use Rattle.desk.specs.declared.Marked.TheVariants as MV
+use Rattle.desk.specs.declared.Verdict as DV
 use Rattle.call_moves.specs.declared.Moved as DS
 use Rattle.desk.specs.Desks.{Desk, desk_in, state_fault, plan_fault, Fault, fault}
 use Rattle.desk.specs.Says.{PlanSays, MarkSays, WriteSays, mark_in, read_in, place_fault, write_fault, Mark, given, refused}
@@ -56,15 +57,15 @@ fault_in (refused f) = f
 fault_in (given v) = fault 0 0
 
 refused_is
-    : (m : DM.Marked) (n : ℕ) → mark_in m ≡ refused (fault n 0)
-    → (f : DF.Fault) × ((m ≡ MV.Refused f) × (f.number ≡ n) × (f.line ≡ 0))
-refused_is (MV.Given v) n e = let q : ◌≡◌ {A = ℕ} 0 1 = cc e in absurd (omega arith)
-refused_is (MV.Refused f) n e =
+    : (m : Result DV.Verdict PF.Fault) (n : ℕ) → mark_in m ≡ refused (fault n 0)
+    → (f : PF.Fault) × ((m ≡ Err f) × (number_of f.refusal ≡ n) × (f.line ≡ 0))
+refused_is (Ok v) n e = let q : ◌≡◌ {A = ℕ} 0 1 = cc e in absurd (omega arith)
+refused_is (Err f) n e =
     (f, (refl, ap (λ (x : Mark). (fault_in x).number) e, ap (λ (x : Mark). (fault_in x).place) e))
 
 pub mark_early
-    : (d : DD.Desk) (t : List ℕ) (m : DM.Marked) (n : ℕ) → MarkSays d t m → OutOfTurn d n
-    → (f : DF.Fault) × ((m ≡ MV.Refused f) × (f.number ≡ n) × (f.line ≡ 0))
+    : (d : DD.Desk) (t : List ℕ) (m : Result DV.Verdict PF.Fault) (n : ℕ) → MarkSays d t m → OutOfTurn d n
+    → (f : PF.Fault) × ((m ≡ Err f) × (number_of f.refusal ≡ n) × (f.line ≡ 0))
 mark_early d t m n h o =
     let e = turn_state d n o in
     refused_is m n (h ∙ refusing (place_fault (desk_in d) t) n (by (state_fault true (desk_in d)) n e.0 e.1) e.1)

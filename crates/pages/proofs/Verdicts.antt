@@ -15,7 +15,7 @@ use Rattle.paper_nests.specs.Stored.{dep_in}
 use Rattle.paper_placements.specs.declared.Counts as DC
 use Rattle.paper_placements.specs.Placements.{cuts, are_gaps, avoids}
 use Rattle.paper_order.specs.Keys.{IsKey}
-use Rattle.paper_order.specs.Verdicts.{Verdict, Uncut, Dearer, Best, mark_of}
+use Rattle.paper_order.specs.Verdicts.{Uncut, Dearer, Best, mark_of}
 use Rattle.paper_placements.proofs.Cuts.{correct_gaps}
 use Rattle.paper_order.proofs.Verdicts.{uncut_lowest, best_key, dearer_greater}
 use Rattle.desk.specs.declared.Verdict as DV

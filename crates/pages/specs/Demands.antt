@@ -1,8 +1,9 @@
 -- The three demands on one page, from nothing: in the words of 01 and of Darte and Schreiber (001), to be read in half
 -- an hour. `demands_kept` (proofs/Kept) proves the record `Demands` at the end.
 --
--- Of the project the page uses the structs as the source declares them, and the names of the contracts that the source
--- attaches to the calls. No contract need be read: whatever keeps it keeps what stands here.
+-- Of the project the page uses the structs and enums as the source declares them, `number_of`, the number of a refusal
+-- as callers are told it, and the names of the contracts that the source attaches to the calls. No contract need be
+-- read: whatever keeps it keeps what stands here.
 --
 --   EmptySays  Desk::empty, reset     MarkSays   mark_placement     PutSays   put_gap
 --   LoadSays   load_nest              WriteSays  write_key          LiftSays  lift_gap
@@ -20,7 +21,9 @@
 -- are decimal.
 --
 -- Points are 1 DO, 2 ENDDO, 3 statement. Frames are 17 s t (hexadecimal 11), 18 d s t (12), 19 g (13) and 33 g (21).
-use Rattle.std.specs.Prelude.{◌≡◌, true, false, List, [], ◌∷◌, ◌++◌, ◌⊎◌, ◌↔◌, ℕ, zero, suc, ◌+◌, ◌*◌, ◌/◌, ◌%◌, ◌^◌, ◌≤◌, ◌<◌, length, take, drop, get_or}
+use Rattle.std.specs.Prelude.{◌≡◌, true, false, List, [], ◌∷◌, ◌++◌, ◌⊎◌, ◌↔◌, ℕ, zero, suc, ◌+◌, ◌*◌, ◌/◌, ◌%◌, ◌^◌, ◌≤◌, ◌<◌, length, take, drop, get_or, Result, Ok, Err}
+use Rattle.paper_refusals.specs.declared.Fault.{Fault}
+use Rattle.paper_refusals.specs.Numbers.{number_of}
 use Rattle.paper_nests.specs.declared.Dependence.{Dependence}
 use Rattle.paper_nests.specs.declared.Nest.{Nest}
 use Rattle.paper_placements.specs.declared.Counts.{Counts}
@@ -28,9 +31,6 @@ use Rattle.desk.specs.declared.Desk.{Desk}
 use Rattle.desk.specs.declared.PlainDesk.{PlainDesk}
 use Rattle.desk.specs.declared.Reply.{Reply}
 use Rattle.desk.specs.declared.Answer.{Answer}
-use Rattle.desk.specs.declared.Fault.{Fault}
-use Rattle.desk.specs.declared.Marked as DM
-use Rattle.desk.specs.declared.Marked.TheVariants as Marked
 use Rattle.desk.specs.declared.Verdict as DV
 use Rattle.desk.specs.declared.Verdict.TheVariants as Verdict
 use Rattle.call_moves.specs.declared.Moved.{Moved}
@@ -317,9 +317,9 @@ Says p key gs (Verdict.Dearer c) = Dearer p key gs c
 Says p key gs Verdict.Best = Best p gs
 
 -- refused is a text that spells no placement; else the verdict is on the placement that it spells
-abbrev pub Marks : Paper → List ℕ → List ℕ → DM.Marked → Type 0
-Marks p key t (Marked.Refused f) = (gs : List ℕ) → Places p t gs → ⊥
-Marks p key t (Marked.Given v) = (gs : List ℕ) × (Places p t gs × Says p key gs v)
+abbrev pub Marks : Paper → List ℕ → List ℕ → Result DV.Verdict Fault → Type 0
+Marks p key t (Err f) = (gs : List ℕ) → Places p t gs → ⊥
+Marks p key t (Ok v) = (gs : List ℕ) × (Places p t gs × Says p key gs v)
 
 -- ==== the demands
 
@@ -344,8 +344,8 @@ pub record Demands : Type 0 where
   -- a call out of turn gets its number, with line 0, whatever else is wrong
   pub plan_turn : (d : Desk) (r : Reply) → PlanSays d r → d.loaded ≡ false → (r.number ≡ 10) × (r.line ≡ 0)
   pub mark_turn
-      : (d : Desk) (t : List ℕ) (m : DM.Marked) (n : ℕ) → MarkSays d t m → OutOfTurn d n
-      → (f : Fault) × ((m ≡ Marked.Refused f) × (f.number ≡ n) × (f.line ≡ 0))
+      : (d : Desk) (t : List ℕ) (m : Result DV.Verdict Fault) (n : ℕ) → MarkSays d t m → OutOfTurn d n
+      → (f : Fault) × ((m ≡ Err f) × (number_of f.refusal ≡ n) × (f.line ≡ 0))
   pub write_turn
       : (d : Desk) (out out' : List ℕ) (a : Answer) (n : ℕ) → WriteSays d out out' a → OutOfTurn d n
       → (a.number ≡ n) × (a.line ≡ 0)
@@ -356,7 +356,7 @@ pub record Demands : Type 0 where
   -- which dependences are cut and which placements are correct or best: what Mark says is so
   pub has-key : (d : Desk) → Reached d → d.planned ≡ true → (key : List ℕ) × KeyOn d key
   pub mark
-      : (d : Desk) (key t : List ℕ) (m : DM.Marked) → Reached d → KeyOn d key → MarkSays d t m
+      : (d : Desk) (key t : List ℕ) (m : Result DV.Verdict Fault) → Reached d → KeyOn d key → MarkSays d t m
       → Marks (paper_in d.nest) key t m
   -- a key is written where there is room, 5 bytes a gap; the text spells it, later bytes stay, and no text spells two
   -- sets

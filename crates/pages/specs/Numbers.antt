@@ -8,14 +8,14 @@
 -- The rule of every text: the first faulty line decides, and on it the lowest number; lines count from 1, and the end
 -- of the text as the line after the last. A relation like Breaks lists all that can be wrong with a line, each with
 -- its number; Lowest takes the least of them. Numbers from the state come first. A number without a line has line 0.
-use Rattle.std.specs.Prelude.{◌≡◌, true, false, List, [], ◌∷◌, ◌++◌, ◌⊎◌, ℕ, suc, ◌*◌, ◌≤◌, ◌<◌, length}
+use Rattle.std.specs.Prelude.{◌≡◌, true, false, List, [], ◌∷◌, ◌++◌, ◌⊎◌, ℕ, suc, ◌*◌, ◌≤◌, ◌<◌, length, Err}
+use Rattle.paper_refusals.specs.declared.Fault.{Fault}
+use Rattle.paper_refusals.specs.Numbers.{number_of}
 use Rattle.paper_nests.specs.declared.Dependence.{Dependence}
 use Rattle.desk.specs.declared.Desk.{Desk}
 use Rattle.desk.specs.declared.PlainDesk.{PlainDesk}
 use Rattle.desk.specs.declared.Reply.{Reply}
 use Rattle.desk.specs.declared.Answer.{Answer}
-use Rattle.desk.specs.declared.Fault.{Fault}
-use Rattle.desk.specs.declared.Marked.TheVariants as Marked
 use Rattle.call_moves.specs.declared.Moved.{Moved}
 use Rattle.desk.specs.Says.{EmptySays, LoadSays, PlanSays, CountSays, MarkSays, WriteSays, ListSays, OverSays}
 use Rattle.call_moves.specs.Says.{PutSays, LiftSays, BackSays}
@@ -243,8 +243,8 @@ pub record Numbers : Type 0 where
   pub load : (d : Desk) (t : List ℕ) (r : Reply) → LoadSays d t r → LoadNumber t r.number r.line
   pub one_load : (t : List ℕ) (m i n k : ℕ) → LoadNumber t m i → LoadNumber t n k → (m ≡ n) × (i ≡ k)
   pub mark
-      : (d : Desk) (t : List ℕ) (f : Fault) → Reached d → InTurn d → MarkSays d t (Marked.Refused f)
-      → PlaceNumber (paper_in d.nest) t f.number f.line
+      : (d : Desk) (t : List ℕ) (f : Fault) → Reached d → InTurn d → MarkSays d t (Err f)
+      → PlaceNumber (paper_in d.nest) t (number_of f.refusal) f.line
   pub one_place
       : (p : Paper) (t : List ℕ) (m i n k : ℕ) → PlaceNumber p t m i → PlaceNumber p t n k → (m ≡ n) × (i ≡ k)
   -- the list: number and place; where it is accepted, the first that the key doesn't cut

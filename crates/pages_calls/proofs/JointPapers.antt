@@ -39,7 +39,7 @@ use Rattle.pages.proofs.Keys.{shaped}
 use Rattle.pages.proofs.Texts.{page_means, unmapped, unmap, map_back}
 use Rattle.pages.proofs.Kept.{same_paper}
 use Rattle.pages_requests.proofs.FirstKeys.{is_key}
-use Rattle.pages_calls.specs.Join.{Along, Joint, Papers, OneCount, Tree}
+use Rattle.pages_calls.specs.Join.{Along, Joint, OneCount, Tree}
 
 -- ---- dependences moved along
 

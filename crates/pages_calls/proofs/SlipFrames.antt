@@ -24,7 +24,7 @@ use Rattle.paper_placements.specs.Placements.{cuts, cut_by, uncut, are_gaps_from
 use Rattle.paper_placements.proofs.Cuts.{LowestUncut, correct_cuts}
 use Rattle.paper_placements.proofs.GapLists.{count_few, rising_length}
 use Rattle.paper_placements.proofs.Rising.{rises, rising_in}
-use Rattle.paper_order.specs.Verdicts.{Verdict, Uncut, Dearer, Best, mark_of}
+use Rattle.paper_order.specs.Verdicts.{mark_of}
 use Rattle.paper_order.proofs.Verdicts.{uncut_lowest}
 use Rattle.paper_texts.specs.Counts.{counts_from}
 use Rattle.desk.specs.declared.Verdict as DV

@@ -10,8 +10,11 @@ use lib.Dec.{ltb}
 use lib.ListN.{length, take, drop}
 use lib.Seq.{take-append_seam, drop-append_seam}
 use borrow.Author.Tests.{eq-eqb, ne_eqb, lt-ltb, le-ltb}
+use Rattle.std.proofs.Common.{Ok, Err}
 use Rattle.laws.specs.Choice.{when}
 use Rattle.laws.proofs.Tests.{eq_or}
+use Rattle.paper_refusals.specs.declared.Fault as PF
+use Rattle.paper_refusals.specs.Numbers.{number_of}
 use Rattle.paper_nests.specs.Nests.{Nest}
 use Rattle.paper_nests.specs.Stored.{nest_in}
 use Rattle.paper_lines.specs.Writing.{over}
@@ -20,8 +23,6 @@ use Rattle.paper_order.specs.Verdicts.{Verdict, Uncut, Dearer, Best, mark_of}
 use Rattle.paper_texts.specs.PlacementTexts.{Placed, placed}
 use Rattle.desk.specs.declared.Desk as DD
 use Rattle.desk.specs.declared.Answer as DA
-use Rattle.desk.specs.declared.Fault as DF
-use Rattle.desk.specs.declared.Marked.TheVariants as MV
 use Rattle.desk.specs.declared.Verdict as DV
 use Rattle.desk.specs.declared.Verdict.TheVariants as VV
 use Rattle.desk.specs.Desks.{desk_in, IsMade, state_fault, Fault, fault}
@@ -111,13 +112,13 @@ room-fault b d s slip room e x =
     rw (eq-eqb (state_fault b (desk_in d)) 0 e, eq-eqb (read_in (desk_in d) s).number 0 x)
 
 -- Mark's refusal is that of the reading
-record Misread (d : DD.Desk) (s : List ℕ) (f : DF.Fault) : Type 0 where
-  bad : f.number ≡ 0 → ⊥
-  number_is : (read_in (desk_in d) s).number ≡ f.number
+record Misread (d : DD.Desk) (s : List ℕ) (f : PF.Fault) : Type 0 where
+  bad : number_of f.refusal ≡ 0 → ⊥
+  number_is : (read_in (desk_in d) s).number ≡ number_of f.refusal
   place_is : (read_in (desk_in d) s).place ≡ f.line
 
 misread
-    : (d : DD.Desk) (key s : List ℕ) (f : DF.Fault) → IsMade d → KeyOn d key → MarkSays d s (MV.Refused f)
+    : (d : DD.Desk) (key s : List ℕ) (f : PF.Fault) → IsMade d → KeyOn d key → MarkSays d s (Err f)
     → Misread d s f
 misread d key s f m k h =
     ⊎_elim
@@ -130,7 +131,7 @@ misread d key s f m k h =
     let e : marked (desk_in d) s ≡ refused (fault (read_in (desk_in d) s).number (read_in (desk_in d) s).place) =
     rw (eq-eqb (state_fault true (desk_in d)) 0 (key_state d m key k), ne_eqb (read_in (desk_in d) s).number 0 z) in
     let q = sym (h ∙ e) in
-    let number : (read_in (desk_in d) s).number ≡ f.number = ap (λ (x : Mark). (fault_in x).number) q in
+    let number : (read_in (desk_in d) s).number ≡ number_of f.refusal = ap (λ (x : Mark). (fault_in x).number) q in
     record { bad = λ y. z (number ∙ y); number_is = number; place_is = ap (λ (x : Mark). (fault_in x).place) q })
     (eq_or (read_in (desk_in d) s).number 0)
   where
@@ -197,13 +198,13 @@ module _ (d : DD.Desk) (q : Reached d) (s gs out out' : List ℕ) (a : DA.Answer
 
     says : P.Says page key gs verdict
     says =
-        let e : MarkSays d s (MV.Given verdict) =
+        let e : MarkSays d s (Ok verdict) =
         ap given (verdict_back (mark_of n key gs)) ∙
         sym
         (rw (eq-eqb (state_fault true (desk_in d)) 0 (key_state d made key k), read has-nest)
         (ap (λ (x : Nest). given (mark_of x (desk_in d).key gs)) (nest_of_paper d.nest) ∙
         ap (λ (x : List ℕ). given (mark_of n x gs)) (sym (key_same d made key k)))) in
-        let m = demands_kept.mark d key s (MV.Given verdict) q k e in
+        let m = demands_kept.mark d key s (Ok verdict) q k e in
         subst (λ (x : List ℕ). P.Says page key x verdict) (demands_kept.read_again page s m.0 gs m.1.0 places)
         m.1.1
 
@@ -252,19 +253,19 @@ slips_kept =
           λ d key s out out' a f q k h w.
           let m = reached_made d q in
           let b = misread d key s f m k w in
-          refuses_by (candidate_fault (desk_in d) s (length out)) (candidate_slip (desk_in d) s) out out' a f.number
-          f.line h
-          (read_fault false d s (candidate_slip (desk_in d) s) (length out) f.number f.line
+          refuses_by (candidate_fault (desk_in d) s (length out)) (candidate_slip (desk_in d) s) out out' a
+          (number_of f.refusal) f.line h
+          (read_fault false d s (candidate_slip (desk_in d) s) (length out) (number_of f.refusal) f.line
           (nest_state d (key_loaded d m k.planned)) b.number_is b.place_is b.bad)
           b.bad;
       examiner_faults =
           λ d key s out out' a f q k h w.
           let m = reached_made d q in
           let b = misread d key s f m k w in
-          refuses_by (examiner_fault (desk_in d) s (length out)) (examiner_slip (desk_in d) s) out out' a f.number
-          f.line h
-          (read_fault true d s (examiner_slip (desk_in d) s) (length out) f.number f.line (key_state d m key k)
-          b.number_is b.place_is b.bad)
+          refuses_by (examiner_fault (desk_in d) s (length out)) (examiner_slip (desk_in d) s) out out' a
+          (number_of f.refusal) f.line h
+          (read_fault true d s (examiner_slip (desk_in d) s) (length out) (number_of f.refusal) f.line
+          (key_state d m key k) b.number_is b.place_is b.bad)
           b.bad;
       candidate = λ d s gs out out' a q l p h. candidate d q s gs out out' a p l h;
       examiner = λ d key s gs out out' a q k p h. examiner d q s gs out out' a p key k h;

@@ -8,8 +8,11 @@ use native.Mathlib.Omega.{arith}
 use lib.Dec.{eqb}
 use lib.ListN.{length}
 use borrow.Author.Tests.{ne_eqb}
+use Rattle.std.proofs.Common.{Result, Ok, Err}
 use Rattle.laws.specs.Choice.{pick, when, first_of}
 use Rattle.laws.proofs.Tests.{never_both, false_by}
+use Rattle.paper_refusals.specs.declared.Fault as PF
+use Rattle.paper_refusals.specs.Numbers.{number_of}
 use Rattle.paper_nests.specs.Nests.{Nest}
 use Rattle.paper_nests.specs.Valid.{is_valid}
 use Rattle.paper_nests.specs.Stored.{nest_in}
@@ -24,11 +27,9 @@ use Rattle.paper_texts.specs.NestTexts as T
 use Rattle.paper_texts.specs.PlacementTexts.{Placed}
 use Rattle.desk.specs.declared.Desk as DD
 use Rattle.desk.specs.declared.Reply as DR
-use Rattle.desk.specs.declared.Fault as DF
-use Rattle.desk.specs.declared.Marked as DM
-use Rattle.desk.specs.declared.Marked.TheVariants as MV
+use Rattle.desk.specs.declared.Verdict as DV
 use Rattle.desk.specs.Desks.{desk_in, IsMade, state_fault, Fault, fault}
-use Rattle.desk.specs.Says.{PlanSays, MarkSays, Mark, given, refused, mark_in, marked, read_in}
+use Rattle.desk.specs.Says.{PlanSays, MarkSays, Mark, given, refused, mark_in, read_in}
 use Rattle.pages.specs.Demands.{OneLoop, Paper, Correct, Key, Planned, Since, KeyOn}
 use Rattle.pages.proofs.Lists.{in_is, is-in}
 use Rattle.pages.proofs.Placements.{nest_of, nest_of_paper, correct_is}
@@ -108,16 +109,17 @@ fault_in (refused f) = f
 fault_in (given v) = fault 0 0
 
 IsRefused-as
-    : (m : DM.Marked) (k l : ℕ) → mark_in m ≡ refused (fault k l)
-    → (f : DF.Fault) × ((m ≡ MV.Refused f) × (f.number ≡ k) × (f.line ≡ l))
-IsRefused-as (MV.Given v) k l e = let q : ◌≡◌ {A = ℕ} 0 1 = cc e in absurd (omega arith)
-IsRefused-as (MV.Refused f) k l e =
+    : (m : Result DV.Verdict PF.Fault) (k l : ℕ) → mark_in m ≡ refused (fault k l)
+    → (f : PF.Fault) × ((m ≡ Err f) × (number_of f.refusal ≡ k) × (f.line ≡ l))
+IsRefused-as (Ok v) k l e = let q : ◌≡◌ {A = ℕ} 0 1 = cc e in absurd (omega arith)
+IsRefused-as (Err f) k l e =
     (f, (refl, ap (λ (x : Mark). (fault_in x).number) e, ap (λ (x : Mark). (fault_in x).place) e))
 
 module _ (d : DD.Desk) (m : IsMade d) (key : List ℕ) (k : KeyOn d key) where
   mark_refused
-      : (t : List ℕ) (x : DM.Marked) (e l : ℕ) → (read_in (desk_in d) t).number ≡ suc e → (read_in (desk_in d) t).place ≡ l
-      → MarkSays d t x → (f : DF.Fault) × ((x ≡ MV.Refused f) × (f.number ≡ suc e) × (f.line ≡ l))
+      : (t : List ℕ) (x : Result DV.Verdict PF.Fault) (e l : ℕ) → (read_in (desk_in d) t).number ≡ suc e
+      → (read_in (desk_in d) t).place ≡ l
+      → MarkSays d t x → (f : PF.Fault) × ((x ≡ Err f) × (number_of f.refusal ≡ suc e) × (f.line ≡ l))
   mark_refused t x e l a b h =
       IsRefused-as x (suc e) l
       (h ∙

@@ -33,7 +33,7 @@ use Rattle.desk.specs.Since as S
 use Rattle.desk.proofs.Made.{since_holds}
 use Rattle.desk.proofs.TwoDesks.{made_first}
 use Rattle.paper_texts.specs.NestTexts as T
-use Rattle.pages.specs.Demands.{Paper, Correct, Best, OldOf, Step, Reached, Since, KeyOn}
+use Rattle.pages.specs.Demands.{Paper, Correct, Best, OldOf, Step, Reached, KeyOn}
 use Rattle.pages.proofs.Bodies.{loop_end, loop_do, loop_at}
 use Rattle.pages.proofs.Placements.{nest_of, nest_of_paper, count_is, correct_is, is-correct}
 use Rattle.pages.proofs.Keys.{shaped, fit, is_same, best-of}

@@ -21,7 +21,7 @@ use Rattle.paper_nests.specs.Stored.{dep_in}
 use Rattle.paper_placements.specs.Placements.{cuts, is_free}
 use Rattle.paper_placements.specs.Words.{kept, gaps_of}
 use Rattle.paper_placements.proofs.Rising.{rising_equal}
-use Rattle.call_textbook.specs.Tries.{line_after, lacking, some_ends, cuts_on, rising, try_at}
+use Rattle.call_textbook.specs.Tries.{line_after, lacking, some_ends, cuts_on, try_at}
 use Rattle.call_textbook.proofs.Apart.{in_rising}
 use Rattle.call_textbook.proofs.Greedy.{Ending, lacking_in, in_lacking, some_end, end_some}
 use Rattle.call_textbook.proofs.Results.{try_gaps}

@@ -2,13 +2,13 @@
 -- among its dependences, at most 255 (`Tells`, `Valid`), and a placement has no barred gap (`Gaps`), so that `Correct`,
 -- `Best` and `Key` are read over those that avoid them; here stands what follows, and the numbers 14 to 16.
 -- `barred_kept` (proofs/BarredKept) proves it.
-use Rattle.std.specs.Prelude.{◌≡◌, Bool, true, false, List, [], ◌∷◌, ◌++◌, ℕ, suc, ◌≤◌, ◌<◌, length}
+use Rattle.std.specs.Prelude.{◌≡◌, Bool, true, false, List, [], ◌∷◌, ◌++◌, ℕ, suc, ◌≤◌, ◌<◌, length, Result, Err}
+use Rattle.paper_refusals.specs.declared.Fault.{Fault}
+use Rattle.paper_refusals.specs.Numbers.{number_of}
 use Rattle.paper_nests.specs.declared.Dependence.{Dependence}
 use Rattle.desk.specs.declared.Desk.{Desk}
 use Rattle.desk.specs.declared.Reply.{Reply}
-use Rattle.desk.specs.declared.Fault.{Fault}
-use Rattle.desk.specs.declared.Marked as DM
-use Rattle.desk.specs.declared.Marked.TheVariants as Marked
+use Rattle.desk.specs.declared.Verdict.{Verdict}
 use Rattle.desk.specs.Says.{LoadSays, PlanSays, MarkSays}
 use Rattle.pages.specs.Demands.{At, In, Rising, OneLoop, GapOf, Paper, paper_in, Correct, Key, Frames, Lines, Spells}
 use Rattle.pages.specs.Demands.{barriers}
@@ -49,7 +49,7 @@ pub record Barred : Type 0 where
       → LoadSays d t r → (r.number ≡ 14) × (r.line ≡ suc (length fs))
   -- 16: the first barred gap of a placement text that has no other fault before it
   pub marked
-      : (d : Desk) (key t xs ys : List ℕ) (g : ℕ) (m : DM.Marked) → Reached d → KeyOn d key
+      : (d : Desk) (key t xs ys : List ℕ) (g : ℕ) (m : Result Verdict Fault) → Reached d → KeyOn d key
       → Lines t (barriers (xs ++ (g ∷ ys))) → Rising (length (paper_in d.nest).points) 0 (xs ++ (g ∷ []))
       → ((x : ℕ) → In x xs → In x (paper_in d.nest).barred → ⊥) → In g (paper_in d.nest).barred → MarkSays d t m
-      → (f : Fault) × ((m ≡ Marked.Refused f) × (f.number ≡ 16) × (f.line ≡ suc (length xs)))
+      → (f : Fault) × ((m ≡ Err f) × (number_of f.refusal ≡ 16) × (f.line ≡ suc (length xs)))

@@ -1,12 +1,11 @@
 // The loop of every gap, and the counts of all loops, each in one pass over the points.
 #![tactic(auto)]
 
-ghost use Rattle.std.specs.Prelude.{◌≡◌, true, ◌<◌, ◌≤◌, length};
-ghost use Rattle.laws.specs.Bits.{one};
+ghost use Rattle.std.specs.Prelude.{◌≡◌, true, ◌≤◌, length};
 ghost use Rattle.paper_nests.specs.Kinds.{POINTS};
 ghost use Rattle.paper_nests.specs.Valid.{is_shape};
 ghost use Rattle.paper_placements.specs.Placements.{are_gaps_from};
-ghost use Rattle.paper_placements.specs.Words.{GAPS, holds, gaps_in};
+ghost use Rattle.paper_placements.specs.Words.{gaps_in};
 ghost use Rattle.paper_counts.specs.Tables.{OwnersAre, CountsAre};
 
 use paper_nests::Nest;
@@ -19,18 +18,12 @@ pub fn owners_of(points: &[u8]) -> [usize; Nest::POINTS]
 {
     let mut owners = [0; Nest::POINTS];
     let mut around = 0;
-    let mut g = 0;
-    while g < points.len() {
+    for (g, &kind) in points.iter().enumerate() {
         owners[g] = around;
-        let kind = points[g];
-        if kind == paper_nests::DO {
-            around = g;
-            g += 1;
-        } else if kind == paper_nests::ENDDO {
-            around = owners[around];
-            g += 1;
-        } else {
-            g += 1;
+        match kind {
+            paper_nests::DO => around = g,
+            paper_nests::ENDDO => around = owners[around],
+            _ => {}
         }
     }
     owners
@@ -44,19 +37,8 @@ pub fn counts_of(points: &[u8], p: Placement) -> [usize; Nest::POINTS]
 {
     let owners = owners_of(points);
     let mut counts = [0; Nest::POINTS];
-    let mut g = 0;
-    while g < points.len() {
-        let d = owners[g];
-        counts[d] = counts[d] + barriers_at(p, g);
-        g += 1;
+    for g in 0..points.len() {
+        counts[owners[g]] += usize::from(p.holds(g));
     }
     counts
-}
-
-// 1 where the placement holds the gap, else 0.
-fn barriers_at(p: Placement, g: usize) -> usize
-    requires { g < GAPS }
-    ensures { (result ≡ one (holds p.words g)) × (result ≤ 1) }
-{
-    if p.holds(g) { 1 } else { 0 }
 }

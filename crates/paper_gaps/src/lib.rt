@@ -30,10 +30,8 @@ pub fn with_range(p: Placement, lo: usize, hi: usize) -> Placement
     ensures { (g : ℕ) → holds result.words g ≡ (between lo g hi || holds p.words g) }
 {
     let mut q = p;
-    let mut g = lo;
-    while g <= hi {
+    for g in lo..=hi {
         q = q.put(g);
-        g += 1;
     }
     q
 }

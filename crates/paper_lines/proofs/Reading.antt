@@ -1,7 +1,8 @@
 -- Lines read one at a time: the first line of a text, and what an answer of the reader tells its caller.
 -- Main statements: `lines_first`, `no_line`, `bad_line`, `good_line`.
 use mathlib.Core.Path.{◌≡◌, refl, sym, ◌∙◌, ap}
-use mathlib.Core.Bool.{Bool, true, false, ◌||◌}
+use Rattle.std.proofs.Common.{Some, None, Ok, Err}
+use mathlib.Core.Bool.{Bool, true, false, ◌||◌, cond}
 use mathlib.Core.List.{List, [], ◌∷◌}
 use mathlib.Core.Logic.{⊎_elim}
 use Prim.Native.Nat.{ℕ, suc, ◌+◌, ◌-◌, ◌/◌, ◌%◌, ◌≤◌, ◌<◌}
@@ -10,13 +11,17 @@ use native.Mathlib.Omega.{arith}
 use lib.Dec.{eqb, leb, ltb, leb-suc-suc}
 use lib.ListN.{length, get_or, take, drop, length-take, length-drop, drop_of_length-le}
 use lib.Seq.{drop-cons, drop-drop, get_or-drop}
+use Rattle.std.specs.List.{take_while}
+use Rattle.std.proofs.lemmas.List.Sums.{take_while-cons}
 use borrow.Author.Rules.{part_to_end}
 use borrow.Author.Tests.{eq-eqb, ne_eqb, lt-ltb, le-ltb, ltb-true}
 use Rattle.laws.specs.Choice.{pick}
 use Rattle.laws.proofs.Tests.{le_or, and_true}
 use Rattle.laws.proofs.Connectives.{and_off}
 use Rattle.paper_lines.specs.declared.Frame.{Frame}
-use Rattle.paper_lines.specs.declared.Read.TheVariants as RV
+use Rattle.paper_refusals.specs.declared.Refusal.{Refusal}
+use Rattle.paper_refusals.specs.declared.Refusal.TheVariants.{NoFrame}
+use Rattle.paper_refusals.specs.Numbers.{number_of}
 use Rattle.paper_lines.specs.Lines.{FEED, Line, line, push, lines_of, is_hex, all_hex, is_good, is_digits, frame_of}
 use Rattle.paper_lines.specs.Reading.{take_line, take_digits, has_feed, frame, IsFrame, answer_of, line_at}
 use Rattle.paper_lines.proofs.Digits.{digits_parts, frame_length}
@@ -106,9 +111,18 @@ pub end_here
 unfolding take_digits
 end_here s i h e = rw (drop-cons s i 0 h) (rw (e, take_digits))
 
-pub end_past : (s : List ℕ) (i : ℕ) → length s ≤ i → length (take_digits (drop i s)) ≡ 0
+-- the digits at the start, by the test of each byte
+pub digits_while : (s : List ℕ) → take_while is_hex s ≡ take_digits s
 unfolding take_digits
-end_past s i h = rw (drop_of_length-le s h)
+digits_while [] = refl
+digits_while (b ∷ s) = take_while-cons is_hex b s ∙ go (is_hex b) (digits_while s)
+  where
+    go
+        : (t : Bool)
+        → take_while is_hex s ≡ take_digits s
+        → cond t (b ∷ take_while is_hex s) [] ≡ pick t (b ∷ take_digits s) []
+    go true e = ap (λ (l : List ℕ). b ∷ l) e
+    go false e = refl
 
 -- the digits are those before i and those from i on
 abbrev pub Digits-to : List ℕ → ℕ → Type 0
@@ -185,7 +199,7 @@ other_byte (b ∷ s) l f = go (is_hex b) refl l f (other_byte s)
     go false h l g e = rw (ne_eqb b FEED g) (rw h)
 
 -- the reader's answer past the end of the text
-pub past_end : (s : List ℕ) (at : ℕ) → length s ≤ at → RV.End ≡ line_at s at
+pub past_end : (s : List ℕ) (at : ℕ) → length s ≤ at → Ok None ≡ line_at s at
 unfolding line_at lines_of
 past_end s at h = rw (drop_of_length-le s h)
 
@@ -210,7 +224,7 @@ module _ (s : List ℕ) (at e : ℕ) (inside : at < length s) (ends : e ≡ at +
   pub front_hex : all_hex (take (e - at) (drop at s)) ≡ true
   front_hex = rw (← front_is) (all_digits (drop at s))
 
-  pub unended : length s ≤ e → RV.Refused 1 ≡ line_at s at
+  pub unended : length s ≤ e → Err NoFrame ≡ line_at s at
   unended h =
       let whole = digits_line rest (λ l. absurd (omega (arith, length-drop at s))) in
       let short : length rest ≤ length (take_line rest) = omega (arith, ap length whole, length-drop at s) in
@@ -222,7 +236,7 @@ module _ (s : List ℕ) (at e : ℕ) (inside : at < length s) (ends : e ≡ at +
     byte_is = get_or-drop at s (length (take_digits (drop at s))) 0 ∙ ap (λ (i : ℕ). get_or s i 0) (sym ends)
 
     -- another byte behind the digits
-    pub other_behind : (get_or s e 0 ≡ FEED → ⊥) → RV.Refused 1 ≡ line_at s at
+    pub other_behind : (get_or s e 0 ≡ FEED → ⊥) → Err NoFrame ≡ line_at s at
     other_behind f =
         let bad : all_hex (take_line rest) ≡ false =
         other_byte rest (omega (arith, length-drop at s)) (λ z. f (sym byte_is ∙ z)) in
@@ -234,7 +248,7 @@ module _ (s : List ℕ) (at e : ℕ) (inside : at < length s) (ends : e ≡ at +
       line_is : take_line (drop at s) ≡ take (e - at) (drop at s)
       line_is = digits_line (drop at s) (λ l. byte_is ∙ feed) ∙ front_is
 
-      pub not_digits : is_digits (take (e - at) (drop at s)) ≡ false → RV.Refused 1 ≡ line_at s at
+      pub not_digits : is_digits (take (e - at) (drop at s)) ≡ false → Err NoFrame ≡ line_at s at
       not_digits h = rw (answer_is s at inside, line_is, h)
 
       pub is_frame
@@ -244,7 +258,7 @@ module _ (s : List ℕ) (at e : ℕ) (inside : at < length s) (ends : e ≡ at +
           → a ≡ get_or (frame_of (take (e - at) (drop at s))) 1 0
           → b ≡ get_or (frame_of (take (e - at) (drop at s))) 2 0
           → c ≡ get_or (frame_of (take (e - at) (drop at s))) 3 0
-          → RV.Frame (record { kind = k; len = length (take (e - at) (drop at s)) / 2; a = a; b = b; c = c; next = e + 1 })
+          → Ok (Some (record { kind = k; len = length (take (e - at) (drop at s)) / 2; a = a; b = b; c = c; next = e + 1 }))
           ≡ line_at s at
       is_frame k a b c d ek ea eb ec =
           let ended : e ≡ at + length (take_line rest) = omega (arith, ap length line_is, ap length front_is) in
@@ -269,36 +283,38 @@ pub record Good-line (s : List ℕ) (at : ℕ) (f : Frame) : Type 0 where
   pub on : at + 3 ≤ f.next
   pub inside : f.next ≤ length s
 
-pub no_line : (s : List ℕ) (at : ℕ) → line_at s at ≡ RV.End → lines_of (drop at s) ≡ []
+pub no_line : (s : List ℕ) (at : ℕ) → line_at s at ≡ Ok None → lines_of (drop at s) ≡ []
 unfolding line_at
 no_line s at h = go (lines_of (drop at s)) h
   where
-    go : (ls : List Line) → answer_of at ls ≡ RV.End → ls ≡ []
+    go : (ls : List Line) → answer_of at ls ≡ Ok None → ls ≡ []
     go [] e = refl
     go (l ∷ ls) e = at_test (is_good l) e
       where
         at_test
             : (t : Bool)
-            → pick t (RV.Frame (frame (frame_of l.bytes) (at + length l.bytes + 1))) (RV.Refused 1) ≡ RV.End
+            → pick t (Ok (Some (frame (frame_of l.bytes) (at + length l.bytes + 1)))) (Err NoFrame) ≡ Ok None
             → l ∷ ls ≡ []
         at_test true x = let z : ◌≡◌ {A = ℕ} 0 1 = cc x in absurd (omega arith)
         at_test false x = let z : ◌≡◌ {A = ℕ} 0 1 = cc x in absurd (omega arith)
 
-pub bad_line : (s : List ℕ) (at n : ℕ) → line_at s at ≡ RV.Refused n → Bad-line s at n
+pub bad_line : (s : List ℕ) (at : ℕ) (r : Refusal) → line_at s at ≡ Err r → Bad-line s at (number_of r)
 unfolding line_at
-bad_line s at n h = go (lines_of (drop at s)) refl h
+bad_line s at r h = go (lines_of (drop at s)) refl h
   where
-    go : (ls : List Line) → lines_of (drop at s) ≡ ls → answer_of at ls ≡ RV.Refused n → Bad-line s at n
+    go : (ls : List Line) → lines_of (drop at s) ≡ ls → answer_of at ls ≡ Err r → Bad-line s at (number_of r)
     go [] e x = let z : ◌≡◌ {A = ℕ} 0 1 = cc x in absurd (omega arith)
     go (l ∷ ls) e x = at_test (is_good l) refl x
       where
         at_test
             : (t : Bool)
             → is_good l ≡ t
-            → pick t (RV.Frame (frame (frame_of l.bytes) (at + length l.bytes + 1))) (RV.Refused 1) ≡ RV.Refused n
-            → Bad-line s at n
+            → pick t (Ok (Some (frame (frame_of l.bytes) (at + length l.bytes + 1)))) (Err NoFrame) ≡ Err r
+            → Bad-line s at (number_of r)
         at_test true g y = let z : ◌≡◌ {A = ℕ} 0 1 = cc y in absurd (omega arith)
-        at_test false g y = record { first = l; rest = ls; lines = e; bad = g; number = cc y }
+        at_test false g y =
+            let same : NoFrame ≡ r = cc y in
+            record { first = l; rest = ls; lines = e; bad = g; number = sym (ap number_of same) }
 
 -- the answer for a good line
 frame_line
@@ -335,7 +351,7 @@ frame_line s at f i g e =
       inside = omega (arith, length-drop at s);
     }
 
-pub good_line : (s : List ℕ) (at : ℕ) (f : Frame) → line_at s at ≡ RV.Frame f → Good-line s at f
+pub good_line : (s : List ℕ) (at : ℕ) (f : Frame) → line_at s at ≡ Ok (Some f) → Good-line s at f
 good_line s at f h = ⊎_elim (λ (z : length s ≤ at). past z) (λ (z : at < length s). here z) (le_or (length s) at)
   where
     past : length s ≤ at → Good-line s at f
@@ -355,7 +371,7 @@ good_line s at f h = ⊎_elim (λ (z : length s ≤ at). past z) (λ (z : at < l
         at_test
             : (t : Bool)
             → is_good first ≡ t
-            → pick t (RV.Frame spelled) (RV.Refused 1) ≡ RV.Frame f
+            → pick t (Ok (Some spelled)) (Err NoFrame) ≡ Ok (Some f)
             → Good-line s at f
         at_test true g y = frame_line s at f z g (cc y)
         at_test false g y = let x : ◌≡◌ {A = ℕ} 0 1 = cc y in absurd (omega arith)

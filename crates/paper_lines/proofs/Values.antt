@@ -1,22 +1,19 @@
 -- The table of the digits' values, filled value by value: the digits of the values passed have theirs, every other byte
 -- has 16. Once all 16 are passed, these other bytes are no digits.
--- Main statements: `Filling`, what a turn keeps; `fill_none`, `fill_value`, `fill_all`; `table_hex`, `table-value`.
+-- Main statements: `Filling`, what a turn keeps; `fill_none`, `fill_all`; `table_hex`, `table-value`.
 use mathlib.Core.Path.{◌≡◌, refl, sym, ◌∙◌, ap}
 use mathlib.Core.Bool.{Bool, true, false}
 use mathlib.Core.List.{List}
-use mathlib.Core.Logic.{⊎_elim}
-use Prim.Native.Nat.{ℕ, ◌+◌, ◌<◌}
+use Prim.Native.Nat.{ℕ, ◌<◌}
 use native.Mathlib.Omega.{arith}
 use lib.Dec.{ltb}
-use lib.ListN.{length, get_or, set, length-set}
-use lib.Seq.{get_or-set_same, get_or-set_other}
+use lib.ListN.{length, get_or}
 use borrow.Author.Tests.{lt-ltb}
 use Rattle.laws.specs.Choice.{pick}
 use Rattle.laws.proofs.Copies.{copies, copies_there}
-use Rattle.laws.proofs.Tests.{eq_or}
 use Rattle.paper_lines.specs.Lines.{is_hex, value_of, digit_of}
 use Rattle.paper_lines.specs.Reading.{table_value, AreValues}
-use Rattle.paper_lines.proofs.Spelling.{digit_is_hex, value_of_digit, hex_is_digit}
+use Rattle.paper_lines.proofs.Spelling.{digit_is_hex, hex_is_digit}
 
 -- the values below k are in the table
 pub record Filling (values : List ℕ) (k : ℕ) : Type 0 where
@@ -34,29 +31,6 @@ fill_none =
     }
 
 module _ (values : List ℕ) (k : ℕ) (p : Filling values k) where
-  -- no two values have one digit
-  apart : (v : ℕ) → v < 16 → k < 16 → (v ≡ k → ⊥) → digit_of v ≡ digit_of k → ⊥
-  apart v l m n e = n (sym (value_of_digit v l) ∙ ap value_of e ∙ value_of_digit k m)
-
-  pub fill_value : (at : ℕ) → k < 16 → at ≡ digit_of k → at < 256 → Filling (set values at k) (k + 1)
-  fill_value at l is inside =
-      record {
-        long = length-set values at k ∙ p.long;
-        digit_at =
-            λ v m.
-            ⊎_elim
-            (λ (e : v ≡ k).
-            rw (e, ← is) (get_or-set_same values at k 0 (omega (arith, p.long))))
-            (λ (n : v ≡ k → ⊥).
-            get_or-set_other values at (digit_of v) k 0 (λ z. apart v (omega arith) l n (z ∙ is))
-            ∙ p.digit_at v (omega (arith, n)))
-            (eq_or v k);
-        other_at =
-            λ b m h.
-            get_or-set_other values at b k 0 (λ z. h k (omega arith) (z ∙ is))
-            ∙ p.other_at b m (λ v n. h v (omega arith));
-      }
-
   pub fill_all : k ≡ 16 → AreValues values
   fill_all e = record { value_at = λ b l. go b l (is_hex b) refl }
     where

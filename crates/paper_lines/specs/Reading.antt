@@ -1,10 +1,10 @@
 -- One line at a place of a text: what the line reader answers.
 -- Main definitions: `take_line`, `take_digits`, `has_feed`, `frame`, `IsFrame`, `line_at`, `AreValues`.
-use Rattle.std.specs.Prelude.{◌≡◌, Bool, false, ◌||◌, List, [], ◌∷◌, ℕ, ◌+◌, ◌<◌, eqb, length, get_or, drop}
+use Rattle.std.specs.Prelude.{◌≡◌, Bool, false, ◌||◌, List, [], ◌∷◌, ℕ, ◌+◌, ◌<◌, eqb, length, get_or, drop, Option, None, Some, Result, Ok, Err}
 use Rattle.laws.specs.Choice.{pick}
 use Rattle.paper_lines.specs.declared.Frame.{Frame}
-use Rattle.paper_lines.specs.declared.Read.{Read}
-use Rattle.paper_lines.specs.declared.Read.TheVariants as RV
+use Rattle.paper_refusals.specs.declared.Refusal.{Refusal}
+use Rattle.paper_refusals.specs.declared.Refusal.TheVariants.{NoFrame}
 use Rattle.paper_lines.specs.Lines.{FEED, Line, lines_of, is_hex, value_of, is_good, frame_of}
 
 -- the bytes of a text before its first 0a
@@ -35,13 +35,13 @@ pub record IsFrame (x : Frame) (f : List ℕ) : Type 0 where
   pub b_is : x.b ≡ get_or f 2 0
   pub c_is : x.c ≡ get_or f 3 0
 
--- 01, "Text": a line is either one frame or one refusal; the first of the lines that start at the place
-abbrev pub answer_of : ℕ → List Line → Read
-answer_of at [] = RV.End
+-- 01, "Text": a line is either one frame or one refusal; the first of the lines that start at the place, if there is one
+abbrev pub answer_of : ℕ → List Line → Result (Option Frame) Refusal
+answer_of at [] = Ok None
 answer_of at (l ∷ ls) =
-    pick (is_good l) (RV.Frame (frame (frame_of l.bytes) (at + length l.bytes + 1))) (RV.Refused 1)
+    pick (is_good l) (Ok (Some (frame (frame_of l.bytes) (at + length l.bytes + 1)))) (Err NoFrame)
 
-unfoldable pub line_at : List ℕ → ℕ → Read
+unfoldable pub line_at : List ℕ → ℕ → Result (Option Frame) Refusal
 line_at s at = answer_of at (lines_of (drop at s))
 
 -- a table by which the reader tells digits and their values; 16 stands for a byte that is no digit

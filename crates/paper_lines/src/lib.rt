@@ -6,6 +6,8 @@ ghost use Rattle.paper_lines.specs.Lines.{is_hex, value_of, all_hex, is_digits, 
 ghost use Rattle.paper_lines.specs.Reading.{take_digits, line_at, AreValues};
 ghost use Rattle.paper_lines.specs.Writing.{over};
 
+use paper_refusals::Refusal;
+
 // A frame's first bytes, how many it has, and where the next line starts.
 #[derive(Clone, Copy)]
 pub struct Frame {
@@ -15,14 +17,6 @@ pub struct Frame {
     pub b: u8,
     pub c: u8,
     pub next: usize,
-}
-
-// A line is either one frame or one refusal.
-#[derive(Clone, Copy)]
-pub enum Read {
-    End,
-    Refused(u8),
-    Frame(Frame),
 }
 
 // The byte that ends a line.
@@ -44,43 +38,33 @@ pub fn digit_values() -> [u8; BYTES]
     ensures { AreValues result }
 {
     let mut values = [BASE; BYTES];
-    let mut v: u8 = 0;
-    while v < BASE {
-        let byte = digit(v) as usize;
-        values[byte] = v;
-        v += 1;
+    for v in 0..BASE {
+        values[digit(v) as usize] = v;
     }
     values
 }
 
-// Reads the line that starts at a place of a text, by the table of values.
-pub fn read_line(text: &[u8], at: usize, values: &[u8; BYTES]) -> Read
+// Reads the line that starts at a place of a text, by the table of values: its frame, or nothing past the text's end.
+pub fn read_line(text: &[u8], at: usize, values: &[u8; BYTES]) -> Result<Option<Frame>, Refusal>
     requires { AreValues values.now }
     ensures { result ≡ line_at text.now at }
 {
     if at >= text.len() {
-        return Read::End;
+        return Ok(None);
     }
     let end = at + digits_in(&text[at..], values);
-    if end >= text.len() {
-        return Read::Refused(1);
-    }
-    if text[end] != FEED {
-        return Read::Refused(1);
-    }
     let line = &text[at..end];
-    if is_whole(line) {
-        Read::Frame(Frame {
-            kind: byte_at(line, 0, values),
-            len: line.len() / 2,
-            a: byte_at(line, 1, values),
-            b: byte_at(line, 2, values),
-            c: byte_at(line, 3, values),
-            next: end + 1,
-        })
-    } else {
-        Read::Refused(1)
+    if end >= text.len() || text[end] != FEED || !is_whole(line) {
+        return Err(Refusal::NoFrame);
     }
+    Ok(Some(Frame {
+        kind: byte_at(line, 0, values),
+        len: line.len() / 2,
+        a: byte_at(line, 1, values),
+        b: byte_at(line, 2, values),
+        c: byte_at(line, 3, values),
+        next: end + 1,
+    }))
 }
 
 // Writes a frame as a line from the start of the lent part, where later bytes stay, and gives the line's length.
@@ -89,41 +73,36 @@ pub fn put_frame(out: &mut [u8], frame: &[u8]) -> usize
     ensures value { result ≡ length (line_text frame.now) }
     ensures out_after { out.new ≡ over (line_text frame.now) out.old }
 {
-    let mut i = 0;
-    while i < frame.len() {
-        let byte = frame[i];
+    for (i, &byte) in frame.iter().enumerate() {
         out[2 * i] = digit(byte / 16);
         out[2 * i + 1] = digit(byte % 16);
-        i += 1;
     }
-    out[2 * i] = FEED;
-    2 * i + 1
+    let last = 2 * frame.len();
+    out[last] = FEED;
+    last + 1
 }
 
-// How many digits a text starts with; four are looked at in a turn.
+// How many digits a text starts with. The loop steps by four: each byte of a text passes here, and a turn for each would
+// be slower.
 fn digits_in(text: &[u8], values: &[u8; BYTES]) -> usize
     requires { AreValues values.now }
     ensures { result ≡ length (take_digits text.now) }
 {
     let mut i = 0;
     while i + 3 < text.len() {
-        if is_hex(text[i], values) {
-            if is_hex(text[i + 1], values) {
-                if is_hex(text[i + 2], values) {
-                    if is_hex(text[i + 3], values) {
-                        i += 4;
-                    } else {
-                        return i + 3;
-                    }
-                } else {
-                    return i + 2;
-                }
-            } else {
-                return i + 1;
-            }
-        } else {
+        if !is_hex(text[i], values) {
             return i;
         }
+        if !is_hex(text[i + 1], values) {
+            return i + 1;
+        }
+        if !is_hex(text[i + 2], values) {
+            return i + 2;
+        }
+        if !is_hex(text[i + 3], values) {
+            return i + 3;
+        }
+        i += 4;
     }
     digits_from(text, i, values)
 }
@@ -134,15 +113,11 @@ fn digits_from(text: &[u8], known: usize, values: &[u8; BYTES]) -> usize
     requires known_in_bounds { known ≤ length text.now }
     ensures { result ≡ known + length (take_digits (drop known text.now)) }
 {
-    let mut i = known;
-    while i < text.len() {
-        if is_hex(text[i], values) {
-            i += 1;
-        } else {
-            return i;
-        }
-    }
-    i
+    known
+        + text[known..]
+            .iter()
+            .take_while(|&&b| is_hex(b, values))
+            .count()
 }
 
 // The digits are those of whole bytes, and there are some.
@@ -150,10 +125,7 @@ fn is_whole(line: &[u8]) -> bool
     requires { all_hex line.now ≡ true }
     ensures { result ≡ is_digits line.now }
 {
-    if line.len() == 0 {
-        return false;
-    }
-    line.len() % 2 == 0
+    !line.is_empty() && line.len() % 2 == 0
 }
 
 // A byte is one of the digits 0-9 a-f.

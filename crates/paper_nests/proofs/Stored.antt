@@ -1,9 +1,9 @@
 -- Laws of the nest as the code stores it: what one more point, dependence, barred gap or flagged DO makes of it, its
 -- dependences one by one.
--- Main statements: `point_added`, `dependence_added`, `bar_added`, `flagged_added`, `deps_in_length`, `deps_in_at`,
--- `counted_many`, `counted_points`, `counted_bars`, `counted_flags`.
+-- Main statements: `point_added`, `dependence_added`, `bar_added`, `flagged_added`, `deps_in_length`, `deps_in_map`,
+-- `deps_in_at`, `counted_many`, `counted_points`, `counted_bars`, `counted_flags`.
 use mathlib.Core.Path.{◌≡◌, refl, ap}
-use mathlib.Core.List.{List, [], ◌∷◌, ◌++◌}
+use mathlib.Core.List.{List, [], ◌∷◌, ◌++◌, map}
 use Prim.Native.Nat.{ℕ, zero, suc, ◌+◌, ◌≤◌, ◌<◌}
 use native.Mathlib.Numerals.{add-one}
 use native.Mathlib.Omega.{arith}
@@ -20,6 +20,12 @@ pub deps_in_length : (n : ℕ) (xs : List DE.Dependence) → n ≤ length xs →
 deps_in_length zero xs h = refl
 deps_in_length (suc n) [] h = absurd (omega arith)
 deps_in_length (suc n) (x ∷ xs) h = ap suc (deps_in_length n xs (omega arith))
+
+-- they are those of the array's first entries, one by one
+pub deps_in_map : (n : ℕ) (xs : List DE.Dependence) → map dep_in (take n xs) ≡ deps_in n xs
+deps_in_map zero xs = refl
+deps_in_map (suc n) [] = refl
+deps_in_map (suc n) (x ∷ xs) = ap (λ (l : List Dep). dep_in x ∷ l) (deps_in_map n xs)
 
 -- a dependence put right after the first n
 pub deps_in_more

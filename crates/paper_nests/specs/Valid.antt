@@ -1,5 +1,5 @@
 -- When a nest is valid; numbers 6 and 7 of a dependence, 8 and 14 of a barred gap.
--- Main definitions: `is_shape`, `dep_fault`, `is_dep`, `bar_fault`, `is_bar`, `are_flags`, `is_valid`.
+-- Main definitions: `is_shape`, `is_statement_or`, `dep_fault`, `is_dep`, `bar_fault`, `is_bar`, `are_flags`, `is_valid`.
 use Rattle.std.specs.Prelude.{◌≡◌, Bool, true, false, ◌&&◌, ◌||◌, not, List, [], ◌∷◌, ℕ, zero, suc, eqb, ltb, leb, length, get_or}
 use Rattle.laws.specs.Choice.{pick, when, first_of}
 use Rattle.paper_nests.specs.Kinds.{DO, ENDDO, STATEMENT, INDEPENDENT, CARRIED, POINTS, DEPTH, DEPENDENCES, BARS}
@@ -23,6 +23,10 @@ closes (suc d) (p ∷ ps) =
 abbrev pub is_shape : List ℕ → Bool
 is_shape [] = false
 is_shape (p ∷ ps) = eqb p DO && closes 1 ps
+
+-- a point that may be an end of a dependence: a statement, or one of the kind k
+abbrev pub is_statement_or : ℕ → List ℕ → ℕ → Bool
+is_statement_or k ps p = ltb p (length ps) && (eqb (get_or ps p 0) STATEMENT || eqb (get_or ps p 0) k)
 
 -- 01, "The nest and its gaps": s is a statement or a DO, t a statement or an ENDDO
 abbrev pub is_source : List ℕ → ℕ → Bool

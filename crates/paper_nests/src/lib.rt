@@ -2,12 +2,15 @@
 // gap.
 #![tactic(auto)]
 
-ghost use Rattle.std.specs.Prelude.{◌≡◌, true, ◌+◌, ◌^◌, ◌<◌, ◌≤◌, length};
+ghost use Rattle.std.specs.Prelude.{◌≡◌, true, ◌+◌, ◌^◌, ◌<◌, ◌≤◌, length, map, take};
+ghost use Rattle.paper_refusals.specs.Numbers.{number_in};
 ghost use Rattle.paper_nests.specs.Kinds.{POINTS};
 ghost use Rattle.paper_nests.specs.Loops.{deeper, end_of, HasEnds, owner_of, is_do, is_inside};
 ghost use Rattle.paper_nests.specs.Ring.{one_loop};
-ghost use Rattle.paper_nests.specs.Valid.{is_shape, is_source, is_target, CarriedTo, dep_fault, bar_fault};
-ghost use Rattle.paper_nests.specs.Stored.{dep_in, IsCounted, IsEmpty, PointAdded};
+ghost use Rattle.paper_nests.specs.Valid.{is_shape, is_statement_or, CarriedTo, dep_fault, bar_fault};
+ghost use Rattle.paper_nests.specs.Stored.{dep_in, nest_in, IsCounted, IsEmpty, PointAdded};
+
+use paper_refusals::Refusal;
 
 // The kinds of points.
 pub const DO: u8 = 1;
@@ -88,11 +91,35 @@ impl Nest {
         requires count_bound { self.count < POINTS }
         ensures { PointAdded self kind result }
     {
-        let mut n = self;
-        let at = n.count;
-        n.points[at] = kind;
-        n.count = at + 1;
-        n
+        let mut nest = self;
+        nest.points[nest.count] = kind;
+        nest.count += 1;
+        nest
+    }
+
+    // The points that it has.
+    pub fn points(&self) -> &[u8]
+        requires { IsCounted self.now }
+        ensures { result.now ≡ (nest_in self.now).points }
+    {
+        &self.points[..self.count]
+    }
+
+    // The dependences that it has.
+    pub fn dependences(&self) -> &[Dependence]
+        requires { IsCounted self.now }
+        ensures entries { result.now ≡ take self.now.many self.now.deps }
+        ensures as_listed { map dep_in result.now ≡ (nest_in self.now).deps }
+    {
+        &self.deps[..self.many]
+    }
+
+    // The barred gaps that it has.
+    pub fn barred_gaps(&self) -> &[u8]
+        requires { IsCounted self.now }
+        ensures { result.now ≡ (nest_in self.now).barred }
+    {
+        &self.barred[..self.bars]
     }
 }
 
@@ -101,16 +128,11 @@ pub fn deeper(depth: usize, kind: u8) -> usize
     requires { depth + 1 < 2 ^ 64 }
     ensures { result ≡ deeper depth kind }
 {
-    if kind == DO {
-        return depth + 1;
+    match kind {
+        DO => depth + 1,
+        ENDDO => depth.saturating_sub(1),
+        _ => depth,
     }
-    if kind == ENDDO {
-        if 0 < depth {
-            return depth - 1;
-        }
-        return 0;
-    }
-    depth
 }
 
 // The point of the ENDDO of the loop whose DO is d.
@@ -118,18 +140,13 @@ pub fn end_of(points: &[u8], d: usize) -> usize
     ensures { result ≡ end_of points.now d }
 {
     let mut depth: usize = 0;
-    let mut i = d;
-    while i < points.len() {
-        let p = points[i];
-        if p == ENDDO {
-            if depth == 1 {
-                return i;
-            }
+    for i in d..points.len() {
+        if points[i] == ENDDO && depth == 1 {
+            return i;
         }
-        depth = deeper(depth, p);
-        i += 1;
+        depth = deeper(depth, points[i]);
     }
-    i
+    d.max(points.len())
 }
 
 // The ENDDO of every DO, by the DO's point. At every point stands the next ENDDO behind it that closes a loop which is
@@ -140,17 +157,12 @@ pub fn ends_of(points: &[u8]) -> [usize; Nest::POINTS]
 {
     let mut ends = [0; Nest::POINTS];
     let mut end = points.len();
-    let mut i = points.len();
-    while 0 < i {
-        i -= 1;
+    for i in (0..points.len()).rev() {
         ends[i] = end;
-        let kind = points[i];
-        if kind == ENDDO {
-            end = i;
-        } else if kind == DO {
-            if end < points.len() {
-                end = ends[end];
-            }
+        match points[i] {
+            ENDDO => end = i,
+            DO if end < points.len() => end = ends[end],
+            _ => {}
         }
     }
     ends
@@ -163,20 +175,12 @@ pub fn loop_of(points: &[u8], g: usize) -> usize
     ensures { result ≡ owner_of points.now g }
 {
     let mut depth: usize = 0;
-    let mut i = g;
-    while 0 < i {
-        let p = points[i - 1];
-        if p == DO {
-            if depth == 0 {
-                return i - 1;
-            }
-            depth -= 1;
-            i -= 1;
-        } else if p == ENDDO {
-            depth += 1;
-            i -= 1;
-        } else {
-            i -= 1;
+    for i in (0..g).rev() {
+        match points[i] {
+            DO if depth == 0 => return i,
+            DO => depth -= 1,
+            ENDDO => depth += 1,
+            _ => {}
         }
     }
     0
@@ -186,112 +190,67 @@ pub fn loop_of(points: &[u8], g: usize) -> usize
 pub fn is_do(points: &[u8], i: usize) -> bool
     ensures { result ≡ is_do points.now i }
 {
-    if i < points.len() {
-        return points[i] == DO;
-    }
-    false
+    i < points.len() && points[i] == DO
 }
 
 // No point but the first is a DO.
 pub fn is_one_loop(points: &[u8]) -> bool
     ensures { result ≡ one_loop points.now }
 {
-    let mut i = 1;
-    while i < points.len() {
-        if points[i] == DO {
-            return false;
-        }
-        i += 1;
-    }
-    true
+    points.iter().skip(1).all(|&p| p != DO)
 }
 
-// The point may be the source of a dependence: a statement or a DO.
-pub fn is_source(points: &[u8], s: usize) -> bool
-    ensures { result ≡ is_source points.now s }
+// The point may be an end of a dependence: a statement or one of the kind KIND, a DO for the source and an ENDDO for the
+// target.
+pub fn is_statement_or<const KIND: u8>(points: &[u8], p: usize) -> bool
+    ensures { result ≡ is_statement_or KIND points.now p }
 {
-    if s < points.len() {
-        let p = points[s];
-        if p == STATEMENT {
-            return true;
-        }
-        return p == DO;
-    }
-    false
-}
-
-// The point may be the target of a dependence: a statement or an ENDDO.
-pub fn is_target(points: &[u8], t: usize) -> bool
-    ensures { result ≡ is_target points.now t }
-{
-    if t < points.len() {
-        let p = points[t];
-        if p == STATEMENT {
-            return true;
-        }
-        return p == ENDDO;
-    }
-    false
+    p < points.len() && (points[p] == STATEMENT || points[p] == KIND)
 }
 
 // The point lies strictly between a loop's DO and its ENDDO.
 pub fn is_inside(d: usize, end: usize, p: usize) -> bool
     ensures { result ≡ is_inside d end p }
 {
-    if d < p {
-        return p < end;
-    }
-    false
+    d < p && p < end
 }
 
-// The refusal of a dependence, 6 or 7, or 0 for none; `end` is the ENDDO of the loop that carries it.
-pub fn dep_fault(points: &[u8], end: usize, e: Dependence) -> u8
+// Whether a dependence is one of these points, else its refusal, 6 or 7; `end` is the ENDDO of the loop that carries it.
+pub fn dep_fault(points: &[u8], end: usize, e: Dependence) -> Result<(), Refusal>
     requires { CarriedTo points.now (dep_in e) end }
-    ensures { result ≡ dep_fault points.now (dep_in e) }
+    ensures { number_in result ≡ dep_fault points.now (dep_in e) }
 {
     let s = e.s as usize;
     let t = e.t as usize;
     let d = e.d as usize;
-    let source = is_source(points, s);
-    if source {
-        let target = is_target(points, t);
-        if target {
-            if e.kind == CARRIED {
-                let starts = is_do(points, d);
-                if starts {
-                    let from_inside = is_inside(d, end, s);
-                    if from_inside {
-                        let to_inside = is_inside(d, end, t);
-                        if to_inside {
-                            return 0;
-                        }
-                    }
-                    return 7;
-                }
-                return 6;
-            }
-            if s < t {
-                return 0;
-            }
-            return 7;
-        }
+    if !is_statement_or::<DO>(points, s) || !is_statement_or::<ENDDO>(points, t) {
+        return Err(Refusal::WrongPoint);
     }
-    6
+    if e.kind == CARRIED {
+        if !is_do(points, d) {
+            return Err(Refusal::WrongPoint);
+        }
+        if !is_inside(d, end, s) || !is_inside(d, end, t) {
+            return Err(Refusal::WrongOrder);
+        }
+    } else if t <= s {
+        return Err(Refusal::WrongOrder);
+    }
+    Ok(())
 }
 
-// The refusal of a barred gap, 8 or 14, or 0 for none; `single` says whether the nest has one loop only.
-pub fn bar_fault(points: &[u8], single: bool, g: u8) -> u8
+// Whether a barred gap is one of these points, else its refusal, 8 or 14; `single` says whether the nest has one loop
+// only.
+pub fn bar_fault(points: &[u8], single: bool, g: u8) -> Result<(), Refusal>
     requires { single ≡ one_loop points.now }
-    ensures { result ≡ bar_fault points.now g }
+    ensures { number_in result ≡ bar_fault points.now g }
 {
     let gap = g as usize;
-    if 0 < gap {
-        if gap < points.len() {
-            if single {
-                return 0;
-            }
-            return 14;
-        }
+    if gap == 0 || points.len() <= gap {
+        return Err(Refusal::WrongGap);
     }
-    8
+    if !single {
+        return Err(Refusal::NotOneLoop);
+    }
+    Ok(())
 }

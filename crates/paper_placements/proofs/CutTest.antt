@@ -1,5 +1,5 @@
 -- The cut test: the lowest gap of the placement among those of the dependence.
--- Main statements: `lowest_between`, `lowest_either`, `cuts_by`, `cut_lowest`, `cut_Line`, `cut_back`.
+-- Main statements: `lowest_either`, `cuts_by`, `cut_lowest`, `cut_Line`, `cut_back`; `cut_some`.
 use mathlib.Core.Path.{◌≡◌, refl, sym, ◌∙◌}
 use mathlib.Core.Bool.{Bool, true, false, ◌||◌}
 use mathlib.Core.List.{List, [], ◌∷◌}
@@ -9,38 +9,19 @@ use native.Mathlib.Numerals.{add-one}
 use native.Mathlib.Omega.{arith}
 use lib.Dec.{eqb, ltb}
 use borrow.Author.Tests.{eq-eqb, ne_eqb, lt-ltb, le-ltb}
+use Rattle.std.proofs.Common.{Option, Some, None, is_some}
 use Rattle.laws.specs.Choice.{pick, between}
 use Rattle.laws.proofs.Tests.{le_or, never, or-true, or_left, or_right, false_by}
-use Rattle.laws.proofs.Ranges.{in_between, between_in}
+use Rattle.laws.proofs.Ranges.{in_between}
 use Rattle.paper_nests.specs.Kinds.{INDEPENDENT}
 use Rattle.paper_nests.specs.Nests.{Dep}
 use Rattle.paper_nests.specs.Loops.{end_of}
 use Rattle.paper_nests.specs.Gaps.{has_gap}
 use Rattle.paper_placements.specs.Placements.{cuts, cut_by}
-use Rattle.paper_placements.specs.Words.{GAPS, holds, kept, gaps_of, gaps_in, LowestFrom, LowestIn}
-use Rattle.paper_placements.specs.declared.Cut as DC
+use Rattle.paper_placements.specs.Words.{GAPS, holds, kept, gaps_of, gaps_in, LowestIn}
 use Rattle.paper_placements.specs.Answers.{cut_of, is_cut, CutSays, found_of}
 
 -- ---- the lowest gap of a range
-
-module _ (ws : List ℕ) (lo hi r : ℕ) (p : LowestFrom ws lo r) where
-  -- the lowest from lo on is at most hi
-  pub lowest_between : r ≤ hi → LowestIn ws (λ (g : ℕ). between lo g hi) r
-  lowest_between h =
-      record {
-        fits = p.fits;
-        held = λ l. (between_in lo r hi (p.held l).0 h, (p.held l).1);
-        none = λ i a b c. p.none i a (in_between lo i hi b).0 c;
-      }
-
-  -- or above it
-  pub lowest_over : hi < r → LowestIn ws (λ (g : ℕ). between lo g hi) GAPS
-  lowest_over h =
-      record {
-        fits = omega arith;
-        held = λ l. absurd (omega arith);
-        none = λ i a b c. let z = in_between lo i hi b in p.none i a z.0 (omega (arith, z.1));
-      }
 
 -- of two sets of gaps the lower of both
 pub lowest_either
@@ -206,7 +187,7 @@ module _ (ps : List ℕ) (e : Dep) where
 
   -- as an answer of the code
   pub answer
-      : (ws : List ℕ) (a : DC.Cut) (r : ℕ)
+      : (ws : List ℕ) (a : Option ℕ) (r : ℕ)
       → (cut_of a ≡ found_of r) × (is_cut a ≡ ltb r GAPS)
       → Told ws r
       → CutSays ps e (gaps_in ws) a
@@ -258,3 +239,8 @@ module _ (ps : List ℕ) (e : Dep) where
       p
       q
       w))
+
+-- an answer of the code cuts where there is one
+pub cut_some : (r : Option ℕ) → is_cut r ≡ is_some r
+cut_some (Some g) = refl
+cut_some None = refl

@@ -1,6 +1,5 @@
 -- The search for the lowest gap at or above a place: the rest of its word, then the words after it.
--- Main statements: `Passed`, what a turn keeps; `low_beyond`, `low_first`, `pass_first`, `low_later`, `pass_later`,
--- `low_none`.
+-- Main statements: `Passed`, what a turn keeps; `low_first`, `pass_first`, `low_later`, `pass_later`.
 use mathlib.Core.Path.{◌≡◌, sym, ◌∙◌}
 use mathlib.Core.Bool.{true, false}
 use mathlib.Core.List.{List}
@@ -14,10 +13,6 @@ use Rattle.laws.specs.Bits.{bit}
 use Rattle.laws.proofs.Tests.{le_or, never}
 use Rattle.laws.proofs.Bits.{bit_zero, bit_high, bit_shifted, lowest_set}
 use Rattle.paper_placements.specs.Words.{GAPS, holds, LowestFrom}
-
-pub low_beyond : (ws : List ℕ) (lo : ℕ) → GAPS ≤ lo → LowestFrom ws lo GAPS
-low_beyond ws lo h =
-    record { fits = omega arith; held = λ l. absurd (omega arith); none = λ i a b c. absurd (omega arith) }
 
 -- a gap in the word that it stands in
 pub at_word : (ws : List ℕ) (i k b : ℕ) → i ≡ k * 64 + b → b < 64 → holds ws i ≡ bit (get_or ws k 0) b
@@ -144,12 +139,4 @@ module _ (ws : List ℕ) (fit : (i : ℕ) → get_or ws i 0 < 2 ^ 64) (lo : ℕ)
             (let y : get_or ws k 0 ≡ 0 = omega arith in rw y (bit_zero (j - k * 64))))
             (λ (z : j < k * 64). p.none j a z)
             (le_or (k * 64) j);
-      }
-
-  pub low_none : (k : ℕ) → 4 ≤ k → Passed ws lo (k * 64) → LowestFrom ws lo GAPS
-  low_none k h p =
-      record {
-        fits = omega arith;
-        held = λ l. absurd (omega arith);
-        none = λ i a b c. p.none i b (omega arith);
       }

@@ -1,17 +1,19 @@
 -- The dependences tried one by one, for the first that is not cut.
 -- Main statements: `Tried`, what a turn keeps; `tried_start`, `tried_cut`, `tried_uncut`, `tried_done`;
--- `carried_by_loop`.
+-- `carried_by_loop`; `lent_at`.
 use mathlib.Core.Path.{◌≡◌, refl, sym, ◌∙◌}
 use mathlib.Core.Bool.{true, false}
 use mathlib.Core.List.{List, [], ◌∷◌}
 use mathlib.Core.Logic.{⊎_elim}
-use Prim.Native.Nat.{ℕ, zero, suc, ◌+◌, ◌≤◌}
+use Prim.Native.Nat.{ℕ, zero, suc, ◌+◌, ◌≤◌, ◌<◌}
 use native.Mathlib.Omega.{arith}
-use lib.ListN.{length, drop, drop_of_length-le}
+use lib.ListN.{length, get_or, take, drop, drop_of_length-le}
 use Rattle.laws.proofs.Tests.{and_true}
+use Rattle.paper_nests.specs.declared.Dependence as DE
 use Rattle.paper_nests.specs.Kinds.{INDEPENDENT}
 use Rattle.paper_nests.specs.Nests.{Dep}
 use Rattle.paper_nests.specs.Loops.{is_do}
+use Rattle.paper_nests.specs.Stored.{dep_in, deps_in}
 use Rattle.paper_nests.specs.Valid.{is_dep, are_deps}
 use Rattle.paper_nests.proofs.Deps.{dep_fits, Line, Back}
 use Rattle.paper_placements.specs.Placements.{cuts, uncut_from}
@@ -61,3 +63,13 @@ carried_by_loop ps ds i e es h q n =
     (λ (z : Line ps e). absurd (n z.kind_is))
     (λ (z : Back ps e). z.loop)
     (dep_fits ps e (dep-at ps ds i e es h q))
+
+-- of the dependences lent as a list, the one at i stands in front of the rest
+pub lent_at
+    : (n : ℕ) (xs : List DE.Dependence) (i : ℕ) (z : DE.Dependence)
+    → i < length (take n xs)
+    → drop i (deps_in n xs) ≡ dep_in (get_or (take n xs) i z) ∷ drop (suc i) (deps_in n xs)
+lent_at zero xs i z h = absurd (omega arith)
+lent_at (suc n) [] i z h = absurd (omega arith)
+lent_at (suc n) (x ∷ xs) zero z h = refl
+lent_at (suc n) (x ∷ xs) (suc i) z h = lent_at n xs i z (omega arith)

@@ -1,41 +1,43 @@
 -- The answers of the code as numbers of the definitions, for each of their cases.
--- Main definitions: `cut_of`, `is_cut`, `CutSays`, `found_of`, `IsMask`, `Difference`, `difference_in`, `difference_of`,
--- `LoopCountSays`, `CompareSays`.
-use Rattle.std.specs.Prelude.{◌≡◌, Bool, true, false, List, ℕ, suc, ◌-◌, ◌<◌, eqb, ltb, length}
+-- Main definitions: `cut_of`, `is_cut`, `CutSays`, `place_of`, `found_of`, `IsMask`, `Difference`, `difference_in`,
+-- `difference_of`, `LoopCountSays`, `CompareSays`.
+use Rattle.std.specs.Prelude.{◌≡◌, Bool, true, false, Option, Some, None, List, ℕ, suc, ◌-◌, ◌<◌, eqb, ltb, length}
 use Rattle.laws.specs.Choice.{pick}
 use Rattle.paper_nests.specs.declared.Dependence as DE
 use Rattle.paper_nests.specs.Kinds.{INDEPENDENT}
 use Rattle.paper_nests.specs.Nests.{Dep, Nest}
 use Rattle.paper_nests.specs.Loops.{end_of, owner_of}
 use Rattle.paper_nests.specs.Stored.{dep_in}
-use Rattle.paper_placements.specs.declared.Cut as DC
-use Rattle.paper_placements.specs.declared.Cut.TheVariants as Cut
-use Rattle.paper_placements.specs.declared.Compared as DP
-use Rattle.paper_placements.specs.declared.Compared.TheVariants as Compared
+use Rattle.paper_placements.specs.declared.Counts as DC
 use Rattle.paper_placements.specs.Placements.{cuts, cut_by, loop_count, differ}
 use Rattle.paper_placements.specs.Words.{GAPS, holds, gaps_in}
 
 -- the gap that cuts; 0 for none
-abbrev pub cut_of : DC.Cut → ℕ
-cut_of (Cut.By g) = g
-cut_of Cut.Uncut = 0
+abbrev pub cut_of : Option ℕ → ℕ
+cut_of (Some g) = g
+cut_of None = 0
 
 -- whether it cuts
-abbrev pub is_cut : DC.Cut → Bool
-is_cut (Cut.By g) = true
-is_cut Cut.Uncut = false
+abbrev pub is_cut : Option ℕ → Bool
+is_cut (Some g) = true
+is_cut None = false
 
 -- the cut test's answer for a dependence and a placement
-pub record CutSays (ps : List ℕ) (e : Dep) (gs : List ℕ) (r : DC.Cut) : Type 0 where
+pub record CutSays (ps : List ℕ) (e : Dep) (gs : List ℕ) (r : Option ℕ) : Type 0 where
   pub by_gap : cut_of r ≡ cut_by ps e gs
   pub cut : is_cut r ≡ cuts ps e gs
 
 -- the same for any points in which `end` is the ENDDO of the loop that carries the dependence
-abbrev pub CutInSays : ℕ → DE.Dependence → List ℕ → DC.Cut → Type 0
+abbrev pub CutInSays : ℕ → DE.Dependence → List ℕ → Option ℕ → Type 0
 CutInSays end e ws r =
     (ps : List ℕ) →
     ((e.kind ≡ INDEPENDENT → ⊥) → end ≡ end_of ps e.d) →
     CutSays ps (dep_in e) (gaps_in ws) r
+
+-- the number of the first dependence that is not cut, plus 1; 0 for none
+abbrev pub place_of : Option ℕ → ℕ
+place_of (Some i) = suc i
+place_of None = 0
 
 -- a gap that was looked for; 0 for none
 abbrev pub found_of : ℕ → ℕ
@@ -54,9 +56,9 @@ pub record Difference : Type 0 where
 abbrev pub difference : ℕ → ℕ → ℕ → Difference
 difference p t o = record { place = p; theirs = t; ours = o }
 
-abbrev pub difference_in : DP.Compared → Difference
-difference_in (Compared.Differ c) = difference (suc c.d) c.theirs c.ours
-difference_in Compared.Same = difference 0 0 0
+abbrev pub difference_in : Option DC.Counts → Difference
+difference_in (Some c) = difference (suc c.d) c.theirs c.ours
+difference_in None = difference 0 0 0
 
 -- 01, "The desk": the loop of Dearer is the one with the first ENDDO at which the counts differ
 abbrev pub difference_of : Nest → List ℕ → List ℕ → Difference
@@ -71,5 +73,5 @@ abbrev pub LoopCountSays : List ℕ → ℕ → List ℕ → ℕ → Type 0
 LoopCountSays ps d ws r = (n : Nest) → n.points ≡ ps → r ≡ loop_count n (gaps_in ws) d
 
 -- the answer for each nest with these points and two placements, as words
-abbrev pub CompareSays : List ℕ → List ℕ → List ℕ → DP.Compared → Type 0
+abbrev pub CompareSays : List ℕ → List ℕ → List ℕ → Option DC.Counts → Type 0
 CompareSays ps key ws r = (n : Nest) → n.points ≡ ps → difference_in r ≡ difference_of n (gaps_in key) (gaps_in ws)

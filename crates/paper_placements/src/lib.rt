@@ -9,7 +9,7 @@ ghost use Rattle.paper_nests.specs.Valid.{is_shape, is_valid};
 ghost use Rattle.paper_nests.specs.Stored.{nest_in, IsCounted};
 ghost use Rattle.paper_placements.specs.Placements.{uncut, are_gaps_from};
 ghost use Rattle.paper_placements.specs.Words.{GAPS, holds, gaps_in, LowestFrom, LowestIn};
-ghost use Rattle.paper_placements.specs.Answers.{cut_of, is_cut, CutInSays, found_of, IsMask};
+ghost use Rattle.paper_placements.specs.Answers.{cut_of, is_cut, CutInSays, place_of, found_of, IsMask};
 ghost use Rattle.paper_placements.specs.Answers.{LoopCountSays, CompareSays};
 
 use paper_nests::{Dependence, Nest};
@@ -21,26 +21,12 @@ pub struct Placement {
     pub words: [u64; 4],
 }
 
-// What the cut test answers: the lowest gap of the placement that cuts the dependence, or none.
-#[derive(Clone, Copy)]
-pub enum Cut {
-    By(usize),
-    Uncut,
-}
-
 // The counts of a loop in two placements.
 #[derive(Clone, Copy)]
 pub struct Counts {
     pub d: usize,
     pub theirs: usize,
     pub ours: usize,
-}
-
-// What comparing two placements answers: the first loop by its ENDDO at which the counts differ, or none.
-#[derive(Clone, Copy)]
-pub enum Compared {
-    Differ(Counts),
-    Same,
 }
 
 impl Placement {
@@ -59,8 +45,7 @@ impl Placement {
         ensures { (i : ℕ) → holds result.words i ≡ (eqb i g || holds self.words i) }
     {
         let mut p = self;
-        let at = g / 64;
-        p.words[at] = p.words[at] | (1 << (g % 64));
+        p.words[g / 64] |= 1 << (g % 64);
         p
     }
 
@@ -69,27 +54,25 @@ impl Placement {
         requires { g < GAPS }
         ensures { result ≡ holds self.words g }
     {
-        let at = g / 64;
-        (self.words[at] >> (g % 64)) & 1 == 1
+        (self.words[g / 64] >> (g % 64)) & 1 == 1
     }
 
     // The lowest gap at or above lo; 256 for none.
     pub fn lowest_from(self, lo: usize) -> usize
         ensures { LowestFrom self.words lo result }
     {
-        if lo < Placement::GAPS {
-            let at = lo / 64;
-            let v = self.words[at] >> (lo % 64);
-            if 0 < v {
-                return lo + u64::trailing_zeros(v) as usize;
-            }
-            let mut i = at + 1;
-            while i < 4 {
-                let w = self.words[i];
-                if 0 < w {
-                    return i * 64 + u64::trailing_zeros(w) as usize;
-                }
-                i += 1;
+        if lo >= Placement::GAPS {
+            return Placement::GAPS;
+        }
+        let at = lo / 64;
+        let v = self.words[at] >> (lo % 64);
+        if v != 0 {
+            return lo + v.trailing_zeros() as usize;
+        }
+        for i in at + 1..4 {
+            let w = self.words[i];
+            if w != 0 {
+                return i * 64 + w.trailing_zeros() as usize;
             }
         }
         Placement::GAPS
@@ -100,10 +83,7 @@ impl Placement {
         ensures { LowestIn self.words (λ (g : ℕ). between lo g hi) result }
     {
         let g = self.lowest_from(lo);
-        if g <= hi {
-            return g;
-        }
-        Placement::GAPS
+        if g <= hi { g } else { Placement::GAPS }
     }
 }
 
@@ -113,27 +93,21 @@ pub fn set_of(all: &[u8], count: usize) -> Placement
     ensures { (i : ℕ) → holds result.words i ≡ is_in i (take count all.now) }
 {
     let mut set = Placement::empty();
-    let mut i = count;
-    while 0 < i {
-        i -= 1;
-        let g = all[i] as usize;
-        set = set.put(g);
+    for i in (0..count).rev() {
+        set = set.put(all[i] as usize);
     }
     set
 }
 
-// A gap that was looked for, as an answer.
-fn found(g: usize) -> Cut
+// A gap that was looked for; None for 256.
+fn found(g: usize) -> Option<usize>
     ensures { (cut_of result ≡ found_of g) × (is_cut result ≡ ltb g GAPS) }
 {
-    if g < Placement::GAPS {
-        return Cut::By(g);
-    }
-    Cut::Uncut
+    (g < Placement::GAPS).then_some(g)
 }
 
-// The lowest gap of the placement that cuts the dependence, where `end` is the ENDDO of the loop that carries it.
-pub fn cut_in(end: usize, p: Placement, e: Dependence) -> Cut
+// The lowest gap of the placement that cuts the dependence, or None; `end` is the ENDDO of the loop that carries it.
+pub fn cut_in(end: usize, p: Placement, e: Dependence) -> Option<usize>
     ensures { CutInSays end e p.words result }
 {
     let s = e.s as usize;
@@ -142,37 +116,22 @@ pub fn cut_in(end: usize, p: Placement, e: Dependence) -> Cut
         return found(p.lowest_in(s + 1, t));
     }
     let d = e.d as usize;
-    let a = p.lowest_in(d + 1, t);
-    let b = p.lowest_in(s + 1, end);
-    if a < b {
-        return found(a);
-    }
-    found(b)
+    found(p.lowest_in(d + 1, t).min(p.lowest_in(s + 1, end)))
 }
 
-// The number of the first dependence that the placement does not cut, plus 1; 0 for none.
-pub fn uncut(nest: Nest, p: Placement) -> usize
+// The number of the first dependence that the placement does not cut, or None.
+pub fn uncut(nest: Nest, p: Placement) -> Option<usize>
     requires counted { IsCounted nest }
     requires nest_value { is_valid (nest_in nest) ≡ true }
-    ensures { result ≡ uncut (nest_in nest) (gaps_in p.words) }
+    ensures { place_of result ≡ uncut (nest_in nest) (gaps_in p.words) }
 {
-    let count = nest.count;
-    let points = nest.points;
-    let ends = paper_nests::ends_of(&points[..count]);
-    let many = nest.many;
-    let mut i = 0;
-    while i < many {
-        let e = nest.deps[i];
-        let d = e.d as usize;
-        let cut = cut_in(ends[d], p, e);
-        match cut {
-            Cut::Uncut => return i + 1,
-            Cut::By(_) => {
-                i += 1;
-            }
+    let ends = paper_nests::ends_of(nest.points());
+    for (i, &e) in nest.dependences().iter().enumerate() {
+        if cut_in(ends[e.d as usize], p, e).is_none() {
+            return Some(i);
         }
     }
-    0
+    None
 }
 
 // The own gaps of the loop with DO d and ENDDO e.
@@ -183,16 +142,11 @@ pub fn loop_mask(points: &[u8], d: usize, e: usize) -> Placement
 {
     let mut mask = Placement::empty();
     let mut depth: usize = 1;
-    let mut g = d + 1;
-    while g <= e {
+    for g in d + 1..e + 1 {
         if depth == 1 {
             mask = mask.put(g);
-            depth = paper_nests::deeper(depth, points[g]);
-            g += 1;
-        } else {
-            depth = paper_nests::deeper(depth, points[g]);
-            g += 1;
         }
+        depth = paper_nests::deeper(depth, points[g]);
     }
     mask
 }
@@ -201,7 +155,7 @@ pub fn loop_mask(points: &[u8], d: usize, e: usize) -> Placement
 fn shared(a: u64, m: u64) -> usize
     ensures { (result ≡ tally (λ (b : ℕ). bit a b && bit m b) 64 0) × (result ≤ 64) }
 {
-    u64::count_ones(a & m) as usize
+    (a & m).count_ones() as usize
 }
 
 // The placement's ones under a loop's mask.
@@ -225,31 +179,23 @@ pub fn count_of(points: &[u8], d: usize, p: Placement) -> usize
     loop_count(p, mask)
 }
 
-// The first loop by its ENDDO at which the key and another placement differ, with both counts.
-pub fn compare(points: &[u8], key: Placement, other: Placement) -> Compared
+// The first loop by its ENDDO at which the key and another placement differ, with both counts, or None.
+pub fn compare(points: &[u8], key: Placement, other: Placement) -> Option<Counts>
     requires points_value { (is_shape points.now ≡ true) × (length points.now ≤ GAPS) }
     requires words_value { are_gaps_from 0 (length points.now) (gaps_in key.words) ≡ true }
     requires words_value_2 { are_gaps_from 0 (length points.now) (gaps_in other.words) ≡ true }
     ensures { CompareSays points.now key.words other.words result }
 {
-    let mut e = 0;
-    while e < points.len() {
-        if points[e] == paper_nests::ENDDO {
+    for (e, &point) in points.iter().enumerate() {
+        if point == paper_nests::ENDDO {
             let d = paper_nests::loop_of(points, e);
             let mask = loop_mask(points, d, e);
             let ours = loop_count(key, mask);
             let theirs = loop_count(other, mask);
             if ours != theirs {
-                return Compared::Differ(Counts {
-                    d: d,
-                    theirs: theirs,
-                    ours: ours,
-                });
+                return Some(Counts { d, theirs, ours });
             }
-            e += 1;
-        } else {
-            e += 1;
         }
     }
-    Compared::Same
+    None
 }

@@ -20,7 +20,7 @@ use Rattle.paper_nests.specs.Nests.{Nest, nest}
 use Rattle.paper_lines.specs.Lines.{line_text}
 use Rattle.paper_lines.specs.Writing.{over}
 use Rattle.paper_lines.proofs.Writing.{text-length}
-use Rattle.paper_lines.proofs.Parts.{Partly, part_begin, part_room, part_length, part_on, part_left, part_done}
+use Rattle.paper_lines.proofs.Parts.{Partly, part_begin, part_room, part_on, part_left, part_done}
 use Rattle.paper_placements.specs.Placements.{are_gaps_from, are_gaps, loop_count}
 use Rattle.paper_placements.proofs.GapLists.{rising_length, count_few}
 use Rattle.paper_counts.specs.Tables.{CountsAre}
@@ -140,11 +140,7 @@ module _ (ps counts o out : List ℕ) (place d : ℕ) (c : Counting ps counts o 
     abbrev bare : Nest
     bare = nest ps []
 
-    -- the buffer keeps its length, and the place and what is left lie in it
-    pub count_length : length out ≡ length o
-    count_length =
-        part_length (counts_text bare gs) (rest_of bare gs d) o out place (c.part gs y bare refl) (y.room bare refl)
-
+    -- the place and what is left lie in the buffer
     within : length (rest_of bare gs d) + place ≤ length o
     within =
         let part = c.part gs y bare refl in

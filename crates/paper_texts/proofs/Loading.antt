@@ -3,6 +3,7 @@
 -- `at_unknown`, `at_point`, `at_dependence`, `at_barred`, `at_flagged`, `room_for_point`, `room_for_dependence`,
 -- `room_for_bar`, `room_for_flagged`, `on_point`, `on_dependence`, `on_bar`, `on_flagged`.
 use mathlib.Core.Path.{◌≡◌, refl, sym, ◌∙◌, ap}
+use Rattle.std.proofs.Common.{Some, None, Result, Ok, Err}
 use mathlib.Core.Bool.{Bool, true, false, ◌&&◌, not}
 use mathlib.Core.List.{List, [], ◌∷◌}
 use Prim.Native.Nat.{ℕ, suc, ◌+◌, ◌^◌, ◌≤◌, ◌<◌}
@@ -10,6 +11,7 @@ use native.Mathlib.Numerals.{add-one}
 use native.Mathlib.Omega.{arith}
 use lib.Dec.{eqb, leb}
 use lib.ListN.{length, take, drop, set, length-take, length-set}
+use borrow.Author.Rules.{rules}
 use borrow.Author.Tests.{leb-false, ne_eqb}
 use Rattle.laws.specs.Choice.{pick, when, first_of}
 use Rattle.laws.proofs.Tests.{or_false, never}
@@ -25,17 +27,20 @@ use Rattle.paper_nests.specs.declared.Nest as DN
 use Rattle.paper_nests.proofs.Scan.{deeper_grows}
 use Rattle.paper_nests.proofs.Stored as stored
 use Rattle.paper_lines.specs.declared.Frame.{Frame}
-use Rattle.paper_lines.specs.declared.Read.TheVariants as RV
+use Rattle.paper_refusals.specs.declared.Refusal.{Refusal}
+use Rattle.paper_refusals.specs.declared.Fault.{Fault}
+use Rattle.paper_refusals.specs.declared.Refusal.TheVariants.{WrongKind}
+use Rattle.paper_refusals.specs.Numbers.{number_of}
+use Rattle.paper_refusals.proofs.Numbers.{never_zero}
 use Rattle.paper_lines.specs.Lines.{Line, lines_of, is_good, frame_of}
 use Rattle.paper_lines.specs.Reading.{line_at}
 use Rattle.paper_lines.proofs.Reading.{no_line, bad_line, good_line, Good-line}
-use Rattle.paper_texts.specs.declared.Reading.{Reading}
 use Rattle.paper_texts.specs.declared.Piece as DP
 use Rattle.paper_texts.specs.declared.Piece.TheVariants as PV
 use Rattle.paper_texts.specs.Pieces.{Told, piece_of, is_past, point_fault, dependence_fault, barred_fault}
 use Rattle.paper_texts.specs.Pieces.{told_fault, with_told}
 use Rattle.paper_texts.specs.NestTexts.{frame_fault, with_frame, line_fault, Got, got, read_lines, read_nest}
-use Rattle.paper_texts.specs.Reads.{IsRead, RefusedAs, EndedAs, HasNumbers, closed_by, misplaced_by, too_many_by}
+use Rattle.paper_texts.specs.Reads.{IsRead, EndedAs, HasNumbers, closed_by, misplaced_by, too_many_by}
 use Rattle.paper_texts.specs.Reads.{KnowsEnds, KnowsOne, told_in, IsPiece, PointFault, DependenceFault, BarredFault}
 use Rattle.paper_texts.proofs.BlankPaper.{lines_read}
 use Rattle.paper_texts.proofs.Shapes.{depth_more}
@@ -116,7 +121,7 @@ pub record Loading (s : List ℕ) (n : DN.Nest) (ends : List ℕ) (single : Bool
   pub rest : read_lines line (nest_in n) (lines_of (drop at s)) ≡ read_nest s
 
 -- an empty text
-pub at_blank : (s : List ℕ) (r : Reading) → length s ≡ 0 → IsRead [] r → IsRead s r
+pub at_blank : (s : List ℕ) (r : Result DN.Nest Fault) → length s ≡ 0 → IsRead [] r → IsRead s r
 at_blank [] r h p = p
 at_blank (b ∷ s) r h p = absurd (omega arith)
 
@@ -179,7 +184,7 @@ module _
     pub deep_fits : deep + 1 < 2 ^ 64
     deep_fits = omega (arith, p.deep_is, depth_bound 0 ps, p.counted.count_is, p.counted.count_fits)
 
-    pub at_end : (r : Reading) → line_at s at ≡ RV.End → EndedAs n deep line r → IsRead s r
+    pub at_end : (r : Result DN.Nest Fault) → line_at s at ≡ Ok None → EndedAs n deep line r → IsRead s r
     at_end r h e =
         let closed : closed_by n.count deep ≡ is_closed ps =
         ap (λ (x : ℕ). closed_by x deep) p.counted.count_is ∙ ap (closed_by (length ps)) p.deep_is in
@@ -193,26 +198,33 @@ module _
           counted = e.counted;
         }
 
-    pub at_refusal : (k : ℕ) (r : Reading) → line_at s at ≡ RV.Refused k → RefusedAs k line r → IsRead s r
-    at_refusal k r h e =
+    pub at_refusal : (k : Refusal) → line_at s at ≡ Err k → IsRead s (Err (record { refusal = k; line = line }))
+    at_refusal k h =
         let b = bad_line s at k h in
         let fault = fault_bad (nest_in n) b.first b.bad in
         record {
           got_is =
-              e.got_is
-              ∙ ap (λ (x : ℕ). got x line empty) b.number
+              ap (λ (x : ℕ). got x line empty) b.number
               ∙ sym (read_stop line (nest_in n) b.first b.rest 1 fault (omega arith))
               ∙ ap (read_lines line (nest_in n)) (sym b.lines)
               ∙ p.rest;
-          counted = e.counted;
+          counted = search rules;
         }
 
 -- a turn that comes to a frame: the nest so far, the frame of a good line, and the piece that it tells
 pub record Turn (s : List ℕ) (n : DN.Nest) (ends : List ℕ) (single : Bool) (deep at line : ℕ) (f : Frame)
     (x : DP.Piece) : Type 0 where
   pub so_far : Loading s n ends single deep at line
-  pub frame_is : line_at s at ≡ RV.Frame f
+  pub frame_is : line_at s at ≡ Ok (Some f)
   pub piece_is : IsPiece f x
+
+pub turned
+    : (f : Frame) (x : DP.Piece) {s : List ℕ} {n : DN.Nest} {ends : List ℕ} {single : Bool} {deep at line : ℕ}
+    → Loading s n ends single deep at line
+    → line_at s at ≡ Ok (Some f)
+    → IsPiece f x
+    → Turn s n ends single deep at line f x
+turned f x p h i = record { so_far = p; frame_is = h; piece_is = i }
 
 module _
     {s : List ℕ}
@@ -236,20 +248,25 @@ module _
     line-fault : line_fault (nest_in n) good.first ≡ told_fault (nest_in n) (told_in x)
     line-fault = fault_good (nest_in n) good.first good.good ∙ ap (told_fault (nest_in n)) (sym tells)
 
-    at_fault
-        : (e : ℕ) (r : Reading)
-        → e ≡ told_fault (nest_in n) (told_in x)
-        → (e ≡ 0 → ⊥)
-        → RefusedAs e line r
-        → IsRead s r
-    at_fault e r h z q =
+    pub at_fault
+        : (e : Refusal)
+        → number_of e ≡ told_fault (nest_in n) (told_in x)
+        → IsRead s (Err (record { refusal = e; line = line }))
+    at_fault e h =
         record {
           got_is =
-              q.got_is
-              ∙ sym (read_stop line (nest_in n) good.first (lines_of (drop f.next s)) e (line-fault ∙ sym h) z)
+              sym
+              (read_stop
+              line
+              (nest_in n)
+              good.first
+              (lines_of (drop f.next s))
+              (number_of e)
+              (line-fault ∙ sym h)
+              (never_zero e))
               ∙ ap (read_lines line (nest_in n)) (sym good.lines)
               ∙ p.rest;
-          counted = q.counted;
+          counted = search rules;
         }
 
     pub next_inside : (at < f.next) × (f.next ≤ length s)
@@ -291,16 +308,16 @@ module _
         }
 
     -- what is not known
-    pub at_unknown : (r : Reading) → x ≡ PV.Refused → RefusedAs 2 line r → IsRead s r
-    at_unknown r is = at_fault 2 r (rw is) (omega arith)
+    pub at_unknown : x ≡ PV.Unknown → IsRead s (Err (record { refusal = WrongKind; line = line }))
+    at_unknown is = at_fault WrongKind (rw is)
 
     -- a point, with its refusal e
     module _ (k e : ℕ) (is : x ≡ PV.Point k) (fault : PointFault n.count n.many n.bars deep k e) where
       point_told : e ≡ told_fault (nest_in n) (told_in x)
       point_told = fault (nest_in n) (numbers s n ends single deep at line p) ∙ rw is
 
-      pub at_point : (r : Reading) → (e ≡ 0 → ⊥) → RefusedAs e line r → IsRead s r
-      at_point r = at_fault e r point_told
+      pub at_point : (r : Refusal) → e ≡ number_of r → IsRead s (Err (record { refusal = r; line = line }))
+      at_point r h = at_fault r (sym h ∙ point_told)
 
       pub room_for_point : e ≡ 0 → n.count < POINTS
       room_for_point z =
@@ -340,8 +357,8 @@ module _
       flagged_told : e ≡ told_fault (nest_in n) (told_in x)
       flagged_told = fault (nest_in n) (numbers s n ends single deep at line p) ∙ rw is
 
-      pub at_flagged : (r : Reading) → (e ≡ 0 → ⊥) → RefusedAs e line r → IsRead s r
-      at_flagged r = at_fault e r flagged_told
+      pub at_flagged : (r : Refusal) → e ≡ number_of r → IsRead s (Err (record { refusal = r; line = line }))
+      at_flagged r h = at_fault r (sym h ∙ flagged_told)
 
       pub room_for_flagged : e ≡ 0 → (n.count < POINTS) × (n.flags < POINTS)
       room_for_flagged z =
@@ -389,8 +406,8 @@ module _
         dependence_told =
             fault (nest_in n) n.bars refl (of_points (numbers s n ends single deep at line p)) ∙ rw is
 
-        pub at_dependence : (r : Reading) → (e ≡ 0 → ⊥) → RefusedAs e line r → IsRead s r
-        at_dependence r = at_fault e r dependence_told
+        pub at_dependence : (r : Refusal) → e ≡ number_of r → IsRead s (Err (record { refusal = r; line = line }))
+        at_dependence r h = at_fault r (sym h ∙ dependence_told)
 
         pub room_for_dependence : e ≡ 0 → n.many < DEPENDENCES
         room_for_dependence z =
@@ -426,8 +443,8 @@ module _
         bar_told : e ≡ told_fault (nest_in n) (told_in x)
         bar_told = fault (nest_in n) n.many refl (of_points (numbers s n ends single deep at line p)) ∙ rw is
 
-        pub at_barred : (r : Reading) → (e ≡ 0 → ⊥) → RefusedAs e line r → IsRead s r
-        at_barred r = at_fault e r bar_told
+        pub at_barred : (r : Refusal) → e ≡ number_of r → IsRead s (Err (record { refusal = r; line = line }))
+        at_barred r h = at_fault r (sym h ∙ bar_told)
 
         pub room_for_bar : e ≡ 0 → n.bars < BARS
         room_for_bar z =

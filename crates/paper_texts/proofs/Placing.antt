@@ -1,6 +1,7 @@
 -- Placement texts read line by line: what a turn of the reader keeps, and one law for each way through a turn.
 -- Main statements: `placing`, `placed_all`, `placed_bad`, `placed-fault`, `place_on`.
 use mathlib.Core.Path.{◌≡◌, refl, sym, ◌∙◌, ap}
+use Rattle.std.proofs.Common.{Some, None, Ok, Err}
 use mathlib.Core.Bool.{true, false, ◌||◌}
 use mathlib.Core.List.{List, [], ◌∷◌, ◌++◌}
 use Prim.Native.Nat.{ℕ, suc, ◌+◌, ◌≤◌, ◌<◌}
@@ -11,15 +12,16 @@ use lib.ListN.{length, get_or, drop}
 use borrow.Author.Tests.{ne_eqb}
 use Rattle.laws.specs.Choice.{pick}
 use Rattle.paper_lines.specs.declared.Frame.{Frame}
-use Rattle.paper_lines.specs.declared.Read.TheVariants as RV
+use Rattle.paper_refusals.specs.declared.Refusal.{Refusal}
+use Rattle.paper_refusals.specs.Numbers.{number_of}
+use Rattle.paper_refusals.proofs.Numbers.{never_zero}
 use Rattle.paper_lines.specs.Lines.{Line, lines_of, is_good, frame_of}
 use Rattle.paper_lines.specs.Reading.{line_at}
 use Rattle.paper_lines.proofs.Reading.{no_line, bad_line, good_line, Good-line}
 use Rattle.paper_placements.specs.Words.{GAPS, holds, gaps_in}
 use Rattle.paper_placements.proofs.Words.{gaps_none, gaps_put_last}
-use Rattle.paper_texts.specs.declared.PlacementReading.{PlacementReading}
 use Rattle.paper_texts.specs.PlacementTexts.{barrier_fault, placed_fault, placed, place_lines, read_placement}
-use Rattle.paper_texts.specs.Reads.{IsPlaced, UnplacedAs, BarrierFault}
+use Rattle.paper_texts.specs.Reads.{IsPlaced, BarrierFault}
 use Rattle.paper_texts.proofs.Faults.{bad_first, good_first}
 use Rattle.paper_texts.proofs.Barriers.{barrier_rises}
 
@@ -75,27 +77,26 @@ placing n bs s ws h =
     }
 
 module _ (n : ℕ) (bs s ws : List ℕ) (last at line : ℕ) (p : Placing n bs s ws last at line) where
-  pub placed_all : line_at s at ≡ RV.End → placed 0 0 (gaps_in ws) ≡ read_placement n bs s
+  pub placed_all : line_at s at ≡ Ok None → placed 0 0 (gaps_in ws) ≡ read_placement n bs s
   placed_all h =
       sym (place_none line last n bs (gaps_in ws))
       ∙ ap (place_lines line last n bs (gaps_in ws)) (sym (no_line s at h))
       ∙ p.rest
 
-  pub placed_bad : (k : ℕ) (r : PlacementReading) → line_at s at ≡ RV.Refused k → UnplacedAs k line r → IsPlaced n bs s r
-  placed_bad k r h e =
+  pub placed_bad : (k : Refusal) → line_at s at ≡ Err k → IsPlaced n bs s (Err (record { refusal = k; line = line }))
+  placed_bad k h =
       let b = bad_line s at k h in
       let fault = fault_bad last n bs b.first b.bad in
       record {
         placed_is =
-            e.placed_is
-            ∙ ap (λ (x : ℕ). placed x line []) b.number
+            ap (λ (x : ℕ). placed x line []) b.number
             ∙ sym (place_stop line last n bs (gaps_in ws) b.first b.rest 1 fault (omega arith))
             ∙ ap (place_lines line last n bs (gaps_in ws)) (sym b.lines)
             ∙ p.rest;
       }
 
   -- the frame of a good line
-  module _ (f : Frame) (h : line_at s at ≡ RV.Frame f) (e : ℕ) (fault : BarrierFault last n bs f e) where
+  module _ (f : Frame) (h : line_at s at ≡ Ok (Some f)) (e : ℕ) (fault : BarrierFault last n bs f e) where
     good : Good-line s at f
     good = good_line s at f h
 
@@ -105,12 +106,22 @@ module _ (n : ℕ) (bs s ws : List ℕ) (last at line : ℕ) (p : Placing n bs s
     line-fault : placed_fault last n bs good.first ≡ e
     line-fault = fault_good last n bs good.first good.good ∙ sym fault_is
 
-    pub placed-fault : (r : PlacementReading) → (e ≡ 0 → ⊥) → UnplacedAs e line r → IsPlaced n bs s r
-    placed-fault r z q =
+    pub placed-fault : (r : Refusal) → e ≡ number_of r → IsPlaced n bs s (Err (record { refusal = r; line = line }))
+    placed-fault r q =
         record {
           placed_is =
-              q.placed_is
-              ∙ sym (place_stop line last n bs (gaps_in ws) good.first (lines_of (drop f.next s)) e line-fault z)
+              sym
+              (place_stop
+              line
+              last
+              n
+              bs
+              (gaps_in ws)
+              good.first
+              (lines_of (drop f.next s))
+              (number_of r)
+              (line-fault ∙ q)
+              (never_zero r))
               ∙ ap (place_lines line last n bs (gaps_in ws)) (sym good.lines)
               ∙ p.rest;
         }

@@ -1,7 +1,7 @@
 -- What the readers of whole texts promise, and what their steps promise of the nest so far.
--- Main definitions: `IsRead`, `IsPlaced`, `HasNumbers`, `KnowsEnds`, `KnowsOne`, `told_in`, `IsPiece`, `PointFault`,
+-- Main definitions: `got_in`, `IsRead`, `placed_in`, `IsPlaced`, `HasNumbers`, `KnowsEnds`, `KnowsOne`, `told_in`, `IsPiece`, `PointFault`,
 -- `DependenceFault`, `BarredFault`.
-use Rattle.std.specs.Prelude.{◌≡◌, Bool, ◌&&◌, ◌||◌, not, List, [], ℕ, eqb, leb, length}
+use Rattle.std.specs.Prelude.{◌≡◌, Bool, ◌&&◌, ◌||◌, not, List, [], ℕ, eqb, leb, length, Result, Ok, Err, IfOk}
 use Rattle.paper_nests.specs.Kinds.{DO, POINTS, DEPTH}
 use Rattle.laws.specs.Choice.{pick}
 use Rattle.paper_nests.specs.Nests.{Nest, empty}
@@ -13,19 +13,24 @@ use Rattle.paper_nests.specs.declared.Nest as DN
 use Rattle.paper_lines.specs.declared.Frame.{Frame}
 use Rattle.paper_lines.specs.Reading.{IsFrame}
 use Rattle.paper_placements.specs.Words.{gaps_in}
-use Rattle.paper_texts.specs.declared.Reading.{Reading}
-use Rattle.paper_texts.specs.declared.PlacementReading.{PlacementReading}
+use Rattle.paper_placements.specs.declared.Placement.{Placement}
+use Rattle.paper_refusals.specs.declared.Fault.{Fault}
+use Rattle.paper_refusals.specs.Numbers.{number_of}
 use Rattle.paper_texts.specs.declared.Piece as DP
 use Rattle.paper_texts.specs.declared.Piece.TheVariants as PV
 use Rattle.paper_texts.specs.Pieces.{Point, Depend, Bar, Flagged, Told, told, unknown, piece_of}
 use Rattle.paper_texts.specs.Pieces.{point_fault, dependence_fault, barred_fault}
-use Rattle.paper_texts.specs.NestTexts.{got, read_nest}
-use Rattle.paper_texts.specs.PlacementTexts.{barrier_fault, placed, read_placement}
+use Rattle.paper_texts.specs.NestTexts.{Got, got, read_nest}
+use Rattle.paper_texts.specs.PlacementTexts.{barrier_fault, Placed, placed, read_placement}
 
--- the reading of a nest text: its number and line, and the nest, which is empty where the text is refused
-pub record IsRead (s : List ℕ) (r : Reading) : Type 0 where
-  pub got_is : got r.number r.line (nest_in r.nest) ≡ read_nest s
-  pub counted : IsCounted r.nest
+-- what a reading of a nest text gave: its number and line, and the nest, which is empty where the text is refused
+abbrev pub got_in : Result DN.Nest Fault → Got
+got_in (Ok n) = got 0 0 (nest_in n)
+got_in (Err f) = got (number_of f.refusal) f.line empty
+
+pub record IsRead (s : List ℕ) (r : Result DN.Nest Fault) : Type 0 where
+  pub got_is : got_in r ≡ read_nest s
+  pub counted : IfOk r IsCounted
 
 -- 4: all points are there; a point has no place; 5: a point is one too many
 abbrev pub closed_by : ℕ → ℕ → Bool
@@ -37,16 +42,10 @@ misplaced_by count deep kind = closed_by count deep || (eqb count 0 && not (eqb 
 abbrev pub too_many_by : ℕ → ℕ → ℕ → Bool
 too_many_by count deep kind = leb POINTS count || (eqb kind DO && leb DEPTH deep)
 
--- the reading of a refused text, and the reading at the end of a text
-pub record RefusedAs (number line : ℕ) (r : Reading) : Type 0 where
-  pub got_is : got r.number r.line (nest_in r.nest) ≡ got number line empty
-  pub counted : IsCounted r.nest
-
-pub record EndedAs (n : DN.Nest) (deep line : ℕ) (r : Reading) : Type 0 where
-  pub got_is
-      : got r.number r.line (nest_in r.nest)
-      ≡ pick (closed_by n.count deep) (got 0 0 (nest_in n)) (got 4 line empty)
-  pub counted : IsCounted r.nest
+-- the reading at the end of a text
+pub record EndedAs (n : DN.Nest) (deep line : ℕ) (r : Result DN.Nest Fault) : Type 0 where
+  pub got_is : got_in r ≡ pick (closed_by n.count deep) (got 0 0 (nest_in n)) (got 4 line empty)
+  pub counted : IfOk r IsCounted
 
 -- the numbers that the reader keeps of the nest so far: points, dependences, barred gaps, depth
 pub record HasNumbers (n : Nest) (count many bars deep : ℕ) : Type 0 where
@@ -70,7 +69,7 @@ told_in (PV.Point k) = told (Point k)
 told_in (PV.Dependence e) = told (Depend (dep_in e))
 told_in (PV.Barred g) = told (Bar g)
 told_in PV.Flagged = told Flagged
-told_in PV.Refused = unknown
+told_in PV.Unknown = unknown
 
 -- x is what the frame tells
 abbrev pub IsPiece : Frame → DP.Piece → Type 0
@@ -89,13 +88,14 @@ abbrev pub BarredFault : List ℕ → ℕ → ℕ → ℕ → ℕ → Type 0
 BarredFault ps bars deep g r =
     (n : Nest) (many : ℕ) → n.points ≡ ps → HasNumbers n (length ps) many bars deep → r ≡ barred_fault n g
 
--- the reading of a placement text: its number and line, and the gaps, of which there is none where the text is refused
-pub record IsPlaced (n : ℕ) (bs s : List ℕ) (r : PlacementReading) : Type 0 where
-  pub placed_is : placed r.number r.line (gaps_in r.placement.words) ≡ read_placement n bs s
+-- what a reading of a placement text gave: its number and line, and the gaps, of which there is none where the text is
+-- refused
+abbrev pub placed_in : Result Placement Fault → Placed
+placed_in (Ok p) = placed 0 0 (gaps_in p.words)
+placed_in (Err f) = placed (number_of f.refusal) f.line []
 
--- the reading of a refused placement text
-pub record UnplacedAs (number line : ℕ) (r : PlacementReading) : Type 0 where
-  pub placed_is : placed r.number r.line (gaps_in r.placement.words) ≡ placed number line []
+pub record IsPlaced (n : ℕ) (bs s : List ℕ) (r : Result Placement Fault) : Type 0 where
+  pub placed_is : placed_in r ≡ read_placement n bs s
 
 -- r is the refusal of a barrier after the gap `last`, of a nest with n points and the barred gaps bs
 abbrev pub BarrierFault : ℕ → ℕ → List ℕ → Frame → ℕ → Type 0

@@ -1,44 +1,30 @@
 // Nest texts and placement texts, read line by line; placements and their counts, written.
 #![tactic(auto)]
 
-ghost use Rattle.std.specs.Prelude.{◌≡◌, true, [], ◌≤◌, length, take};
+ghost use Rattle.std.specs.Prelude.{◌≡◌, true, [], ◌≤◌, length, take, Ok};
+ghost use Rattle.paper_refusals.specs.Numbers.{number_in};
 ghost use Rattle.paper_nests.specs.Kinds.{POINTS};
 ghost use Rattle.paper_nests.specs.Loops.{HasEnds};
 ghost use Rattle.paper_nests.specs.Ring.{one_loop};
 ghost use Rattle.paper_nests.specs.Valid.{is_shape};
 ghost use Rattle.paper_nests.specs.Stored.{IsCounted};
-ghost use Rattle.paper_texts.specs.Reads.{IsRead, RefusedAs, EndedAs, closed_by, misplaced_by, too_many_by, PointFault};
+ghost use Rattle.paper_texts.specs.Reads.{IsRead, EndedAs, closed_by, misplaced_by, too_many_by, PointFault};
 ghost use Rattle.paper_texts.specs.Reads.{KnowsEnds, KnowsOne, IsPiece, DependenceFault, BarredFault};
 ghost use Rattle.paper_lines.specs.Writing.{over};
 ghost use Rattle.paper_placements.specs.Placements.{are_gaps_from};
 ghost use Rattle.paper_placements.specs.Words.{GAPS, gaps_in};
 ghost use Rattle.paper_texts.specs.PlacementTexts.{key_text};
 ghost use Rattle.paper_texts.specs.Counts.{CountsFit, CountsSay};
-ghost use Rattle.paper_texts.specs.Reads.{IsPlaced, UnplacedAs, BarrierFault};
+ghost use Rattle.paper_texts.specs.Reads.{IsPlaced, BarrierFault};
 
 use paper_counts::counts_of;
-use paper_lines::{Frame, Read, digit_values, put_frame, read_line};
+use paper_lines::{Frame, digit_values, put_frame, read_line};
 use paper_nests::{
     BARRED, CARRIED, DO, Dependence, ENDDO, FLAGGED, INDEPENDENT, Nest, STATEMENT, bar_fault,
     deeper, dep_fault, ends_of, is_one_loop,
 };
 use paper_placements::Placement;
-
-// A nest text's reading: the number and the line of its refusal, 0 and 0 for none, and the nest.
-#[derive(Clone, Copy)]
-pub struct Reading {
-    pub number: u8,
-    pub line: usize,
-    pub nest: Nest,
-}
-
-// A placement text's reading: the number and the line of its refusal, 0 and 0 for none, and the placement.
-#[derive(Clone, Copy)]
-pub struct PlacementReading {
-    pub number: u8,
-    pub line: usize,
-    pub placement: Placement,
-}
+use paper_refusals::{Fault, Refusal};
 
 // What a frame of a nest text tells: a point, a dependence, a barred gap, a flagged DO, or nothing that is known.
 #[derive(Clone, Copy)]
@@ -47,7 +33,7 @@ pub enum Piece {
     Dependence(Dependence),
     Barred(u8),
     Flagged,
-    Refused,
+    Unknown,
 }
 
 // The kind of barriers.
@@ -57,11 +43,11 @@ pub const BARRIER: u8 = 33;
 pub const COUNT: u8 = 34;
 
 // Reads a nest text up to its first faulty line. An empty text is the blank paper.
-pub fn read_nest(text: &[u8]) -> Reading
+pub fn read_nest(text: &[u8]) -> Result<Nest, Fault>
     ensures { IsRead text.now result }
 {
     if text.len() == 0 {
-        return blank();
+        return Ok(blank());
     }
     let values = digit_values();
     let mut nest = Nest::empty();
@@ -71,21 +57,22 @@ pub fn read_nest(text: &[u8]) -> Reading
     let mut at: usize = 0;
     let mut line: usize = 1;
     loop {
-        let next = read_line(text, at, &values);
-        match next {
-            Read::End => return ended(nest, depth, line),
-            Read::Refused(number) => return refused(number, line),
-            Read::Frame(f) => {
+        match read_line(text, at, &values) {
+            Ok(None) => return ended(nest, depth, line),
+            Err(refusal) => return Err(Fault { refusal, line }),
+            Ok(Some(f)) => {
                 let here = line;
                 at = f.next;
                 line += 1;
-                let piece = piece_of(f);
-                match piece {
+                match piece_of(f) {
                     Piece::Point(kind) => {
                         let count = nest.count;
-                        let number = point_fault(count, nest.many, nest.bars, depth, kind);
-                        if number != 0 {
-                            return refused(number, here);
+                        let fault = point_fault(count, nest.many, nest.bars, depth, kind);
+                        if let Err(refusal) = fault {
+                            return Err(Fault {
+                                refusal,
+                                line: here,
+                            });
                         }
                         nest.points[count] = kind;
                         nest.count = count + 1;
@@ -97,7 +84,7 @@ pub fn read_nest(text: &[u8]) -> Reading
                     }
                     Piece::Dependence(e) => {
                         let many = nest.many;
-                        let number = dependence_fault(
+                        let fault = dependence_fault(
                             &nest.points,
                             &ends,
                             nest.count,
@@ -105,26 +92,35 @@ pub fn read_nest(text: &[u8]) -> Reading
                             depth,
                             e,
                         );
-                        if number != 0 {
-                            return refused(number, here);
+                        if let Err(refusal) = fault {
+                            return Err(Fault {
+                                refusal,
+                                line: here,
+                            });
                         }
                         nest.deps[many] = e;
                         nest.many = many + 1;
                     }
                     Piece::Barred(g) => {
                         let bars = nest.bars;
-                        let number = barred_fault(&nest.points, single, nest.count, bars, depth, g);
-                        if number != 0 {
-                            return refused(number, here);
+                        let fault = barred_fault(&nest.points, single, nest.count, bars, depth, g);
+                        if let Err(refusal) = fault {
+                            return Err(Fault {
+                                refusal,
+                                line: here,
+                            });
                         }
                         nest.barred[bars] = g;
                         nest.bars = bars + 1;
                     }
                     Piece::Flagged => {
                         let count = nest.count;
-                        let number = point_fault(count, nest.many, nest.bars, depth, DO);
-                        if number != 0 {
-                            return refused(number, here);
+                        let fault = point_fault(count, nest.many, nest.bars, depth, DO);
+                        if let Err(refusal) = fault {
+                            return Err(Fault {
+                                refusal,
+                                line: here,
+                            });
                         }
                         let flags = nest.flags;
                         nest.points[count] = DO;
@@ -133,7 +129,10 @@ pub fn read_nest(text: &[u8]) -> Reading
                         nest.flags = flags + 1;
                         depth += 1;
                     }
-                    Piece::Refused => return refused(2, here),
+                    Piece::Unknown => return Err(Fault {
+                        refusal: Refusal::WrongKind,
+                        line: here,
+                    }),
                 }
             }
         }
@@ -141,7 +140,7 @@ pub fn read_nest(text: &[u8]) -> Reading
 }
 
 // Reads a placement text, for a nest with so many points and these barred gaps, up to its first faulty line.
-pub fn read_placement(points: usize, barred: Placement, text: &[u8]) -> PlacementReading
+pub fn read_placement(points: usize, barred: Placement, text: &[u8]) -> Result<Placement, Fault>
     ensures { IsPlaced points (gaps_in barred.words) text.now result }
 {
     let values = digit_values();
@@ -150,18 +149,13 @@ pub fn read_placement(points: usize, barred: Placement, text: &[u8]) -> Placemen
     let mut at: usize = 0;
     let mut line: usize = 1;
     loop {
-        let next = read_line(text, at, &values);
-        match next {
-            Read::End => return PlacementReading {
-                number: 0,
-                line: 0,
-                placement: placement,
-            },
-            Read::Refused(number) => return unplaced(number, line),
-            Read::Frame(f) => {
-                let number = barrier_fault(last, points, barred, f);
-                if number != 0 {
-                    return unplaced(number, line);
+        match read_line(text, at, &values) {
+            Ok(None) => return Ok(placement),
+            Err(refusal) => return Err(Fault { refusal, line }),
+            Ok(Some(f)) => {
+                let fault = barrier_fault(last, points, barred, f);
+                if let Err(refusal) = fault {
+                    return Err(Fault { refusal, line });
                 }
                 last = f.a as usize;
                 placement = placement.put(last);
@@ -172,154 +166,93 @@ pub fn read_placement(points: usize, barred: Placement, text: &[u8]) -> Placemen
     }
 }
 
-// The reading of an empty nest text: the blank paper, a loop with nothing in it.
-fn blank() -> Reading
-    ensures { IsRead [] result }
+// The nest of an empty nest text: the blank paper, a loop with nothing in it.
+fn blank() -> Nest
+    ensures { IsRead [] (Ok result) }
 {
     let none = Nest::empty();
     let open = none.with_point(DO);
-    let closed = open.with_point(ENDDO);
-    Reading {
-        number: 0,
-        line: 0,
-        nest: closed,
-    }
-}
-
-// The reading of a refused nest text.
-fn refused(number: u8, line: usize) -> Reading
-    ensures { RefusedAs number line result }
-{
-    Reading {
-        number: number,
-        line: line,
-        nest: Nest::empty(),
-    }
+    open.with_point(ENDDO)
 }
 
 // The reading at the end of a text.
-fn ended(nest: Nest, depth: usize, line: usize) -> Reading
+fn ended(nest: Nest, depth: usize, line: usize) -> Result<Nest, Fault>
     requires { IsCounted nest }
     ensures { EndedAs nest depth line result }
 {
-    if is_closed(nest.count, depth) {
-        Reading {
-            number: 0,
-            line: 0,
-            nest: nest,
-        }
-    } else {
-        refused(4, line)
+    if !is_closed(nest.count, depth) {
+        return Err(Fault {
+            refusal: Refusal::Misplaced,
+            line,
+        });
     }
+    Ok(nest)
 }
 
-// The reading of a refused placement text.
-fn unplaced(number: u8, line: usize) -> PlacementReading
-    ensures { UnplacedAs number line result }
+// Whether a frame is a barrier after the gap `last`, else its refusal, 2, 8 or 16.
+fn barrier_fault(last: usize, points: usize, barred: Placement, f: Frame) -> Result<(), Refusal>
+    ensures { BarrierFault last points (gaps_in barred.words) f (number_in result) }
 {
-    PlacementReading {
-        number: number,
-        line: line,
-        placement: Placement::empty(),
+    if f.kind != BARRIER || f.len != 2 {
+        return Err(Refusal::WrongKind);
     }
-}
-
-// The refusal of a barrier after the gap `last`, 2, 8 or 16, or 0 for none.
-fn barrier_fault(last: usize, points: usize, barred: Placement, f: Frame) -> u8
-    ensures { BarrierFault last points (gaps_in barred.words) f result }
-{
-    let kind = f.kind;
-    match kind {
-        BARRIER => {
-            if f.len == 2 {
-                let g = f.a as usize;
-                if g <= last {
-                    return 8;
-                }
-                if points <= g {
-                    return 8;
-                }
-                if barred.holds(g) {
-                    return 16;
-                }
-                return 0;
-            }
-            2
-        }
-        _ => 2,
+    let g = f.a as usize;
+    if g <= last || points <= g {
+        return Err(Refusal::WrongGap);
     }
+    if barred.holds(g) {
+        return Err(Refusal::BarredGap);
+    }
+    Ok(())
 }
 
 // What a frame tells, by its kind and its length.
 fn piece_of(f: Frame) -> Piece
     ensures { IsPiece f result }
 {
-    let kind = f.kind;
-    match kind {
-        DO | ENDDO | STATEMENT => {
-            if f.len == 1 {
-                return Piece::Point(kind);
-            }
-            Piece::Refused
-        }
-        INDEPENDENT => {
-            if f.len == 3 {
-                return Piece::Dependence(Dependence {
-                    kind: INDEPENDENT,
-                    d: 0,
-                    s: f.a,
-                    t: f.b,
-                });
-            }
-            Piece::Refused
-        }
-        CARRIED => {
-            if f.len == 4 {
-                return Piece::Dependence(Dependence {
-                    kind: CARRIED,
-                    d: f.a,
-                    s: f.b,
-                    t: f.c,
-                });
-            }
-            Piece::Refused
-        }
-        BARRED => {
-            if f.len == 2 {
-                return Piece::Barred(f.a);
-            }
-            Piece::Refused
-        }
-        FLAGGED => {
-            if f.len == 1 {
-                return Piece::Flagged;
-            }
-            Piece::Refused
-        }
-        _ => Piece::Refused,
+    match (f.kind, f.len) {
+        (DO | ENDDO | STATEMENT, 1) => Piece::Point(f.kind),
+        (INDEPENDENT, 3) => Piece::Dependence(Dependence {
+            kind: INDEPENDENT,
+            d: 0,
+            s: f.a,
+            t: f.b,
+        }),
+        (CARRIED, 4) => Piece::Dependence(Dependence {
+            kind: CARRIED,
+            d: f.a,
+            s: f.b,
+            t: f.c,
+        }),
+        (BARRED, 2) => Piece::Barred(f.a),
+        (FLAGGED, 1) => Piece::Flagged,
+        _ => Piece::Unknown,
     }
 }
 
-// The refusal of a point, 3, 4 or 5, or 0 for none.
-fn point_fault(count: usize, many: usize, bars: usize, depth: usize, kind: u8) -> u8
-    ensures { PointFault count many bars depth kind result }
+// Whether a point may come next, else its refusal, 3, 4 or 5.
+fn point_fault(
+    count: usize,
+    many: usize,
+    bars: usize,
+    depth: usize,
+    kind: u8,
+) -> Result<(), Refusal>
+    ensures { PointFault count many bars depth kind (number_in result) }
 {
-    if 1 <= many {
-        return 3;
-    }
-    if 1 <= bars {
-        return 3;
+    if 1 <= many || 1 <= bars {
+        return Err(Refusal::LatePoint);
     }
     if is_misplaced(count, depth, kind) {
-        return 4;
+        return Err(Refusal::Misplaced);
     }
     if is_too_many(count, depth, kind) {
-        return 5;
+        return Err(Refusal::TooMany);
     }
-    0
+    Ok(())
 }
 
-// The refusal of a dependence after the first points, 4 to 7, or 0 for none.
+// Whether a dependence may come after the first points, else its refusal, 4 to 7.
 fn dependence_fault(
     all: &[u8],
     ends: &[usize],
@@ -327,68 +260,61 @@ fn dependence_fault(
     many: usize,
     depth: usize,
     e: Dependence,
-) -> u8
+) -> Result<(), Refusal>
     requires count_in_bounds { count ≤ length all.now }
     requires knows_ends { KnowsEnds (take count all.now) depth ends.now }
-    ensures { DependenceFault (take count all.now) many depth e result }
+    ensures { DependenceFault (take count all.now) many depth e (number_in result) }
 {
-    if is_closed(count, depth) {
-        if Nest::DEPENDENCES <= many {
-            return 5;
-        }
-        let points = &all[..count];
-        return dep_fault(points, ends[e.d as usize], e);
+    if !is_closed(count, depth) {
+        return Err(Refusal::Misplaced);
     }
-    4
+    if Nest::DEPENDENCES <= many {
+        return Err(Refusal::TooMany);
+    }
+    dep_fault(&all[..count], ends[e.d as usize], e)
 }
 
-// The refusal of a barred gap after the first points, 4, 5, 8 or 14, or 0 for none.
-fn barred_fault(all: &[u8], single: bool, count: usize, bars: usize, depth: usize, g: u8) -> u8
+// Whether a barred gap may come after the first points, else its refusal, 4, 5, 8 or 14.
+fn barred_fault(
+    all: &[u8],
+    single: bool,
+    count: usize,
+    bars: usize,
+    depth: usize,
+    g: u8,
+) -> Result<(), Refusal>
     requires count_in_bounds { count ≤ length all.now }
     requires knows_one { KnowsOne (take count all.now) depth single }
-    ensures { BarredFault (take count all.now) bars depth g result }
+    ensures { BarredFault (take count all.now) bars depth g (number_in result) }
 {
-    if is_closed(count, depth) {
-        if Nest::BARS <= bars {
-            return 5;
-        }
-        let points = &all[..count];
-        return bar_fault(points, single, g);
+    if !is_closed(count, depth) {
+        return Err(Refusal::Misplaced);
     }
-    4
+    if Nest::BARS <= bars {
+        return Err(Refusal::TooMany);
+    }
+    bar_fault(&all[..count], single, g)
 }
 
 // All points are there.
 fn is_closed(count: usize, depth: usize) -> bool
     ensures { result ≡ closed_by count depth }
 {
-    if count == 0 {
-        return false;
-    }
-    depth == 0
+    0 < count && depth == 0
 }
 
 // All points are there, or the first is no DO.
 fn is_misplaced(count: usize, depth: usize, kind: u8) -> bool
     ensures { result ≡ misplaced_by count depth kind }
 {
-    if count == 0 {
-        return kind != DO;
-    }
-    depth == 0
+    is_closed(count, depth) || (count == 0 && kind != DO)
 }
 
 // There is no room for the point, or no loop may open here.
 fn is_too_many(count: usize, depth: usize, kind: u8) -> bool
     ensures { result ≡ too_many_by count depth kind }
 {
-    if Nest::POINTS <= count {
-        return true;
-    }
-    if kind == DO {
-        return Nest::DEPTH <= depth;
-    }
-    false
+    Nest::POINTS <= count || (kind == DO && Nest::DEPTH <= depth)
 }
 
 // The ENDDO of every DO among the first points, by the DO's point.
@@ -450,14 +376,10 @@ pub fn write_counts(points: &[u8], key: Placement, out: &mut [u8]) -> usize
 {
     let counts = counts_of(points, key);
     let mut at: usize = 0;
-    let mut d: usize = 0;
-    while d < points.len() {
+    for d in 0..points.len() {
         if points[d] == DO {
             let frame = [COUNT, (d % 256) as u8, (counts[d] % 256) as u8];
             at += put_frame(&mut out[at..], &frame);
-            d += 1;
-        } else {
-            d += 1;
         }
     }
     at

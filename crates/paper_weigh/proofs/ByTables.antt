@@ -1,6 +1,6 @@
 -- The pass over the points with the tables of both placements' counts, whatever nest has the points.
 -- Main definitions: `Weighs`, what a turn keeps; `Turn`, what it has; `Ending`, where a loop ends. Main statements:
--- `by_start`, `by_other`, `by_hidden`, `by_same`, `by_less`, `by_more`, `by_done`.
+-- `by_other`, `by_hidden`, `by_same`, `by_less`, `by_more`, `by_done`.
 use mathlib.Core.Path.{◌≡◌, sym, ◌∙◌}
 use mathlib.Core.Bool.{Bool, true, false, ◌||◌}
 use mathlib.Core.List.{List}
@@ -18,7 +18,7 @@ use Rattle.paper_placements.specs.Words.{holds}
 use Rattle.paper_counts.specs.Tables.{CountsAre}
 use Rattle.paper_weigh.specs.declared.Standing as DS
 use Rattle.paper_weigh.specs.Weighed.{IsWeighed}
-use Rattle.paper_weigh.proofs.Weighing.{Weighing, weigh_start, weigh_other, weigh_hidden, weigh_same}
+use Rattle.paper_weigh.proofs.Weighing.{Weighing, weigh_other, weigh_hidden, weigh_same}
 use Rattle.paper_weigh.proofs.Weighing.{weigh_less, weigh_more, weigh_done}
 
 pub record Weighs (ps of_a of_b : List ℕ) (e latest : ℕ) (first second : Bool) (ws : List ℕ) : Type 0 where
@@ -40,11 +40,6 @@ pub record Turn (ps of_a of_b : List ℕ) (e latest : ℕ) (first second : Bool)
 pub record Ending (ps : List ℕ) (e d : ℕ) : Type 0 where
   pub ends : get_or ps e 0 ≡ ENDDO
   pub owner : d ≡ owner_of ps e
-
-pub by_start
-    : (ps of_a of_b ws : List ℕ) → ((i : ℕ) → holds ws i ≡ false) → Weighs ps of_a of_b 0 0 true true ws
-by_start ps of_a of_b ws empty =
-    record { within = omega arith; each = λ n a b same ca cb. weigh_start n a b ws empty }
 
 module _
     {ps of_a of_b : List ℕ} {e latest : ℕ} {first second : Bool} {ws : List ℕ}

@@ -1,7 +1,7 @@
 -- The pass over the loops by their ENDDOs. A loop that ends at e has inside it just the loops that ended before e and
 -- begin behind its DO, so the last DO of those with different counts says whether it may decide.
 -- Main definitions: `Weighing`, what a turn keeps; `Quiet`, a loop that changes nothing. Main statements:
--- `weigh_start`, `weigh_other`, `weigh_hidden`, `weigh_same`, `weigh_less`, `weigh_more`, `weigh_done`.
+-- `weigh_other`, `weigh_hidden`, `weigh_same`, `weigh_less`, `weigh_more`, `weigh_done`.
 use mathlib.Core.Path.{◌≡◌, refl, sym, ap, ◌∙◌}
 use mathlib.Core.Bool.{Bool, true, false, not, ◌||◌}
 use mathlib.Core.List.{List}
@@ -60,25 +60,6 @@ pub record Weighing (n : Nest) (a b : List ℕ) (e latest : ℕ) (first second :
 pub record Quiet (n : Nest) (a b : List ℕ) (latest x : ℕ) : Type 0 where
   pub same : SameInside n a b x → loop_count n a x ≡ loop_count n b x
   pub behind : latest < x → loop_count n a x ≡ loop_count n b x
-
-none_ended : (ps : List ℕ) (x : ℕ) → Ended ps 0 x → ⊥
-none_ended ps x r = omega (arith, r.before)
-
-pub weigh_start
-    : (n : Nest) (a b ws : List ℕ) → ((i : ℕ) → holds ws i ≡ false) → Weighing n a b 0 0 true true ws
-weigh_start n a b ws empty =
-    record {
-      last =
-          record {
-            behind = λ x r. absurd (none_ended n.points x r);
-            ended = λ z. absurd (omega arith);
-            differs = λ z. absurd (omega arith);
-          };
-      of_first = record { so = λ z x r. absurd (none_ended n.points x r); not_so = λ z. never (sym z) };
-      of_second = record { so = λ z x r. absurd (none_ended n.points x r); not_so = λ z. never (sym z) };
-      decided =
-          record { all = λ x r. absurd (none_ended n.points x r); only = λ i z. never_both z (empty i) };
-    }
 
 module _ (n : Nest) (a b : List ℕ) (e : ℕ) where
   -- what is so of the loops before is so of those that ended by now, if it is so of the new ones

@@ -37,28 +37,23 @@ pub fn weigh(points: &[u8], a: Placement, b: Placement) -> Standing
     let mut second = true;
     let mut deciding = Placement::empty();
     let mut latest = 0;
-    let mut e = 0;
-    while e < points.len() {
-        let here = e;
-        e += 1;
-        if points[here] == paper_nests::ENDDO {
-            let d = owners[here];
-            if latest <= d {
+    for (e, &point) in points.iter().enumerate() {
+        if point == paper_nests::ENDDO {
+            let d = owners[e];
+            if latest <= d && of_a[d] != of_b[d] {
                 if of_a[d] < of_b[d] {
                     second = false;
-                    latest = d;
-                    deciding = deciding.put(d);
-                } else if of_b[d] < of_a[d] {
+                } else {
                     first = false;
-                    latest = d;
-                    deciding = deciding.put(d);
                 }
+                latest = d;
+                deciding = deciding.put(d);
             }
         }
     }
     Standing {
-        first: first,
-        second: second,
-        deciding: deciding,
+        first,
+        second,
+        deciding,
     }
 }

@@ -39,24 +39,28 @@ pub record Call (ps own ends reach limit left choice : List ℕ) (d q h : ℕ) :
 
 pub called
     : {ps own ends reach limit left choice : List ℕ} {d q h : ℕ}
-    → Asked ps own ends reach limit left choice d q h
+    → Charts ps own ends
+    → LayRoom reach limit left choice
+    → is_do ps d ≡ true
+    → HasHeight ps d h
+    → d < q
+    → q ≤ end_of ps d
+    → Choices ps left choice d (end_of ps d)
     → Call ps own ends reach limit left choice d q h
-called {ps} {d = d} {h = h} p =
-    let w = p.0 in
-    let i = p.1.1.0 in
+called {ps} {d = d} {h = h} w room i height after within choices =
     record {
       charts = w;
-      room = p.1.0;
+      room = room;
       is-do = i;
-      height = p.1.1.1.0;
-      after = p.1.1.1.1.0;
-      within = p.1.1.1.1.1.0;
-      choices = p.1.1.1.1.1.1;
+      height = height;
+      after = after;
+      within = within;
+      choices = choices;
       e_is = w.ends_is d i;
       long = omega (arith, w.ends_is d i, end-after ps w.shape d i);
       short = omega (arith, w.ends_is d i, end_there ps w.shape d i);
-      low = height_low ps w.shape d h i p.1.1.1.0;
-      high = height_high ps d h p.1.1.1.0;
+      low = height_low ps w.shape d h i height;
+      high = height_high ps d h height;
     }
 
 -- the suffix that is chosen

@@ -45,7 +45,7 @@ pub fn lay(
     let e = ends[d];
     let last = choice[base + q] as usize;
     plan_rows::copy_row(reach, base, d, e, need);
-    need[last] = plan_sweeps::smaller(need[last], e);
+    need[last] = need[last].min(e);
     let mut k = key;
     let mut c = 0;
     let mut f = e + 1;
@@ -90,8 +90,5 @@ fn put_where(key: Placement, a: usize, b: usize, g: usize) -> Placement
     requires { g < 256 }
     ensures { PutSays key.words a b g result.words }
 {
-    if a < b {
-        return key.put(g);
-    }
-    key
+    if a < b { key.put(g) } else { key }
 }

@@ -37,7 +37,7 @@ pub fn plan(nest: Nest) -> Placement
         &mut limit,
         &mut has,
     );
-    let points = nest.points;
+    let points = nest.points();
     // Of a loop with nothing to cut these are 0, as far as the points go.
     let mut left = [high; TABLE];
     let mut choice = [high; TABLE];
@@ -49,7 +49,7 @@ pub fn plan(nest: Nest) -> Placement
     let mut fs = [0; ROW];
     let mut link = [0; ROW];
     plan_settle::settle(
-        &points[..n],
+        points,
         &own,
         &ends,
         &reach,
@@ -66,7 +66,7 @@ pub fn plan(nest: Nest) -> Placement
     );
     let none = Placement::empty();
     plan_lay::lay(
-        &points[..n],
+        points,
         &own,
         &ends,
         &reach,

@@ -1,6 +1,6 @@
 -- The table of ranks: 1 for each gap that is not barred, summed from the left.
 -- Main definitions: `FreeFrom`, `RanksTo`, what a turn of the two loops keeps. Main statements: `free_start`, `free_on`,
--- `free_done`, `ranks_start`, `rank_fits`, `ranks_on`, `ranks_done`.
+-- `ranks_start`, `rank_fits`, `ranks_on`, `ranks_done`.
 use mathlib.Core.Path.{◌≡◌, subst, refl, sym, ◌∙◌}
 use mathlib.Core.List.{List, ◌∷◌}
 use Prim.Native.Nat.{ℕ, zero, suc, ◌+◌, ◌-◌, ◌≤◌, ◌<◌}
@@ -63,11 +63,6 @@ free_on n p i some xs h f =
           (λ e. let P : ℕ → Type 0 = λ x. 0 ≡ one (is_free (g ∷ bs) x) in subst P (sym e) (barred_here g bs))
           (λ e. rw (free_elsewhere g bs j e) (f.free_is j l)));
     }
-
-pub free_done : (n : DN.Nest) (i : ℕ) (xs : List ℕ) → i ≤ 0 → FreeFrom n i xs → HasFree (nest_in n).barred xs
-free_done n i xs l f =
-    let z : i ≡ 0 = omega arith in
-    rw z at f.free_is
 
 -- ---- the ranks
 

@@ -1,19 +1,20 @@
 -- The dependences renumbered one by one, from the last to the first.
 -- Main definitions: `DepsFrom`, what a turn keeps; `Turn`, what it has. Main statements: `deps_start`, `reduce_done`,
--- `turn_within`, `source_fits`, `target_fits`, `reduce_kept`, `reduce_stretch`, `reduce_shut`.
+-- `reduce_kept`, `reduce_stretch`, `reduce_shut`.
 use mathlib.Core.Path.{◌≡◌, refl, sym, ap, subst, ◌∙◌}
 use mathlib.Core.Bool.{Bool, true, false, ◌||◌}
 use mathlib.Core.List.{List, [], ◌∷◌}
 use mathlib.Core.Logic.{inl, inr, ⊎_elim}
 use Prim.Native.Nat.{ℕ, zero, suc, ◌-◌, ◌≤◌, ◌<◌}
 use native.Mathlib.Omega.{arith}
+use Rattle.std.specs.Prelude.{Some, None}
 use lib.ListN.{length, get_or, set, take, drop, length-set, drop_of_length-le}
 use lib.Seq.{get_or-set_same, get_or-set_other, set-set}
 use Rattle.laws.specs.Entries.{at}
 use Rattle.laws.proofs.Tests.{eq_or, and_true, or_left, or_right}
 use Rattle.paper_nests.specs.declared.Dependence as DE
 use Rattle.paper_nests.specs.declared.Nest as DN
-use Rattle.paper_nests.specs.Kinds.{DEPENDENCES, POINTS}
+use Rattle.paper_nests.specs.Kinds.{POINTS}
 use Rattle.paper_nests.specs.Nests.{Dep, dep, Nest, nest}
 use Rattle.paper_nests.specs.Ring.{one_loop}
 use Rattle.paper_nests.specs.Stored.{dep_in, deps_in, nest_in, IsCounted}
@@ -113,7 +114,7 @@ pub reduce_done
     → i ≤ 0
     → IsRing n ring
     → DepsFrom n ring.deps i
-    → ReduceSays (nest_in n) (record { blocked = false; ring = ring })
+    → ReduceSays (nest_in n) (Some ring)
 reduce_done n ring i counted l r p =
     let z : i ≡ 0 = omega arith in
     let bs = (nest_in n).barred in
@@ -127,21 +128,24 @@ reduce_done n ring i counted l r p =
     let flags : take ring.flags ring.flagged ≡ [] = rw r.no_flags refl in
     record {
       blocked_is = sym open_all;
-      ring_is =
-          rw open_all
-          (same_nest (nest_in ring).points (ring_points (top_of n)) (nest_in ring).deps
-          (reduced_deps bs (top_of n) (nest_in n).deps) (nest_in ring).barred (nest_in ring).flagged r.points_are deps
-          bars flags);
-      counted =
+      ring_says =
           record {
-            count_is = r.count_is;
-            count_fits = r.count_fits;
-            many_is = sym (deps_in_length ring.many ring.deps (omega (arith, p.long)));
-            many_fits = omega (arith, counted.many_fits);
-            bars_is = rw bars r.no_bars;
-            bars_fit = omega (arith, r.no_bars);
-            flags_is = rw flags r.no_flags;
-            flags_fit = omega (arith, r.no_flags);
+            ring_is =
+                rw open_all
+                (same_nest (nest_in ring).points (ring_points (top_of n)) (nest_in ring).deps
+                (reduced_deps bs (top_of n) (nest_in n).deps) (nest_in ring).barred (nest_in ring).flagged r.points_are
+                deps bars flags);
+            counted =
+                record {
+                  count_is = r.count_is;
+                  count_fits = r.count_fits;
+                  many_is = sym (deps_in_length ring.many ring.deps (omega (arith, p.long)));
+                  many_fits = omega (arith, counted.many_fits);
+                  bars_is = rw bars r.no_bars;
+                  bars_fit = omega (arith, r.no_bars);
+                  flags_is = rw flags r.no_flags;
+                  flags_fit = omega (arith, r.no_flags);
+                };
           };
     }
 
@@ -182,9 +186,6 @@ module _ {n : DN.Nest} {ranks : List ℕ} {ys : List DE.Dependence} {i : ℕ} (w
 
   turn_there : (0 < i) × (i ≤ n.many)
   turn_there = (w.some, p.within)
-
-  pub turn_within : i - 1 < DEPENDENCES
-  turn_within = omega (arith, turn_there, w.counted.many_fits)
 
   here : drop (i - 1) (nest_in n).deps ≡ its ∷ drop i (nest_in n).deps
   here =
@@ -242,10 +243,10 @@ module _ {n : DN.Nest} {ranks : List ℕ} {ys : List DE.Dependence} {i : ℕ} (w
   few : length (nest_in n).points ≤ POINTS
   few = (valid_is (nest_in n) w.valid).few_points
 
-  pub source_fits : (dep_at n.deps (i - 1)).s < POINTS
+  source_fits : (dep_at n.deps (i - 1)).s < POINTS
   source_fits = omega (arith, points_within.0, few)
 
-  pub target_fits : (dep_at n.deps (i - 1)).t < POINTS
+  target_fits : (dep_at n.deps (i - 1)).t < POINTS
   target_fits = omega (arith, points_within.1, few)
 
   abbrev from : ℕ
@@ -324,8 +325,8 @@ module _ {n : DN.Nest} {ranks : List ℕ} {ys : List DE.Dependence} {i : ℕ} (w
       (sym (shut_ranked ps bs its shape w.one fits) ∙ k')))
       k'
 
-  pub reduce_shut : shut_here ≡ true → ReduceSays (nest_in n) (record { blocked = true; ring = n })
+  pub reduce_shut : shut_here ≡ true → ReduceSays (nest_in n) None
   reduce_shut h =
       let shut : is_blocked (nest_in n) ≡ true =
       shut_there ps bs its (drop i (nest_in n).deps) (nest_in n).deps (i - 1) here (sym shut_is ∙ h) in
-      record { blocked_is = sym shut; ring_is = rw shut refl; counted = w.counted }
+      record { blocked_is = sym shut; ring_says = tt }

@@ -1,12 +1,12 @@
 -- A dependence renumbered, in the steps of the code: s and t are the ranks of its points, m is the greatest rank.
--- Main definitions: `is_shut_at`, `stays`, `stretch`, `ring_end`, `ring_of`, `ReduceSays`.
-use Rattle.std.specs.Prelude.{◌≡◌, Bool, ◌&&◌, not, ℕ, eqb, ltb, leb}
+-- Main definitions: `is_shut_at`, `stays`, `stretch`, `ring_end`, `ring_of`, `RingSays`, `ReduceSays`.
+use Rattle.std.specs.Prelude.{◌≡◌, Bool, ◌&&◌, not, ℕ, eqb, ltb, leb, Option, is_none, IfSome}
 use Rattle.laws.specs.Choice.{pick}
 use Rattle.paper_nests.specs.Kinds.{INDEPENDENT}
 use Rattle.paper_nests.specs.Nests.{Dep, dep, Nest}
 use Rattle.paper_nests.specs.Stored.{nest_in, IsCounted}
+use Rattle.paper_nests.specs.declared.Nest as DN
 use Rattle.paper_barred.specs.Reduced.{is_blocked, reduced}
-use Rattle.plan_paper.specs.declared.Reduced as DR
 
 -- all its gaps are barred: no rank rises along them
 abbrev pub is_shut_at : ℕ → ℕ → ℕ → ℕ → Bool
@@ -32,7 +32,12 @@ ring_end m = pick (eqb m 0) 1 m
 abbrev pub ring_of : Nest → Nest
 ring_of n = pick (is_blocked n) n (reduced n.points n.barred n.deps)
 
-pub record ReduceSays (n : Nest) (r : DR.Reduced) : Type 0 where
-  pub blocked_is : r.blocked ≡ is_blocked n
-  pub ring_is : nest_in r.ring ≡ ring_of n
-  pub counted : IsCounted r.ring
+-- what a ring is
+pub record RingSays (n : Nest) (ring : DN.Nest) : Type 0 where
+  pub ring_is : nest_in ring ≡ ring_of n
+  pub counted : IsCounted ring
+
+-- whether the nest is blocked, and the ring where it is not
+pub record ReduceSays (n : Nest) (r : Option DN.Nest) : Type 0 where
+  pub blocked_is : is_none r ≡ is_blocked n
+  pub ring_says : IfSome r (RingSays n)

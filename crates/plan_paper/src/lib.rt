@@ -18,47 +18,19 @@ ghost use Rattle.plan_paper.specs.Papers.{PaperSays};
 use paper_nests::{Dependence, Nest};
 use paper_placements::Placement;
 
-// What planning a paper gives: its key, or that some dependence has all its gaps barred, with no gap for the key.
-#[derive(Clone, Copy)]
-pub struct Planned {
-    pub blocked: bool,
-    pub key: Placement,
-}
-
-// What renumbering a nest gives: the nest of its unbarred gaps, or that it is blocked, with the nest itself.
-#[derive(Clone, Copy)]
-pub struct Reduced {
-    pub blocked: bool,
-    pub ring: Nest,
-}
-
-// The key of a paper, if it is not blocked.
-pub fn plan_paper(nest: Nest) -> Planned
+// The key of a paper; none where some dependence has all its gaps barred.
+pub fn plan_paper(nest: Nest) -> Option<Placement>
     requires counted { IsCounted nest }
     requires nest_value { is_valid (nest_in nest) ≡ true }
     ensures { PaperSays (nest_in nest) result }
 {
     if nest.bars == 0 {
-        return Planned {
-            blocked: false,
-            key: plan_nest::plan(nest),
-        };
+        return Some(plan_nest::plan(nest));
     }
     let ranks = ranks_of(nest);
-    let reduced = reduce(nest, &ranks);
-    let blocked = reduced.blocked;
-    if blocked {
-        return Planned {
-            blocked: true,
-            key: Placement::empty(),
-        };
-    }
-    let ring = reduced.ring;
+    let ring = reduce(nest, &ranks)?;
     let key = plan_nest::plan(ring);
-    Planned {
-        blocked: false,
-        key: taken_back(nest, &ranks, key),
-    }
+    Some(taken_back(nest, &ranks, key))
 }
 
 // Some dependence has all its gaps barred.
@@ -67,12 +39,7 @@ pub fn is_blocked(nest: Nest) -> bool
     requires nest_value { is_valid (nest_in nest) ≡ true }
     ensures { result ≡ is_blocked (nest_in nest) }
 {
-    if nest.bars == 0 {
-        return false;
-    }
-    let ranks = ranks_of(nest);
-    let reduced = reduce(nest, &ranks);
-    reduced.blocked
+    nest.bars != 0 && reduce(nest, &ranks_of(nest)).is_none()
 }
 
 // Of each gap how many up to it are not barred.
@@ -84,11 +51,9 @@ pub fn ranks_of(nest: Nest) -> [u8; Nest::POINTS]
     let mut ranks = free_of(nest);
     let mut rank: u8 = 0;
     ranks[0] = rank;
-    let mut g = 1;
-    while g < Nest::POINTS {
+    for g in 1..Nest::POINTS {
         rank += ranks[g];
         ranks[g] = rank;
-        g += 1;
     }
     ranks
 }
@@ -99,19 +64,17 @@ fn free_of(nest: Nest) -> [u8; Nest::POINTS]
     ensures { HasFree (nest_in nest).barred result }
 {
     let mut free = [1; Nest::POINTS];
-    let mut i = nest.bars;
-    while 0 < i {
-        i -= 1;
+    for i in (0..nest.bars).rev() {
         let g = nest.barred[i] as usize;
         free[g] = 0;
     }
     free
 }
 
-// The nest of the unbarred gaps of a nest of one loop, renumbered by their ranks. Its points are there already, but for
-// the ENDDO; of a dependence that stays only the two points are new.
+// The nest of the unbarred gaps of a nest of one loop, renumbered by their ranks; none where it is blocked. Its points
+// are there already, but for the ENDDO; of a dependence that stays only the two points are new.
 #[inline(never)]
-pub fn reduce(nest: Nest, ranks: &[u8; Nest::POINTS]) -> Reduced
+pub fn reduce(nest: Nest, ranks: &[u8; Nest::POINTS]) -> Option<Nest>
     requires counted { IsCounted nest }
     requires nest_value { is_valid (nest_in nest) ≡ true }
     requires nest_value_2 { one_loop (nest_in nest).points ≡ true }
@@ -126,39 +89,28 @@ pub fn reduce(nest: Nest, ranks: &[u8; Nest::POINTS]) -> Reduced
     ring.count = end + 1;
     ring.bars = 0;
     ring.flags = 0;
-    let mut i = nest.many;
-    while 0 < i {
-        i -= 1;
-        let kind = nest.deps[i].kind;
-        let s = ranks[nest.deps[i].s as usize];
-        let t = ranks[nest.deps[i].t as usize];
+    for i in (0..nest.many).rev() {
+        let dep = nest.deps[i];
+        let kind = dep.kind;
+        let s = ranks[dep.s as usize];
+        let t = ranks[dep.t as usize];
         if stays(kind, top, s, t) {
             ring.deps[i].s = s;
             ring.deps[i].t = t;
+        } else if is_shut(kind, top, s, t) {
+            return None;
         } else {
-            if is_shut(kind, top, s, t) {
-                return Reduced {
-                    blocked: true,
-                    ring: nest,
-                };
-            }
             ring.deps[i] = stretch(top, s, t);
         }
     }
-    Reduced {
-        blocked: false,
-        ring: ring,
-    }
+    Some(ring)
 }
 
 // The ENDDO of a loop with the gaps 1 to top.
 fn ring_end(top: u8) -> usize
     ensures { result ≡ ring_end top }
 {
-    if top == 0 {
-        return 1;
-    }
-    top as usize
+    usize::from(top).max(1)
 }
 
 // The dependence has unbarred gaps and keeps its kind; s and t are the ranks of its points, top is the greatest.
@@ -166,14 +118,10 @@ fn stays(kind: u8, top: u8, s: u8, t: u8) -> bool
     ensures { result ≡ stays kind top s t }
 {
     if kind == paper_nests::INDEPENDENT {
-        return s != t;
+        s != t
+    } else {
+        t < s && 0 < t && s < top
     }
-    if t < s {
-        if 0 < t {
-            return s < top;
-        }
-    }
-    false
 }
 
 // All gaps of the dependence are barred.
@@ -181,12 +129,10 @@ fn is_shut(kind: u8, top: u8, s: u8, t: u8) -> bool
     ensures { result ≡ is_shut_at kind top s t }
 {
     if kind == paper_nests::INDEPENDENT {
-        return s == t;
+        s == t
+    } else {
+        t == 0 && s == top
     }
-    if t == 0 {
-        return s == top;
-    }
-    false
 }
 
 // What becomes of a carried dependence that does not stay: an independent one.
@@ -194,12 +140,12 @@ fn stretch(top: u8, s: u8, t: u8) -> Dependence
     ensures { dep_in result ≡ stretch top s t }
 {
     if s <= t {
-        return line(0, top);
+        line(0, top)
+    } else if t == 0 {
+        line(s, top)
+    } else {
+        line(0, t)
     }
-    if t == 0 {
-        return line(s, top);
-    }
-    line(0, t)
 }
 
 // An independent dependence.
@@ -209,8 +155,8 @@ fn line(s: u8, t: u8) -> Dependence
     Dependence {
         kind: paper_nests::INDEPENDENT,
         d: 0,
-        s: s,
-        t: t,
+        s,
+        t,
     }
 }
 
@@ -223,14 +169,10 @@ pub fn taken_back(nest: Nest, ranks: &[u8; Nest::POINTS], key: Placement) -> Pla
 {
     let mut back = Placement::empty();
     let mut rank = key.lowest_from(1);
-    let mut g = 1;
-    while g < nest.count {
+    for g in 1..nest.count {
         if ranks[g] as usize == rank {
             back = back.put(g);
             rank = key.lowest_from(rank + 1);
-            g += 1;
-        } else {
-            g += 1;
         }
     }
     back

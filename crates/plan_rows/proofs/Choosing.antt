@@ -1,43 +1,18 @@
 -- The fronts of a row, chosen from the last suffix to the first.
 -- Main definition: `Choosing`. Main statements: `choosing_none`, `choosing_more`, `choosing_all`.
 use mathlib.Core.Path.{◌≡◌, refl, sym, ◌∙◌, ap}
-use mathlib.Core.Bool.{Bool, true, false, ◌||◌}
 use mathlib.Core.List.{List}
 use Prim.Native.Nat.{ℕ, zero, suc, ◌+◌, ◌-◌, ◌≤◌, ◌<◌}
 use native.Mathlib.Omega.{arith}
-use lib.Dec.{eqb}
 use lib.ListN.{length, set, length-set}
 use lib.Seq.{get_or-set_other}
-use borrow.Author.Tests.{lt-ltb, le-ltb, le-leb, lt-leb, eq-eqb, ne_eqb}
-use Rattle.laws.specs.Choice.{pick}
+use borrow.Author.Tests.{lt-ltb, le-ltb}
 use Rattle.laws.specs.Entries.{at}
 use Rattle.laws.proofs.Tests.{lt_by}
 use Rattle.laws.proofs.Stores.{stored}
 use Rattle.plan_method.specs.Sweep.{State, Front, front, better, best}
 use Rattle.plan_starts.specs.Grounds.{Kept}
 use Rattle.plan_rows.specs.Made.{BetterSays, Chosen}
-
--- the better of two fronts, by cases
-pub better_other : (f at m q c here : ℕ) → (c ≡ m → ⊥) → BetterSays f at m q c here f at
-unfolding better
-better_other f at m q c here h v x y =
-    rw (ne_eqb v.c m (λ z. h (x ∙ z)))
-
-pub better_first : (f at m q c here : ℕ) → c ≡ m → f ≡ 0 → BetterSays f at m q c here here q
-unfolding better
-better_first f at m q c here h z v x y = rw (← x, ← y, eq-eqb c m h, eq-eqb f 0 z)
-
-pub better_lower : (f at m q c here : ℕ) → c ≡ m → here ≤ f → BetterSays f at m q c here here q
-unfolding better
-better_lower f at m q c here h z v x y = rw (← x, ← y, eq-eqb c m h, le-leb here f z) (go (eqb f 0))
-  where
-    go : (t : Bool) → front here q ≡ pick (t || true) (front here q) (front f at)
-    go true = refl
-    go false = refl
-
-pub better_higher : (f at m q c here : ℕ) → c ≡ m → (f ≡ 0 → ⊥) → f < here → BetterSays f at m q c here f at
-unfolding better
-better_higher f at m q c here h n z v x y = rw (← x, ← y, eq-eqb c m h, ne_eqb f 0 n, lt-leb here f z)
 
 -- nothing but low + 1 … high has changed
 pub kept_none : (xs : List ℕ) (low high : ℕ) → Kept xs xs low high

@@ -1,6 +1,5 @@
--- Part of a row copied, part of a row cleared, and part of each row cleared.
--- Main definition: `Copying`. Main statements: `copied_none`, `Copied-more`, `cleared_none`, `cleared_more`,
--- `rows_none`, `rows_more`.
+-- Part of a row copied, and part of each row cleared.
+-- Main definition: `Copying`. Main statements: `copied_none`, `Copied-more`, `rows_none`, `rows_more`.
 use mathlib.Core.Path.{◌≡◌, refl, ap, ◌∙◌}
 use mathlib.Core.List.{List}
 use mathlib.Core.Logic.{⊎_elim}
@@ -8,7 +7,7 @@ use Prim.Native.Nat.{ℕ, ◌+◌, ◌*◌, ◌≤◌, ◌<◌}
 use native.Mathlib.Omega.{arith}
 use lib.ListN.{length, set, length-set}
 use lib.Seq.{get_or-set_other}
-use Rattle.laws.proofs.Tests.{eq_or, le_or, le_by}
+use Rattle.laws.proofs.Tests.{eq_or, le_or}
 use Rattle.laws.proofs.Stores.{stored}
 use Rattle.plan_sweeps.specs.Listed.{row}
 use Rattle.plan_starts.specs.Grounds.{Kept}
@@ -46,22 +45,6 @@ Copied-more {from} {xs = xs} {base = base} {p = p} more room s =
           get_or-set_other xs (p + 1) i (row from base (p + 1)) 0
           (λ (z : i ≡ p + 1). absurd (omega (arith, s.from_do, k (omega (arith, s.from_do))))) ∙
           s.kept i k;
-    }
-
-pub cleared_none : {xs : List ℕ} {base d : ℕ} → Cleared xs xs base d d
-cleared_none = record { zero_at = λ q i j. absurd (omega arith); kept = λ i h. refl }
-
-pub cleared_more
-    : {xs ys : List ℕ} {base d p : ℕ} → d ≤ p → base + (p + 1) < length ys → Cleared xs ys base d p →
-    Cleared xs (set ys (base + (p + 1)) 0) base d (p + 1)
-cleared_more {ys = ys} {base} {p = p} l h s =
-    record {
-      zero_at = λ q i j. stored ys (base + (p + 1)) 0 (base + q) 0 h (λ z. refl)
-          (λ (z : base + q ≡ base + (p + 1) → ⊥). s.zero_at q i (le_by λ k. z (omega arith)));
-      kept = λ i k.
-          get_or-set_other ys (base + (p + 1)) i 0 0
-          (λ (z : i ≡ base + (p + 1)). absurd (omega (arith, k (omega arith)))) ∙
-          s.kept i (λ z. omega (arith, k z));
     }
 
 -- row by row

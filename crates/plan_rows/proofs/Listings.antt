@@ -11,7 +11,6 @@ use lib.Dec.{leb}
 use lib.ListN.{length, set}
 use borrow.Author.Tests.{le-leb}
 use Rattle.laws.specs.Choice.{pick}
-use Rattle.laws.specs.Entries.{at}
 use Rattle.laws.proofs.Tests.{le_or}
 use Rattle.laws.proofs.Stores.{stored}
 use Rattle.plan_method.specs.Sweep.{State, least}

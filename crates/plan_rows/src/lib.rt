@@ -1,7 +1,7 @@
 // The row of one loop: its values for each suffix, and from them the fronts and choices.
 #![tactic(auto)]
 
-ghost use Rattle.std.specs.Prelude.{◌≡◌, ◌+◌, ◌*◌, ◌<◌, min, length};
+ghost use Rattle.std.specs.Prelude.{◌+◌, ◌*◌, ◌<◌, length};
 ghost use Rattle.plan_starts.specs.Grounds.{Kept};
 ghost use Rattle.plan_rows.specs.Valued.{CloseSays, CeilingSays, ClosedSays, FrontsIn, ValuesRoom};
 ghost use Rattle.plan_rows.specs.Made.{Copied, Cleared, RowsCleared, BetterSays, ChooseSays};
@@ -55,11 +55,8 @@ pub fn copy_row(from: &[u16], base: usize, d: usize, e: usize, xs: &mut [usize])
     ensures copied { Copied from.now base d e xs.new }
     ensures kept { Kept xs.old xs.new d e }
 {
-    let mut p = d;
-    while p < e {
-        let q = p + 1;
+    for q in d + 1..e + 1 {
         xs[q] = from[base + q] as usize;
-        p = q;
     }
 }
 
@@ -70,9 +67,7 @@ pub fn clear_rows(xs: &mut [u16], h: usize, e: usize)
     requires e_bound { e < 256 }
     ensures { RowsCleared xs.old xs.new h e }
 {
-    let mut r = 0;
-    while r < h {
-        r += 1;
+    for r in 1..h + 1 {
         clear(xs, r * ROW, 0, e);
     }
 }
@@ -83,12 +78,7 @@ fn clear(xs: &mut [u16], base: usize, d: usize, e: usize)
     requires d_lt_e { d < e }
     ensures { Cleared xs.old xs.new base d e }
 {
-    let mut p = d;
-    while p < e {
-        let q = p + 1;
-        xs[base + q] = 0;
-        p = q;
-    }
+    xs[base + d + 1..base + e + 1].fill(0);
 }
 
 // The leftmost front so far, 0 for none, and the suffix that gives it.
@@ -122,30 +112,25 @@ fn choose(
 {
     let mut f = 0;
     let mut at = 0;
-    let mut q = e;
-    while d < q {
+    for q in (d + 1..e + 1).rev() {
         let best = better(f, at, m, q as u16, cs[q], fs[q]);
         f = best.f;
         at = best.at;
         left[base + q] = f;
         choice[base + q] = at;
-        q -= 1;
     }
 }
 
 // The front so far, or that of the suffix q where it has m barriers and its front is no further right.
+#[tactic(auto, unfolding(plan_method::specs::Sweep::better))]
 fn better(f: u16, at: u16, m: u16, q: u16, c: u16, here: u16) -> Leftmost
     ensures { BetterSays f at m q c here result.f result.at }
 {
-    if c == m {
-        if f == 0 {
-            return Leftmost { f: here, at: q };
-        }
-        if here <= f {
-            return Leftmost { f: here, at: q };
-        }
+    if c == m && (f == 0 || here <= f) {
+        Leftmost { f: here, at: q }
+    } else {
+        Leftmost { f, at }
     }
-    Leftmost { f: f, at: at }
 }
 
 // The values of all suffixes, d + 1 to e, in place of what is made from each start on; gives the least number of
@@ -168,27 +153,22 @@ fn values(
     let c = cs[first];
     let f = fs[first];
     let mut m = ceiling(c, d, e, first);
-    let mut p = d;
-    while p + 1 < first {
-        let q = p + 1;
+    let late = first.max(d + 1);
+    for q in d + 1..late {
         if f <= limit[base + q] {
             cs[q] = c;
             fs[q] = f;
             m = c;
-            p = q;
         } else {
             cs[q] = c + 1;
             fs[q] = (d + 1) as u16;
-            p = q;
         }
     }
-    while p < e {
-        let q = p + 1;
+    for q in late..e + 1 {
         let v = closed(cs[q], fs[q], limit[base + q], d);
         cs[q] = v.c;
         fs[q] = v.f;
-        m = fewer(m, v.c);
-        p = q;
+        m = m.min(v.c);
     }
     m
 }
@@ -201,30 +181,22 @@ fn ceiling(c: u16, d: usize, e: usize, first: usize) -> u16
     requires e_bound { e < 256 }
     ensures { CeilingSays c d e first result }
 {
-    if d + 1 < first {
-        return c + 1;
-    }
-    (e + 1) as u16
+    if d + 1 < first { c + 1 } else { (e + 1) as u16 }
 }
 
 // A sweep's barriers and front, with a barrier right after the DO where the front lies beyond the limit.
+#[tactic(auto, unfolding(plan_method::specs::Sweep::close, plan_method::specs::Sweep::put))]
 fn closed(c: u16, f: u16, limit: u16, d: usize) -> Front
     requires c_bound { c < 256 }
     requires d_bound { d < 256 }
     ensures { CloseSays d limit c f result.c result.f }
 {
     if f <= limit {
-        return Front { c: c, f: f };
+        Front { c, f }
+    } else {
+        Front {
+            c: c + 1,
+            f: (d + 1) as u16,
+        }
     }
-    Front {
-        c: c + 1,
-        f: (d + 1) as u16,
-    }
-}
-
-// The smaller of two numbers of barriers.
-fn fewer(a: u16, b: u16) -> u16
-    ensures { result ≡ min a b }
-{
-    if b < a { b } else { a }
 }

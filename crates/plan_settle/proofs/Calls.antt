@@ -35,19 +35,21 @@ pub record Call (ps own ends reach limit has left choice : List ℕ) (d h : ℕ)
 
 pub called
     : {ps own ends reach limit has left choice : List ℕ} {d h : ℕ}
-    → Asked ps own ends reach limit has left choice d h
+    → Charts ps own ends
+    → Room reach limit has left choice
+    → is_do ps d ≡ true
+    → HasHeight ps d h
+    → Unset left d (end_of ps d)
+    → Unset choice d (end_of ps d)
     → Call ps own ends reach limit has left choice d h
-called {ps} {d = d} {h = h} p =
-    let w = p.0 in
-    let i = p.1.1.0 in
-    let height = p.1.1.1.0 in
+called {ps} {d = d} {h = h} w room i height left_unset choice_unset =
     record {
       charts = w;
-      room = p.1.0;
+      room = room;
       is-do = i;
       height = height;
-      left_unset = p.1.1.1.1.0;
-      choice_unset = p.1.1.1.1.1;
+      left_unset = left_unset;
+      choice_unset = choice_unset;
       e_is = w.ends_is d i;
       long = omega (arith, w.ends_is d i, end-after ps w.shape d i);
       short = omega (arith, w.ends_is d i, end_there ps w.shape d i);

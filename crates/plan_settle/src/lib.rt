@@ -77,12 +77,10 @@ fn is_quiet(has: &[usize], d: usize, e: usize) -> bool
     requires { e ≤ length has.now }
     ensures { QuietSays has.now d e result }
 {
-    let mut i = d;
-    while i < e {
+    for i in d..e {
         if has[i] != 0 {
             return false;
         }
-        i += 1;
     }
     true
 }

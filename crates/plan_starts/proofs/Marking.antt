@@ -1,6 +1,6 @@
 -- The marks, one gap after the other.
--- Main definition: `Marking`. Main statements: `end_marked`, `end_plain`, `marking_none`, `marking_do`,
--- `marking_other`, `marking_all`.
+-- Main definition: `Marking`. Main statements: `marking_none`, `marking_do`, `marking_other`,
+-- `marking_all`.
 use mathlib.Core.Path.{◌≡◌, refl, sym, ◌∙◌}
 use mathlib.Core.Bool.{Bool, true, false, ◌&&◌}
 use mathlib.Core.List.{List}
@@ -8,27 +8,14 @@ use Prim.Native.Nat.{ℕ, suc, ◌+◌, ◌≤◌, ◌<◌}
 use native.Mathlib.Numerals.{add-one}
 use native.Mathlib.Omega.{arith}
 use lib.ListN.{length, set, get_or, length-set}
-use lib.Dec.{eqb, ltb}
-use borrow.Author.Tests.{lt-ltb, ltb-true, eq-eqb, eqb-true, ne_eqb}
+use lib.Dec.{ltb}
+use borrow.Author.Tests.{eq-eqb, ne_eqb}
 use Rattle.laws.specs.Choice.{pick}
 use Rattle.laws.specs.Entries.{at}
-use Rattle.laws.proofs.Tests.{and_true, false_by}
 use Rattle.laws.proofs.Stores.{stored}
 use Rattle.paper_nests.specs.Loops.{is_do}
 use Rattle.plan_sweeps.specs.Listed.{row}
 use Rattle.plan_starts.specs.Started.{marked, Marked, end_after, MarkRoom}
-
--- the gap after a DO
-pub end_marked : (owner d p first end : ℕ) → d < p → owner ≡ d → 0 < first → 0 ≡ end_after owner d p first end
-end_marked owner d p first end a b c = rw (lt-ltb d p a, eq-eqb owner d b, lt-ltb 0 first c) refl
-
-pub end_plain : (owner d p first end : ℕ) → (d < p → owner ≡ d → first ≤ 0) → end ≡ end_after owner d p first end
-end_plain owner d p first end h =
-    let z : (ltb d p && (eqb owner d && ltb 0 first)) ≡ false = false_by λ e.
-    let x = and_true (ltb d p) (eqb owner d && ltb 0 first) e in
-    let y = and_true (eqb owner d) (ltb 0 first) x.1 in
-    omega (arith, h (ltb-true d p x.0) (eqb-true owner d y.0), ltb-true 0 first y.1) in
-    rw z refl
 
 -- the gaps up to p are marked
 pub record Marking (ps own reach : List ℕ) (base : ℕ) (left : List ℕ) (kids d e : ℕ) (need₀ need : List ℕ) (p : ℕ) :

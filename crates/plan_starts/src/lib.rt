@@ -5,7 +5,6 @@
 #![tactic(auto)]
 
 ghost use Rattle.std.specs.Prelude.{◌≡◌, ◌+◌, ◌<◌, length};
-ghost use Rattle.laws.specs.Choice.{first_of};
 ghost use Rattle.laws.specs.Entries.{at};
 ghost use Rattle.plan_method.specs.Sweep.{seek};
 ghost use Rattle.plan_sweeps.specs.Listed.{row};
@@ -37,21 +36,14 @@ pub fn mark(
     ensures { Marked points.now own.now (row reach.now base)
         left.now kids d e need.new }
 {
-    let mut p = d;
-    while p < e {
+    for p in d..e {
         let q = p + 1;
-        if points[p] == paper_nests::DO {
-            need[q] = end_after(
-                own[p],
-                d,
-                p,
-                left[kids + q] as usize,
-                reach[base + q] as usize,
-            );
+        let end = reach[base + q] as usize;
+        need[q] = if points[p] == paper_nests::DO {
+            end_after(own[p], d, p, left[kids + q] as usize, end)
         } else {
-            need[q] = reach[base + q] as usize;
-        }
-        p = q;
+            end
+        };
     }
 }
 
@@ -85,14 +77,11 @@ pub fn follow_all(
 fn end_after(own: usize, d: usize, p: usize, first: usize, end: usize) -> usize
     ensures { result ≡ end_after own d p first end }
 {
-    if d < p {
-        if own == d {
-            if 0 < first {
-                return 0;
-            }
-        }
+    if d < p && own == d && 0 < first {
+        0
+    } else {
+        end
     }
-    end
 }
 
 // The events and links of all gaps, from e down to d + 1. The links only fall.
@@ -124,7 +113,7 @@ fn events(
             a = events_child(need, left, kids, d, l, before, a, cs, fs, link);
             p = l;
         } else {
-            a = plan_sweeps::last_need(need, p, d, plan_sweeps::smaller(a, before));
+            a = plan_sweeps::last_need(need, p, d, a.min(before));
             cs[p] = 1;
             fs[p] = p as u16;
             link[p] = a as u16;
@@ -150,34 +139,34 @@ fn events_child(
     ensures { ChildSays need.now left.now kids d l p cs.old fs.old
         link.old cs.new fs.new link.new result }
 {
-    let outer = front_or(left[kids + (l + 1)], (p + 1) as u16);
+    let outer = plan_sweeps::first_or(left[kids + (l + 1)], (p + 1) as u16);
     let after = p + 1;
-    let mut a = plan_sweeps::last_need(need, after, d, plan_sweeps::smaller(last, l));
+    let mut a = plan_sweeps::last_need(need, after, d, last.min(l));
     cs[after] = 1;
     fs[after] = outer;
     link[after] = a as u16;
-    let mut x = p;
-    while l < x {
+    for x in (l + 1..after).rev() {
         let v = event(left, kids, x, outer);
         a = plan_sweeps::last_need(need, x, d, a);
         cs[x] = v.c;
         fs[x] = v.f;
         link[x] = a as u16;
-        x -= 1;
     }
     a
 }
 
 // The event at a gap x of a child: the child cuts all, or a barrier after the child.
+#[tactic(auto, unfolding(crate::specs::Started::cost_at, crate::specs::Started::front_or))]
 fn event(left: &[u16], kids: usize, x: usize, outer: u16) -> Front
     requires { kids + x < length left.now }
     ensures { EventSays (row left.now kids) x outer result.c result.f }
 {
     let g = left[kids + x];
     if 0 < g {
-        return Front { c: 0, f: g };
+        Front { c: 0, f: g }
+    } else {
+        Front { c: 1, f: outer }
     }
-    Front { c: 1, f: outer }
 }
 
 // From left to right: what is made from the link of a start on is there already.
@@ -186,20 +175,10 @@ fn follow(d: usize, e: usize, link: &[u16], cs: &mut [u16], fs: &mut [u16])
     ensures { Followed link.now cs.old fs.old cs.new
         fs.new d e e }
 {
-    let mut p = d;
-    while p < e {
-        let x = p + 1;
+    for x in d + 1..e + 1 {
         let f = fs[x];
         let n = link[f as usize] as usize;
-        cs[x] = cs[x] + cs[n];
-        fs[x] = front_or(fs[n], f);
-        p = x;
+        cs[x] += cs[n];
+        fs[x] = plan_sweeps::first_or(fs[n], f);
     }
-}
-
-// The first front, or the second where the first is 0.
-fn front_or(first: u16, other: u16) -> u16
-    ensures { result ≡ first_of first other }
-{
-    if first == 0 { other } else { first }
 }

@@ -1,10 +1,10 @@
 // The steps of a sweep over one loop: how many barriers of its own it takes, and how far left the leftmost one can lie.
 #![tactic(auto)]
 
-ghost use Rattle.std.specs.Prelude.{◌≡◌, ◌+◌, ◌<◌, ◌≤◌, min, length};
-ghost use Rattle.laws.specs.Choice.{first_of};
+ghost use Rattle.std.specs.Prelude.{◌≡◌, ◌+◌, ◌<◌, ◌≤◌, length};
 ghost use Rattle.laws.specs.Entries.{at};
 ghost use Rattle.plan_method.specs.Sweep.{seek};
+ghost use Rattle.plan_sweeps.specs.Firsts.{FirstOr};
 ghost use Rattle.plan_sweeps.specs.Listed.{Stepped};
 
 // The front after a step over a child, and the bound that the child was asked with.
@@ -36,7 +36,7 @@ pub fn step_child(
     let first = left[kids + start] as usize;
     if b == 0 {
         return Step {
-            c: c,
+            c,
             f: first_or(first, f),
             ask: start,
         };
@@ -44,13 +44,8 @@ pub fn step_child(
     if b <= p {
         let g = left[kids + b] as usize;
         if 0 < g {
-            return Step { c: c, f: g, ask: b };
+            return Step { c, f: g, ask: b };
         }
-        return Step {
-            c: c + 1,
-            f: first_or(first, p + 1),
-            ask: start,
-        };
     }
     Step {
         c: c + 1,
@@ -60,17 +55,10 @@ pub fn step_child(
 }
 
 // The first number, or the second where the first is 0.
-pub fn first_or(first: usize, other: usize) -> usize
-    ensures { result ≡ first_of first other }
+pub fn first_or<T: PartialEq + Default + Copy>(first: T, other: T) -> T
+    ensures { FirstOr T.eq T.is_default first other result }
 {
-    if first == 0 { other } else { first }
-}
-
-// The smaller of two numbers.
-pub fn smaller(a: usize, b: usize) -> usize
-    ensures { result ≡ min a b }
-{
-    if b < a { b } else { a }
+    if first == T::default() { other } else { first }
 }
 
 // The last gap of low + 1 to p at which a line starts that ends before f, 0 for none.
@@ -78,12 +66,11 @@ pub fn last_need(need: &[usize], f: usize, low: usize, p: usize) -> usize
     requires { p < length need.now }
     ensures { result ≡ seek (at need.now) f low p }
 {
-    let mut a = p;
-    while low < a {
+    for before in (low..p).rev() {
+        let a = before + 1;
         if need[a] < f {
             return a;
         }
-        a -= 1;
     }
     0
 }

@@ -1,12 +1,12 @@
 -- Entries of a list after a store.
--- Main statements: `entry_here`, `entry_elsewhere`, `entries_more`, `lowered`, `left_low`.
-use mathlib.Core.Path.{◌≡◌, sym}
+-- Main statements: `entry_here`, `entry_elsewhere`, `entries_more`.
+use mathlib.Core.Path.{◌≡◌}
 use mathlib.Core.List.{List}
 use mathlib.Core.Logic.{⊎_elim}
-use Prim.Native.Nat.{ℕ, ◌+◌, ◌≤◌, ◌<◌, min}
+use Prim.Native.Nat.{ℕ, ◌+◌, ◌<◌}
 use native.Mathlib.Omega.{arith}
 use lib.ListN.{length, set}
-use lib.Seq.{get_or-set_same, get_or-set_other, set-get_or}
+use lib.Seq.{get_or-set_same, get_or-set_other}
 use Rattle.laws.specs.Entries.{at}
 use Rattle.laws.proofs.Tests.{eq_or}
 
@@ -25,10 +25,3 @@ module _ (xs : List ℕ) (i v : ℕ) where
       (λ (e : k ≡ i). rw (e, entry_here h) here)
       (λ (e : k ≡ i → ⊥). rw (entry_elsewhere k e) (below k (omega arith)))
       (eq_or k i)
-
--- the lesser of an entry and t in its place, stored or left
-pub lowered : (xs : List ℕ) (i t : ℕ) → t < at xs i → set xs i t ≡ set xs i (min t (at xs i))
-lowered xs i t h = let z : min t (at xs i) ≡ t = omega arith in rw z
-
-pub left_low : (xs : List ℕ) (i t : ℕ) → at xs i ≤ t → xs ≡ set xs i (min t (at xs i))
-left_low xs i t h = let z : min t (at xs i) ≡ at xs i = omega arith in rw z (sym (set-get_or xs i 0))

@@ -1,6 +1,5 @@
 -- One row narrowed from right to left: the least so far goes into each place that holds more.
--- Main definition: `Narrowing`, what a turn keeps. Main statements: `narrow_start`, `narrow_lower`, `narrow_store`,
--- `narrow_done`.
+-- Main definition: `Narrowing`, what a turn keeps. Main statements: `narrow_start`, `narrow_on`, `narrow_done`.
 use mathlib.Core.Path.{◌≡◌, refl, ◌∙◌}
 use mathlib.Core.List.{List}
 use mathlib.Core.Logic.{◌⊎◌, inl, inr, ⊎_elim}
@@ -40,15 +39,15 @@ module _ {xs : List ℕ} {base d e m q : ℕ} {ys : List ℕ} (p : Narrowing xs 
       record { inside = λ j k h. p.done j k (omega arith); outside = rw z at p.rest }
 
   -- a turn: the least with one more place, and that place holds it
-  narrow_on :
-      (v : ℕ) (zs : List ℕ) → d < q → v ≡ min (at ys (base + q)) m → length zs ≡ length ys → at zs (base + q) ≡ v →
-      ((i : ℕ) → (i ≡ base + q → ⊥) → at zs i ≡ at ys i) → Narrowing xs base d e v (q - 1) zs
+  pub narrow_on :
+      {v : ℕ} → d < q → base + e < length xs → v ≡ min m (at ys (base + q)) →
+      Narrowing xs base d e v (q - 1) (set ys (base + q) v)
   unfolding lowest_from
-  narrow_on v zs l v_is n here same =
+  narrow_on {v} l r v_is =
       record {
         low = omega arith;
         high = omega (arith, p.high);
-        long = n ∙ p.long;
+        long = length-set ys (base + q) v ∙ p.long;
         least = least;
         done = done;
         rest = rest;
@@ -66,21 +65,15 @@ module _ {xs : List ℕ} {base d e m q : ℕ} {ys : List ℕ} (p : Narrowing xs 
       least zero h = absurd (omega (arith, p.high))
       least (suc k) h = let z : suc (q - 1) ≡ q = omega arith in rw z (value k (omega arith))
 
-      done : (j k : ℕ) → q - 1 < j → j + k ≡ e → at zs (base + j) ≡ lowest_from f e (suc k) j
+      same : (i : ℕ) → (i ≡ base + q → ⊥) → at (set ys (base + q) v) i ≡ at ys i
+      same = entry_elsewhere ys (base + q) v
+
+      done : (j k : ℕ) → q - 1 < j → j + k ≡ e → at (set ys (base + q) v) (base + j) ≡ lowest_from f e (suc k) j
       done j k h s = ⊎_elim
-          (λ (z : j ≡ q). rw z (here ∙ value k (omega arith)))
+          (λ (z : j ≡ q). rw z (entry_here ys (base + q) v (omega (arith, p.high, p.long)) ∙ value k (omega arith)))
           (λ (z : j ≡ q → ⊥). same (base + j) (λ y. z (omega arith)) ∙ p.done j k (omega arith) s)
           (eq_or j q)
 
-      rest : (i : ℕ) → (i ≤ base + (q - 1)) ⊎ (base + e < i) → at zs i ≡ at xs i
+      rest : (i : ℕ) → (i ≤ base + (q - 1)) ⊎ (base + e < i) → at (set ys (base + q) v) i ≡ at xs i
       rest i (inl h) = same i (λ y. omega arith) ∙ p.rest i (inl (omega arith))
       rest i (inr h) = same i (λ y. omega (arith, p.high)) ∙ p.rest i (inr h)
-
-  pub narrow_lower : d < q → at ys (base + q) < m → Narrowing xs base d e (at ys (base + q)) (q - 1) ys
-  narrow_lower l h = narrow_on (at ys (base + q)) ys l (omega arith) refl refl (λ i n. refl)
-
-  pub narrow_store :
-      d < q → m ≤ at ys (base + q) → base + e < length xs → Narrowing xs base d e m (q - 1) (set ys (base + q) m)
-  narrow_store l h r =
-      narrow_on m (set ys (base + q) m) l (omega arith) (length-set ys (base + q) m)
-      (entry_here ys (base + q) m (omega (arith, p.high, p.long))) (entry_elsewhere ys (base + q) m)

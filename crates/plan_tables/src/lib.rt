@@ -37,11 +37,10 @@ pub fn prepare(
     ensures { Prepared (nest_in nest).points (nest_in nest).deps own.new ends.new
         heights.new reach.new limit.new has.new }
 {
-    let n = nest.count;
-    let points = nest.points;
-    chart(&points[..n], own, ends, heights);
-    collect(nest, &points[..n], own, ends, heights, reach, limit, has);
-    narrow(&points[..n], ends, heights, limit);
+    let points = &nest.points[..nest.count];
+    chart(points, own, ends, heights);
+    collect(nest, points, own, ends, heights, reach, limit, has);
+    narrow(points, ends, heights, limit);
 }
 
 // Of each gap its loop, of each DO its ENDDO and its height.
@@ -53,22 +52,16 @@ fn chart(points: &[u8], own: &mut [usize], ends: &mut [usize], heights: &mut [us
 {
     let mut o = 0;
     let mut h = Nest::DEPTH;
-    let mut i = 0;
-    while i < points.len() {
+    for (i, &kind) in points.iter().enumerate() {
         own[i] = o;
-        let kind = points[i];
         if kind == paper_nests::DO {
             heights[i] = h;
             h -= 1;
             o = i;
-            i += 1;
         } else if kind == paper_nests::ENDDO {
             ends[o] = i;
             h += 1;
             o = own[o];
-            i += 1;
-        } else {
-            i += 1;
         }
     }
 }
@@ -94,11 +87,8 @@ fn collect(
     ensures { Collected points.now (nest_in nest).deps heights.now
         reach.new back.new has.new }
 {
-    let mut i = nest.many;
-    while 0 < i {
-        i -= 1;
-        let e = nest.deps[i];
-        enter(points, own, ends, heights, reach, back, has, e);
+    for i in (0..nest.many).rev() {
+        enter(points, own, ends, heights, reach, back, has, nest.deps[i]);
     }
 }
 
@@ -128,11 +118,11 @@ fn enter(
         let home = home_of(points, own, ends, s, t);
         lower(reach, heights[home] * ROW + (s + 1), t as u16);
         has[home] = 1;
-        return;
+    } else {
+        let d = e.d as usize;
+        lower(back, heights[d] * ROW + s, t as u16);
+        has[d] = 1;
     }
-    let d = e.d as usize;
-    lower(back, heights[d] * ROW + s, t as u16);
-    has[d] = 1;
 }
 
 // The innermost loop that holds all gaps from s + 1 to t.
@@ -146,10 +136,11 @@ pub fn home_of(points: &[u8], own: &[usize], ends: &[usize], s: usize, t: usize)
     requires t_in_bounds { t < length points.now }
     ensures { result ≡ owner_from (suc s) t points.now }
 {
-    let mut l = own[s];
-    if points[s] == paper_nests::DO {
-        l = s;
-    }
+    let mut l = if points[s] == paper_nests::DO {
+        s
+    } else {
+        own[s]
+    };
     while ends[l] < t {
         l = own[l];
     }
@@ -166,12 +157,10 @@ fn narrow(points: &[u8], ends: &[usize], heights: &[usize], limit: &mut [u16])
     requires in_bounds_3 { TABLE ≤ length limit.old }
     ensures { Limited points.now heights.now limit.old limit.new }
 {
-    let mut d = 0;
-    while d < points.len() {
-        if points[d] == paper_nests::DO {
+    for (d, &kind) in points.iter().enumerate() {
+        if kind == paper_nests::DO {
             narrow_row(limit, heights[d] * ROW, d, ends[d]);
         }
-        d += 1;
     }
 }
 
@@ -183,17 +172,10 @@ fn narrow_row(xs: &mut [u16], base: usize, d: usize, e: usize)
     ensures { Narrowed xs.old base d e xs.new }
 {
     let mut m = e as u16;
-    let mut q = e;
-    while d < q {
+    for q in (d + 1..e + 1).rev() {
         let place = base + q;
-        let x = xs[place];
-        if x < m {
-            m = x;
-            q -= 1;
-        } else {
-            xs[place] = m;
-            q -= 1;
-        }
+        m = m.min(xs[place]);
+        xs[place] = m;
     }
 }
 
@@ -202,7 +184,5 @@ fn lower(xs: &mut [u16], place: usize, t: u16)
     requires { place < length xs.old }
     ensures { xs.new ≡ set xs.old place (min t (at xs.old place)) }
 {
-    if t < xs[place] {
-        xs[place] = t;
-    }
+    xs[place] = xs[place].min(t);
 }

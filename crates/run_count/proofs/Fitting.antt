@@ -1,21 +1,19 @@
 -- A list of turns tested: the loops counted, the bounds held one by one.
--- Main statements: `dos_on`, `dos_skip`; `Tested`, what a turn keeps; `test_start`, `test_low`, `test_high`, `test_on`,
--- `test_done`; `fit_by`, `fit_length`.
-use mathlib.Core.Path.{◌≡◌, refl, sym, ◌∙◌, ap}
-use mathlib.Core.Bool.{Bool, true, false, ◌&&◌}
+-- Main statements: `dos_on`, `dos_skip`, `dos_counted`; `Tested`, what a turn keeps.
+use mathlib.Core.Path.{◌≡◌, refl}
+use mathlib.Core.Bool.{Bool, true, false}
 use mathlib.Core.List.{List}
-use Prim.Native.Nat.{ℕ, zero, suc, ◌+◌, ◌≤◌, ◌<◌}
+use Prim.Native.Nat.{ℕ, zero, suc, ◌+◌, ◌≤◌}
 use native.Mathlib.Numerals.{add-one}
 use native.Mathlib.Omega.{arith}
-use lib.ListN.{length, get_or, drop, drop_of_length-le}
-use lib.Seq.{drop-cons}
-use borrow.Author.Tests.{eq-eqb, ne_eqb}
-use Rattle.laws.specs.Choice.{when, between}
-use Rattle.laws.proofs.Tests.{false_by}
-use Rattle.laws.proofs.Ranges.{in_between, between_in}
+use lib.ListN.{length, get_or, take, drop}
+use borrow.Author.Tests.{ne_eqb}
+use Rattle.std.specs.Prelude.{◌==◌, count_by}
+use Rattle.std.proofs.lemmas.List.Sums.{count_by_more_yes, count_by_more_no}
+use Rattle.laws.specs.Choice.{when}
 use Rattle.paper_nests.specs.Kinds.{DO}
 use Rattle.paper_nests.specs.Loops.{is_do}
-use Rattle.run_barriers.specs.Calls.{TURNS, dos_before, are_turns, fit_in}
+use Rattle.run_barriers.specs.Calls.{dos_before, are_turns}
 
 -- one point more
 pub dos_on : (ps : List ℕ) (n d : ℕ) → n ≡ dos_before ps d → get_or ps d 0 ≡ DO → n + 1 ≡ dos_before ps (d + 1)
@@ -26,56 +24,19 @@ pub dos_skip : (ps : List ℕ) (n d : ℕ) → n ≡ dos_before ps d → (get_or
 unfolding dos_before
 dos_skip ps n d e h = rw (add-one d, ne_eqb (get_or ps d 0) DO h) (omega arith)
 
--- no more DOs than points
-pub dos_few : (ps : List ℕ) (k : ℕ) → dos_before ps k ≤ k
+-- those before a point are the ones that a count of the points before it finds
+pub dos_counted : (ps : List ℕ) (k : ℕ) → k ≤ length ps → count_by (λ x. x == DO) (take k ps) ≡ dos_before ps k
 unfolding dos_before
-dos_few ps zero = omega arith
-dos_few ps (suc k) = go (is_do ps k) (dos_few ps k)
+dos_counted ps zero h = refl
+dos_counted ps (suc k) h = rw (← add-one k) (go (is_do ps k) refl (dos_counted ps k (omega arith)))
   where
-    go : (t : Bool) → dos_before ps k ≤ k → when t 1 + dos_before ps k ≤ suc k
-    go true h = omega arith
-    go false h = omega arith
+    go :
+        (t : Bool) → is_do ps k ≡ t → count_by (λ x. x == DO) (take k ps) ≡ dos_before ps k →
+        count_by (λ x. x == DO) (take (k + 1) ps) ≡ when (is_do ps k) 1 + dos_before ps k
+    go true e n = rw (count_by_more_yes (λ x. x == DO) ps k 0 h e, n, e) (omega arith)
+    go false e n = rw (count_by_more_no (λ x. x == DO) ps k 0 h e, n, e) (omega arith)
 
 -- the turns before i are within their bounds: the rest decides
 pub record Tested (first inner : ℕ) (ts : List ℕ) (low i : ℕ) : Type 0 where
   pub here : i ≤ length ts
   pub rest : are_turns low inner (drop i ts) ≡ are_turns first inner ts
-
-pub test_start : (first inner : ℕ) (ts : List ℕ) → Tested first inner ts first 0
-test_start first inner ts = record { here = omega arith; rest = refl }
-
-module _ (first inner : ℕ) (ts : List ℕ) (low i : ℕ) (p : Tested first inner ts low i) where
-  pub test_done : length ts ≤ i → true ≡ are_turns first inner ts
-  test_done h = ap (are_turns low inner) (sym (drop_of_length-le ts {i = i} h)) ∙ p.rest
-
-  module _ (l : i < length ts) where
-    next :
-        are_turns low inner (drop i ts) ≡ (between low (get_or ts i 0) TURNS && are_turns inner inner (drop (suc i) ts))
-    next = rw (drop-cons ts i 0 l)
-
-    -- one out of its bounds
-    out : (between low (get_or ts i 0) TURNS ≡ true → ⊥) → false ≡ are_turns first inner ts
-    out h = sym (next ∙ rw (false_by h)) ∙ p.rest
-
-    pub test_low : get_or ts i 0 < low → false ≡ are_turns first inner ts
-    test_low h = out (λ z. omega (arith, (in_between low (get_or ts i 0) TURNS z).0))
-
-    pub test_high : TURNS < get_or ts i 0 → false ≡ are_turns first inner ts
-    test_high h = out (λ z. omega (arith, (in_between low (get_or ts i 0) TURNS z).1))
-
-    pub test_on : low ≤ get_or ts i 0 → get_or ts i 0 ≤ TURNS → Tested first inner ts inner (i + 1)
-    test_on a b =
-        record {
-          here = omega arith;
-          rest = rw add-one (sym (next ∙ rw (between_in low (get_or ts i 0) TURNS a b)) ∙ p.rest);
-        }
-
--- the whole test
-pub fit_by :
-    (first inner : ℕ) (ps ts : List ℕ) (t : Bool) → length ts ≡ dos_before ps (length ps) → t ≡ are_turns first inner ts →
-    t ≡ fit_in first inner ps ts
-fit_by first inner ps ts t e h = rw (eq-eqb (length ts) (dos_before ps (length ps)) e) h
-
-pub fit_length :
-    (first inner : ℕ) (ps ts : List ℕ) → (length ts ≡ dos_before ps (length ps) → ⊥) → false ≡ fit_in first inner ps ts
-fit_length first inner ps ts h = rw (ne_eqb (length ts) (dos_before ps (length ps)) h)

@@ -24,10 +24,7 @@ pub const OUTER: u8 = 1;
 pub fn turns_fit(points: &[u8], turns: &[u8], first: u8, inner: u8) -> bool
     ensures { result ≡ fit_in first inner points.now turns.now }
 {
-    if turns.len() == loops_in(points) {
-        return are_turns(turns, first, inner);
-    }
-    false
+    turns.len() == loops_in(points) && are_turns(turns, first, inner)
 }
 
 // The placement's barrier calls: each barrier counts the product of the turns of the loops around it.
@@ -50,16 +47,13 @@ pub fn times_of(points: &[u8], turns: &[u8]) -> [u64; Nest::POINTS]
     let owners = owners_of(points);
     let mut times = [1; Nest::POINTS];
     let mut next: usize = 0;
-    let mut i: usize = 0;
-    while i + 1 < points.len() {
+    for i in 0..points.len() - 1 {
         if points[i] == paper_nests::DO {
             times[i + 1] = turns[next] as u64 * times[i];
             next += 1;
-            i += 1;
         } else {
             let d = owners[i + 1];
             times[i + 1] = times[d + 1];
-            i += 1;
         }
     }
     times
@@ -71,13 +65,9 @@ pub fn sum_at(times: &[u64; Nest::POINTS], p: Placement) -> u64
     ensures { result ≡ sum_in times.now (gaps_in p.words) }
 {
     let mut calls: u64 = 0;
-    let mut g: usize = 0;
-    while g < Placement::GAPS {
+    for g in 0..Placement::GAPS {
         if p.holds(g) {
             calls += times[g];
-            g += 1;
-        } else {
-            g += 1;
         }
     }
     calls
@@ -87,17 +77,7 @@ pub fn sum_at(times: &[u64; Nest::POINTS], p: Placement) -> u64
 fn loops_in(points: &[u8]) -> usize
     ensures { result ≡ dos_before points.now (length points.now) }
 {
-    let mut loops: usize = 0;
-    let mut d: usize = 0;
-    while d < points.len() {
-        if points[d] == paper_nests::DO {
-            loops += 1;
-            d += 1;
-        } else {
-            d += 1;
-        }
-    }
-    loops
+    points.iter().filter(|&&p| p == paper_nests::DO).count()
 }
 
 // All turns are within their bounds.
@@ -105,17 +85,11 @@ fn are_turns(turns: &[u8], first: u8, inner: u8) -> bool
     ensures { result ≡ are_turns first inner turns.now }
 {
     let mut low = first;
-    let mut i: usize = 0;
-    while i < turns.len() {
-        let t = turns[i];
-        if t < low {
-            return false;
-        }
-        if MOST < t {
+    for &t in turns {
+        if t < low || MOST < t {
             return false;
         }
         low = inner;
-        i += 1;
     }
     true
 }

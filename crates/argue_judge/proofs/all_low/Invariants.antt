@@ -5,6 +5,3 @@ use Rattle.argue_judge.proofs.all_low.Given as goal
 
 abbrev pub invariant-loop-d : goal.invariant-loop-d
 invariant-loop-d l = LowFrom l.points l.counts l.low.words (length l.points) l.d
-
-abbrev pub decreases-loop-d : goal.decreases-loop-d
-decreases-loop-d l = l.d

@@ -2,7 +2,6 @@
 -- way through a turn has its law.
 use Prim.Native.Nat.{◌-◌}
 use lib.ListN.{length}
-use Rattle.laws.specs.Entries.{at}
 use Rattle.paper_nests.specs.Stored.{nest_in}
 use Rattle.argue_judge.proofs.Turns.{JudgesAll}
 use Rattle.argue_judge.proofs.judge_lines.Given as goal

@@ -1,8 +1,7 @@
 -- `no_times` meets its contract: every entry is 0.
-use mathlib.Core.Path.{refl}
 use Rattle.laws.proofs.Copies.{copies, copies_at}
 use Rattle.argue_judge.proofs.no_times.Goals as goal
 
-pub returns : goal.returns
+pub returns-clause-by_index : goal.returns-clause-by_index
 unfolding copies
-returns _ = record { by_index = copies_at 256 0; result_len = refl }
+returns-clause-by_index _ = copies_at 256 0

@@ -5,6 +5,3 @@ use Rattle.argue_sets.proofs.last_back.Given as goal
 
 abbrev pub invariant-loop-i : goal.invariant-loop-i
 invariant-loop-i l = Backing (nest_in l.nest).points (nest_in l.nest).deps l.d l.f l.i l.last.at l.last.num
-
-abbrev pub decreases-loop-i : goal.decreases-loop-i
-decreases-loop-i l = l.i

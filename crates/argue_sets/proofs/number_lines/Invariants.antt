@@ -5,6 +5,3 @@ use Rattle.argue_sets.proofs.number_lines.Given as goal
 
 abbrev pub invariant-loop-i : goal.invariant-loop-i
 invariant-loop-i l = Numbering l.points (nest_in l.nest).deps l.heights l.initial.sets l.i l.sets
-
-abbrev pub decreases-loop-i : goal.decreases-loop-i
-decreases-loop-i l = l.i

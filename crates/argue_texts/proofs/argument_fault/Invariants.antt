@@ -5,8 +5,8 @@ use Rattle.argue_texts.specs.Parts.{progress_in}
 use Rattle.argue_texts.proofs.Walking.{Walk}
 use Rattle.argue_texts.proofs.argument_fault.Given as goal
 
-abbrev pub invariant-loop-number : goal.invariant-loop-number
-invariant-loop-number l = Walk l.text (progress_in l.sofar) l.at l.line
+abbrev pub invariant-loop-f : goal.invariant-loop-f
+invariant-loop-f l = Walk l.text (progress_in l.sofar) l.at l.line
 
-abbrev pub decreases-loop-number : goal.decreases-loop-number
-decreases-loop-number l = length l.text - l.at
+abbrev pub decreases-loop-f : goal.decreases-loop-f
+decreases-loop-f l = length l.text - l.at

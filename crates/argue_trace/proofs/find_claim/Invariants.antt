@@ -1,10 +1,6 @@
 -- The claims from the i-th on give what all of them give.
-use Prim.Native.Nat.{◌-◌}
 use Rattle.argue_trace.proofs.Finding.{Searching}
 use Rattle.argue_trace.proofs.find_claim.Given as goal
 
 abbrev pub invariant-loop-i : goal.invariant-loop-i
 invariant-loop-i l = Searching l.loops l.froms l.uptos l.many l.l l.a l.t l.i
-
-abbrev pub decreases-loop-i : goal.decreases-loop-i
-decreases-loop-i l = l.many - l.i

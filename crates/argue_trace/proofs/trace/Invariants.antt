@@ -1,5 +1,4 @@
 -- Each turn is one of the sweep, with its steps (Turns).
-use Rattle.laws.specs.Entries.{at}
 use Rattle.argue_trace.proofs.Turns.{Tracing}
 use Rattle.argue_trace.proofs.trace.Given as goal
 

@@ -1,11 +1,9 @@
 -- `strike` meets its contract: from the ENDDO down, the gaps behind are done (`Striking`).
+use Prim.Native.Nat.{◌-◌}
 use Rattle.argue_weigh.specs.Striking.{excludes_at}
 use Rattle.argue_weigh.proofs.Strikes.{Striking}
 use Rattle.argue_weigh.proofs.strike.Given as goal
 
 abbrev pub invariant-loop-g : goal.invariant-loop-g
 invariant-loop-g l =
-    Striking (excludes_at l.a l.b l.exact l.most l.owners l.times l.d) l.d l.e l.initial.struck l.g l.struck
-
-abbrev pub decreases-loop-g : goal.decreases-loop-g
-decreases-loop-g l = l.g
+    Striking (excludes_at l.a l.b l.exact l.most l.owners l.times l.d) l.d l.e l.initial.struck (l.g - 1) l.struck

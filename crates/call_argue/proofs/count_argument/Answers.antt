@@ -6,5 +6,5 @@ use Rattle.call_argue.proofs.count_argument.Goals as goal
 
 pub returns : goal.returns
 returns c =
-    let l = all_spelled (nest_in c.args.nest) c.requires.nest_value c.requires.nest_value_2 c.give_argument-counted.ensures in
+    let l = all_spelled (nest_in c.args.nest) c.requires.nest_value c.requires.nest_value_2 c.give_argument.ensures in
     omega (arith, l.next_is)

@@ -7,6 +7,5 @@ use Rattle.call_compare.proofs.refused.Goals as goal
 
 pub returns : goal.returns
 returns c =
-    let none : gaps_in c.empty.result.words ≡ [] =
-    gaps_none c.empty.result.words (λ i l. c.empty.ensures i) in
-    cc none
+    let none : gaps_in c.empty.result.words ≡ [] = gaps_none c.empty.result.words (λ i l. c.empty.ensures i) in
+    rw (c.from.ensures, none)

@@ -1,7 +1,9 @@
 -- `cheapest_of` meets its contract: the least entry of its one range, or of its two.
 use native.Mathlib.Omega.{arith}
-use Rattle.call_improve.proofs.GapRanges.{cheapest_line, cheapest_first, cheapest_second}
+use Rattle.call_improve.proofs.GapRanges.{cheapest_line, cheapest_ring}
 use borrow.Author.Rules.{rules}
+use mathlib.Core.Path.{◌∙◌}
+use Rattle.std.proofs.lemmas.Bool.Decides.{nat_tests}
 use Rattle.call_improve.proofs.cheapest_of.Goals as goal
 
 pub least_in-requires : goal.least_in-requires
@@ -24,14 +26,7 @@ least_in-b-requires c =
     let k = c.if-e-eq-INDEPENDENT.false in
     (omega (arith, p.source_before k), omega (arith, p.inside k))
 
-pub returns-then-a-b : goal.returns-then-a-b
-returns-then-a-b c =
-    let a = c.args in
-    cheapest_first a.e a.end c.if-e-eq-INDEPENDENT.false c.least_in-a.ensures c.least_in-b.ensures
-    c.if-a-b.true
-
 pub returns : goal.returns
 returns c =
-    let a = c.args in
-    cheapest_second a.e a.end c.if-e-eq-INDEPENDENT.false c.least_in-a.ensures c.least_in-b.ensures
-    c.if-a-b.false
+    cheapest_ring c.args.e c.args.end c.if-e-eq-INDEPENDENT.false c.least_in-a.ensures c.least_in-b.ensures
+    (c.min.ensures ∙ grind (arith, nat_tests))

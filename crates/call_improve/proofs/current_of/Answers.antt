@@ -8,7 +8,7 @@ use Rattle.paper_nests.specs.Stored.{nest_in}
 use Rattle.paper_placements.specs.Words.{gaps_in}
 use Rattle.paper_gaps.proofs.Lies.{found_lies}
 use Rattle.call_improve.specs.Tops.{top_at}
-use Rattle.call_improve.proofs.Chains.{chain_start, chain_on, chain_done, top_told, top_low}
+use Rattle.call_improve.proofs.Chains.{chain_start, chain_on, top_told, told_low}
 use Rattle.run_count.proofs.Timing.{entry}
 use Rattle.call_improve.proofs.current_of.Goals as goal
 
@@ -22,82 +22,46 @@ loop-i-init c =
 
 pub highest-h-requires : goal.highest-h-requires
 highest-h-requires c =
-    let there : c.loop-i.i - 1 < c.args.nest.many = omega (arith, c.loop-i.invariant.within, c.requires.with_ends.counted.many_is) in
-    found_lies c.requires.with_ends (there)
+    found_lies c.requires.with_ends (omega (arith, c.loop-i.invariant.within, c.requires.with_ends.counted.many_is))
 
 pub offset_bounds-first-h : goal.offset_bounds-first-h
 offset_bounds-first-h c =
-    let there : c.loop-i.i - 1 < c.args.nest.many = omega (arith, c.loop-i.invariant.within, c.requires.with_ends.counted.many_is) in
-    let told : let a = c.args in
-    let n = nest_in a.nest in
-    c.highest-h.result ≡ top_at n.points n.deps (gaps_in a.p.words) (c.loop-i.i - 1) = top_told c.requires.with_ends c.args.p.words c.requires.words_value c.requires.words_value_2 (there) c.latest_of-latest.result
-    c.highest-h.result c.latest_of-latest.ensures c.highest-h.ensures in
-    let low : c.highest-h.result < POINTS = omega (
-      arith,
-      told,
-      top_low c.requires.with_ends c.args.p.words c.requires.words_value c.requires.words_value_2 (there),
-    ) in
+    let low : c.highest-h.result < POINTS =
+    told_low c.requires.with_ends c.args.p.words c.requires.words_value c.requires.words_value_2
+    (omega (arith, c.loop-i.invariant.within, c.requires.with_ends.counted.many_is))
+    c.latest_of-latest.result c.highest-h.result c.latest_of-latest.ensures c.highest-h.ensures in
     omega (arith, low)
 
 pub bounds-first-h : goal.bounds-first-h
 bounds-first-h c =
-    let there : c.loop-i.i - 1 < c.args.nest.many = omega (arith, c.loop-i.invariant.within, c.requires.with_ends.counted.many_is) in
-    let told : let a = c.args in
-    let n = nest_in a.nest in
-    c.highest-h.result ≡ top_at n.points n.deps (gaps_in a.p.words) (c.loop-i.i - 1) = top_told c.requires.with_ends c.args.p.words c.requires.words_value c.requires.words_value_2 (there) c.latest_of-latest.result
-    c.highest-h.result c.latest_of-latest.ensures c.highest-h.ensures in
-    let low : c.highest-h.result < POINTS = omega (
-      arith,
-      told,
-      top_low c.requires.with_ends c.args.p.words c.requires.words_value c.requires.words_value_2 (there),
-    ) in
-    omega (arith, low)
+    told_low c.requires.with_ends c.args.p.words c.requires.words_value c.requires.words_value_2
+    (omega (arith, c.loop-i.invariant.within, c.requires.with_ends.counted.many_is))
+    c.latest_of-latest.result c.highest-h.result c.latest_of-latest.ensures c.highest-h.ensures
 
 pub offset_bounds-first-h-in-loop-i : goal.offset_bounds-first-h-in-loop-i
 offset_bounds-first-h-in-loop-i c =
-    let there : c.loop-i.i - 1 < c.args.nest.many = omega (arith, c.loop-i.invariant.within, c.requires.with_ends.counted.many_is) in
-    let told : let a = c.args in
-    let n = nest_in a.nest in
-    c.highest-h.result ≡ top_at n.points n.deps (gaps_in a.p.words) (c.loop-i.i - 1) = top_told c.requires.with_ends c.args.p.words c.requires.words_value c.requires.words_value_2 (there) c.latest_of-latest.result
-    c.highest-h.result c.latest_of-latest.ensures c.highest-h.ensures in
-    let low : c.highest-h.result < POINTS = omega (
-      arith,
-      told,
-      top_low c.requires.with_ends c.args.p.words c.requires.words_value c.requires.words_value_2 (there),
-    ) in
+    let low : c.highest-h.result < POINTS =
+    told_low c.requires.with_ends c.args.p.words c.requires.words_value c.requires.words_value_2
+    (omega (arith, c.loop-i.invariant.within, c.requires.with_ends.counted.many_is))
+    c.latest_of-latest.result c.highest-h.result c.latest_of-latest.ensures c.highest-h.ensures in
     omega (arith, low)
 
 pub bounds-first-h-in-loop-i : goal.bounds-first-h-in-loop-i
 bounds-first-h-in-loop-i c =
-    let there : c.loop-i.i - 1 < c.args.nest.many = omega (arith, c.loop-i.invariant.within, c.requires.with_ends.counted.many_is) in
-    let told : let a = c.args in
-    let n = nest_in a.nest in
-    c.highest-h.result ≡ top_at n.points n.deps (gaps_in a.p.words) (c.loop-i.i - 1) = top_told c.requires.with_ends c.args.p.words c.requires.words_value c.requires.words_value_2 (there) c.latest_of-latest.result
-    c.highest-h.result c.latest_of-latest.ensures c.highest-h.ensures in
-    let low : c.highest-h.result < POINTS = omega (
-      arith,
-      told,
-      top_low c.requires.with_ends c.args.p.words c.requires.words_value c.requires.words_value_2 (there),
-    ) in
-    omega (arith, low)
+    told_low c.requires.with_ends c.args.p.words c.requires.words_value c.requires.words_value_2
+    (omega (arith, c.loop-i.invariant.within, c.requires.with_ends.counted.many_is))
+    c.latest_of-latest.result c.highest-h.result c.latest_of-latest.ensures c.highest-h.ensures
 
 pub loop-i-preserved : goal.loop-i-preserved
 loop-i-preserved c =
-    let there : c.loop-i.i - 1 < c.args.nest.many = omega (arith, c.loop-i.invariant.within, c.requires.with_ends.counted.many_is) in
-    let told : let a = c.args in
-    let n = nest_in a.nest in
-    c.highest-h.result ≡ top_at n.points n.deps (gaps_in a.p.words) (c.loop-i.i - 1) = top_told c.requires.with_ends c.args.p.words c.requires.words_value c.requires.words_value_2 (there) c.latest_of-latest.result
-    c.highest-h.result c.latest_of-latest.ensures c.highest-h.ensures in
-    let low : c.highest-h.result < POINTS = omega (
-      arith,
-      told,
-      top_low c.requires.with_ends c.args.p.words c.requires.words_value c.requires.words_value_2 (there),
-    ) in
     let w = c.requires.with_ends in
-    let few : length (nest_in c.args.nest).deps ≤ DEPENDENCES =
-    omega (arith, w.counted.many_is, w.counted.many_fits) in
-    rw (told) (chain_on c.loop-i.invariant c.loop-i-test.true few (rw (told) at (low)))
-
-pub returns : goal.returns
-returns c =
-    record { placement_is = refl; calls_are = refl; chained = chain_done c.loop-i.invariant c.loop-i-test.false }
+    let n = nest_in c.args.nest in
+    let there : c.loop-i.i - 1 < c.args.nest.many = omega (arith, c.loop-i.invariant.within, w.counted.many_is) in
+    let told : c.highest-h.result ≡ top_at n.points n.deps (gaps_in c.args.p.words) (c.loop-i.i - 1) =
+    top_told w c.args.p.words c.requires.words_value c.requires.words_value_2 there c.latest_of-latest.result
+    c.highest-h.result c.latest_of-latest.ensures c.highest-h.ensures in
+    let low : c.highest-h.result < POINTS =
+    told_low w c.args.p.words c.requires.words_value c.requires.words_value_2 there c.latest_of-latest.result
+    c.highest-h.result c.latest_of-latest.ensures c.highest-h.ensures in
+    let few : length n.deps ≤ DEPENDENCES = omega (arith, w.counted.many_is, w.counted.many_fits) in
+    rw told (chain_on c.loop-i.invariant c.loop-i-test.true few (rw told at low))

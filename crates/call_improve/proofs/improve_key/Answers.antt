@@ -7,55 +7,31 @@ use mir.Val.{Fits}
 use borrow.Author.Rules.{rules}
 use Rattle.paper_nests.specs.declared.Nest as DN
 use Rattle.paper_nests.specs.Stored.{nest_in}
-use Rattle.paper_nests.proofs.Stored.{counted_points}
 use Rattle.paper_placements.specs.declared.Placement as DP
 use Rattle.paper_placements.specs.Words.{gaps_in}
 use Rattle.paper_gaps.specs.Lies.{WithEnds}
 use Rattle.run_count.specs.Times.{HasTimes}
 use Rattle.call_improve.specs.declared.Current as DU
 use Rattle.call_improve.specs.Steps.{SearchAsks}
-use Rattle.call_improve.proofs.RoundTurns.{with_ends, some_points, turns_asked, few_times, calls_fit}
+use Rattle.call_improve.proofs.RoundTurns.{with_ends, turns_asked, few_times, calls_fit}
 use Rattle.call_improve.proofs.RoundTurns.{Searching, search_start, search_asks, try_sound, search_taken}
 use Rattle.call_improve.proofs.RoundTurns.{search_kept, search_budget, search_round}
 use Rattle.call_improve.proofs.improve_key.Goals as goal
 
-pub slice_bounds-points-end : goal.slice_bounds-points-end
-slice_bounds-points-end c = counted_points c.args.nest c.requires.counted
+pub times_of-times-requires-clause-points_value : goal.times_of-times-requires-clause-points_value
+times_of-times-requires-clause-points_value c = rw c.points-points.ensures (turns_asked c.requires).0
 
-pub slice_bounds-times_of-end : goal.slice_bounds-times_of-end
-slice_bounds-times_of-end c = c.requires.counted.count_is
+pub times_of-times-requires-clause-turns_value : goal.times_of-times-requires-clause-turns_value
+times_of-times-requires-clause-turns_value c = rw c.points-points.ensures (turns_asked c.requires).1
 
-pub times_of-times-requires : goal.times_of-times-requires
-times_of-times-requires c = record { points_value = (turns_asked c.requires).0; turns_value = (turns_asked c.requires).1 }
-
-pub slice_bounds-points-end-2 : goal.slice_bounds-points-end-2
-slice_bounds-points-end-2 c = counted_points c.args.nest c.requires.counted
-
-pub slice_bounds-ends_of-end : goal.slice_bounds-ends_of-end
-slice_bounds-ends_of-end c = c.requires.counted.count_is
-
-pub ends_of-ends-requires : goal.ends_of-ends-requires
-ends_of-ends-requires c =
-    let p = c.requires.counted in
-    omega (arith, p.count_is, p.count_fits)
-
-pub floor_of-floor-requires : goal.floor_of-floor-requires
-floor_of-floor-requires c =
-    let p = c.requires in record { with_ends = with_ends p c.ends_of-ends.result c.ends_of-ends.ensures; few_times = few_times p c.times_of-times.result c.times_of-times.ensures }
+pub floor_of-floor-requires-clause-few_times : goal.floor_of-floor-requires-clause-few_times
+floor_of-floor-requires-clause-few_times c =
+    few_times c.requires c.times_of-times.result (rw c.points-points.ensures at c.times_of-times.ensures)
 
 pub sum_at-calls-requires : goal.sum_at-calls-requires
 sum_at-calls-requires c =
-    calls_fit c.requires c.times_of-times.result c.times_of-times.ensures (gaps_in c.args.key.words)
+    calls_fit c.requires c.times_of-times.result (rw c.points-points.ensures at c.times_of-times.ensures) (gaps_in c.args.key.words)
     (rw c.requires.counted.count_is c.requires.gaps_fit)
-
-pub current_of-current-requires : goal.current_of-current-requires
-current_of-current-requires c =
-    let p = c.requires in record { with_ends = with_ends p c.ends_of-ends.result c.ends_of-ends.ensures; words_value = p.gaps_fit; words_value_2 = p.all_cut }
-
-pub free_from-g-requires : goal.free_from-g-requires
-free_from-g-requires c =
-    let p = c.requires in
-    (some_points p, p.counted.count_fits)
 
 pub loop-g-init : goal.loop-g-init
 loop-g-init c =
@@ -63,7 +39,7 @@ loop-g-init c =
     (λ (x : List ℕ).
     Searching c.args.nest c.args.turns.now x c.args.budget c.current_of-current.result 0 c.free_from-g.result)
     (sym (ap (λ (q : DP.Placement). gaps_in q.words) c.current_of-current.ensures.placement_is))
-    (search_start c.requires c.times_of-times.result c.times_of-times.ensures c.args.budget c.current_of-current.result c.sum_at-calls.result
+    (search_start c.requires c.times_of-times.result (rw c.points-points.ensures at c.times_of-times.ensures) c.args.budget c.current_of-current.result c.sum_at-calls.result
     c.free_from-g.result c.sum_at-calls.ensures c.current_of-current.ensures c.free_from-g.ensures)
 
 pub returns-then-tries-budget : goal.returns-then-tries-budget
@@ -73,14 +49,14 @@ returns-then-tries-budget c =
     let key : DP.Placement = c.args.key in
     let budget : ℕ = c.args.budget in
     let times : List ℕ = c.times_of-times.result in
-    let asks : SearchAsks (nest) (key) (turns) = c.requires in
-    let has : HasTimes (nest_in (nest)).points (turns) (times) = c.times_of-times.ensures in
-    let placed : gaps_in c.current_of-current.result.placement.words ≡ gaps_in (key).words = ap (λ (q : DP.Placement). gaps_in q.words) c.current_of-current.ensures.placement_is in
-    let held : Searching (nest) (turns) (gaps_in (key).words) (budget) c.loop-g.current c.loop-g.tries c.loop-g.g = subst
-    (λ (x : List ℕ). Searching (nest) (turns) x (budget) c.loop-g.current c.loop-g.tries c.loop-g.g)
-    (placed)
+    let asks : SearchAsks nest key turns = c.requires in
+    let has : HasTimes (nest_in nest).points turns times = rw c.points-points.ensures at c.times_of-times.ensures in
+    let placed : gaps_in c.current_of-current.result.placement.words ≡ gaps_in key.words = ap (λ (q : DP.Placement). gaps_in q.words) c.current_of-current.ensures.placement_is in
+    let held : Searching nest turns (gaps_in key.words) budget c.loop-g.current c.loop-g.tries c.loop-g.g = subst
+    (λ (x : List ℕ). Searching nest turns x budget c.loop-g.current c.loop-g.tries c.loop-g.g)
+    placed
     c.loop-g.invariant in
-    search_budget (asks) (times) (has) (budget) (held) c.loop-g-test.true c.floor_of-floor.result
+    search_budget asks times has budget held c.loop-g-test.true c.floor_of-floor.result
     c.outcome_of.result c.if-tries-budget.true c.floor_of-floor.ensures c.outcome_of.ensures
 
 pub try_at-tried-requires : goal.try_at-tried-requires
@@ -90,14 +66,14 @@ try_at-tried-requires c =
     let key : DP.Placement = c.args.key in
     let budget : ℕ = c.args.budget in
     let times : List ℕ = c.times_of-times.result in
-    let asks : SearchAsks (nest) (key) (turns) = c.requires in
-    let has : HasTimes (nest_in (nest)).points (turns) (times) = c.times_of-times.ensures in
-    let ended : WithEnds (nest) c.ends_of-ends.result = with_ends (asks) c.ends_of-ends.result c.ends_of-ends.ensures in
-    let placed : gaps_in c.current_of-current.result.placement.words ≡ gaps_in (key).words = ap (λ (q : DP.Placement). gaps_in q.words) c.current_of-current.ensures.placement_is in
-    let held : Searching (nest) (turns) (gaps_in (key).words) (budget) c.loop-g.current c.loop-g.tries c.loop-g.g = subst
-    (λ (x : List ℕ). Searching (nest) (turns) x (budget) c.loop-g.current c.loop-g.tries c.loop-g.g)
-    (placed)
-    c.loop-g.invariant in record { with_ends = ended; try_asks = search_asks (asks) (times) (has) (budget) (held) c.loop-g-test.true }
+    let asks : SearchAsks nest key turns = c.requires in
+    let has : HasTimes (nest_in nest).points turns times = rw c.points-points.ensures at c.times_of-times.ensures in
+    let ended : WithEnds nest c.ends_of-ends.result = with_ends asks c.ends_of-ends.result (rw c.points-points.ensures at c.ends_of-ends.ensures) in
+    let placed : gaps_in c.current_of-current.result.placement.words ≡ gaps_in key.words = ap (λ (q : DP.Placement). gaps_in q.words) c.current_of-current.ensures.placement_is in
+    let held : Searching nest turns (gaps_in key.words) budget c.loop-g.current c.loop-g.tries c.loop-g.g = subst
+    (λ (x : List ℕ). Searching nest turns x budget c.loop-g.current c.loop-g.tries c.loop-g.g)
+    placed
+    c.loop-g.invariant in record { with_ends = ended; try_asks = search_asks asks times has budget held c.loop-g-test.true }
 
 pub overflow_add-tries : goal.overflow_add-tries
 overflow_add-tries c =
@@ -107,76 +83,51 @@ overflow_add-tries c =
     let turns : List ℕ = c.args.turns.now in
     let key : DP.Placement = c.args.key in
     let budget : ℕ = c.args.budget in
-    let placed : gaps_in c.current_of-current.result.placement.words ≡ gaps_in (key).words = ap (λ (q : DP.Placement). gaps_in q.words) c.current_of-current.ensures.placement_is in
-    let held : Searching (nest) (turns) (gaps_in (key).words) (budget) c.loop-g.current c.loop-g.tries c.loop-g.g = subst
-    (λ (x : List ℕ). Searching (nest) (turns) x (budget) c.loop-g.current c.loop-g.tries c.loop-g.g)
-    (placed)
+    let placed : gaps_in c.current_of-current.result.placement.words ≡ gaps_in key.words = ap (λ (q : DP.Placement). gaps_in q.words) c.current_of-current.ensures.placement_is in
+    let held : Searching nest turns (gaps_in key.words) budget c.loop-g.current c.loop-g.tries c.loop-g.g = subst
+    (λ (x : List ℕ). Searching nest turns x budget c.loop-g.current c.loop-g.tries c.loop-g.g)
+    placed
     c.loop-g.invariant in
-    omega (arith, (held).used, c.if-tries-budget.false, budget-fits)
+    omega (arith, held.used, c.if-tries-budget.false, budget-fits)
 
-pub current_of-current-requires-then-found-before : goal.current_of-current-requires-then-found-before
-current_of-current-requires-then-found-before c =
+pub current_of-current-requires-then-tried-current : goal.current_of-current-requires-then-tried-current
+current_of-current-requires-then-tried-current c =
     let nest : DN.Nest = c.args.nest in
     let turns : List ℕ = c.args.turns.now in
     let key : DP.Placement = c.args.key in
     let budget : ℕ = c.args.budget in
     let times : List ℕ = c.times_of-times.result in
-    let asks : SearchAsks (nest) (key) (turns) = c.requires in
-    let has : HasTimes (nest_in (nest)).points (turns) (times) = c.times_of-times.ensures in
-    let ended : WithEnds (nest) c.ends_of-ends.result = with_ends (asks) c.ends_of-ends.result c.ends_of-ends.ensures in
-    let placed : gaps_in c.current_of-current.result.placement.words ≡ gaps_in (key).words = ap (λ (q : DP.Placement). gaps_in q.words) c.current_of-current.ensures.placement_is in
-    let held : Searching (nest) (turns) (gaps_in (key).words) (budget) c.loop-g.current c.loop-g.tries c.loop-g.g = subst
-    (λ (x : List ℕ). Searching (nest) (turns) x (budget) c.loop-g.current c.loop-g.tries c.loop-g.g)
-    (placed)
+    let asks : SearchAsks nest key turns = c.requires in
+    let has : HasTimes (nest_in nest).points turns times = rw c.points-points.ensures at c.times_of-times.ensures in
+    let ended : WithEnds nest c.ends_of-ends.result = with_ends asks c.ends_of-ends.result (rw c.points-points.ensures at c.ends_of-ends.ensures) in
+    let placed : gaps_in c.current_of-current.result.placement.words ≡ gaps_in key.words = ap (λ (q : DP.Placement). gaps_in q.words) c.current_of-current.ensures.placement_is in
+    let held : Searching nest turns (gaps_in key.words) budget c.loop-g.current c.loop-g.tries c.loop-g.g = subst
+    (λ (x : List ℕ). Searching nest turns x budget c.loop-g.current c.loop-g.tries c.loop-g.g)
+    placed
     c.loop-g.invariant in
-    let sound = try_sound (asks) (times) (has) (budget) (held) c.loop-g-test.true c.try_at-tried.result c.try_at-tried.ensures in
+    let sound = try_sound asks times has budget held c.loop-g-test.true c.try_at-tried.result c.try_at-tried.ensures in
     record { with_ends = ended; words_value = sound.0; words_value_2 = sound.1 }
 
-pub free_from-g-requires-then-found-before : goal.free_from-g-requires-then-found-before
-free_from-g-requires-then-found-before c =
-    let nest : DN.Nest = c.args.nest in
-    let turns : List ℕ = c.args.turns.now in
-    let key : DP.Placement = c.args.key in
-    let asks : SearchAsks (nest) (key) (turns) = c.requires in
-    let p = asks in
-    (some_points p, p.counted.count_fits)
-
-pub loop-g-preserved-then-found-before : goal.loop-g-preserved-then-found-before
-loop-g-preserved-then-found-before c =
+pub loop-g-preserved-then-tried-current : goal.loop-g-preserved-then-tried-current
+loop-g-preserved-then-tried-current c =
     let nest : DN.Nest = c.args.nest in
     let turns : List ℕ = c.args.turns.now in
     let key : DP.Placement = c.args.key in
     let budget : ℕ = c.args.budget in
     let times : List ℕ = c.times_of-times.result in
-    let asks : SearchAsks (nest) (key) (turns) = c.requires in
-    let has : HasTimes (nest_in (nest)).points (turns) (times) = c.times_of-times.ensures in
-    let placed : gaps_in c.current_of-current.result.placement.words ≡ gaps_in (key).words = ap (λ (q : DP.Placement). gaps_in q.words) c.current_of-current.ensures.placement_is in
-    let held : Searching (nest) (turns) (gaps_in (key).words) (budget) c.loop-g.current c.loop-g.tries c.loop-g.g = subst
-    (λ (x : List ℕ). Searching (nest) (turns) x (budget) c.loop-g.current c.loop-g.tries c.loop-g.g)
-    (placed)
+    let asks : SearchAsks nest key turns = c.requires in
+    let has : HasTimes (nest_in nest).points turns times = rw c.points-points.ensures at c.times_of-times.ensures in
+    let placed : gaps_in c.current_of-current.result.placement.words ≡ gaps_in key.words = ap (λ (q : DP.Placement). gaps_in q.words) c.current_of-current.ensures.placement_is in
+    let held : Searching nest turns (gaps_in key.words) budget c.loop-g.current c.loop-g.tries c.loop-g.g = subst
+    (λ (x : List ℕ). Searching nest turns x budget c.loop-g.current c.loop-g.tries c.loop-g.g)
+    placed
     c.loop-g.invariant in
-    let from_start : (current : DU.Current) → (tries g : ℕ) → Searching (nest) (turns) (gaps_in (key).words) (budget) current tries g
-    → Searching (nest) (turns) (gaps_in c.current_of-current.result.placement.words) (budget) current tries g = λ current tries g s. subst (λ (x : List ℕ). Searching (nest) (turns) x (budget) current tries g) (sym (placed)) s in
-    from_start c.current_of-current-then-found-before.result (c.loop-g.tries + 1) c.free_from-g-then-found-before.result
-    (search_taken (asks) (times) (has) (budget) (held) c.loop-g-test.true c.try_at-tried.result c.try_at-tried.ensures
-    c.current_of-current-then-found-before.result c.free_from-g-then-found-before.result c.if-tries-budget.false (omega (arith, c.if-found-before.true)) c.current_of-current-then-found-before.ensures
-    c.free_from-g-then-found-before.ensures)
-
-pub overflow_add-g : goal.overflow_add-g
-overflow_add-g c =
-    let nest : DN.Nest = c.args.nest in
-    let turns : List ℕ = c.args.turns.now in
-    let key : DP.Placement = c.args.key in
-    let asks : SearchAsks (nest) (key) (turns) = c.requires in
-    omega (arith, c.loop-g-test.true, (asks).counted.count_fits)
-
-pub free_from-g-requires-else-found-before : goal.free_from-g-requires-else-found-before
-free_from-g-requires-else-found-before c =
-    let nest : DN.Nest = c.args.nest in
-    let turns : List ℕ = c.args.turns.now in
-    let key : DP.Placement = c.args.key in
-    let asks : SearchAsks (nest) (key) (turns) = c.requires in
-    (omega (arith, c.loop-g-test.true), (asks).counted.count_fits)
+    let from_start : (current : DU.Current) → (tries g : ℕ) → Searching nest turns (gaps_in key.words) budget current tries g
+    → Searching nest turns (gaps_in c.current_of-current.result.placement.words) budget current tries g = λ current tries g s. subst (λ (x : List ℕ). Searching nest turns x budget current tries g) (sym placed) s in
+    from_start c.current_of-current-then-tried-current.result (c.loop-g.tries + 1) c.free_from-g-then-tried-current.result
+    (search_taken asks times has budget held c.loop-g-test.true c.try_at-tried.result c.try_at-tried.ensures
+    c.current_of-current-then-tried-current.result c.free_from-g-then-tried-current.result c.if-tries-budget.false (omega (arith, c.if-tried-current.true)) c.current_of-current-then-tried-current.ensures
+    c.free_from-g-then-tried-current.ensures)
 
 pub loop-g-preserved : goal.loop-g-preserved
 loop-g-preserved c =
@@ -185,18 +136,18 @@ loop-g-preserved c =
     let key : DP.Placement = c.args.key in
     let budget : ℕ = c.args.budget in
     let times : List ℕ = c.times_of-times.result in
-    let asks : SearchAsks (nest) (key) (turns) = c.requires in
-    let has : HasTimes (nest_in (nest)).points (turns) (times) = c.times_of-times.ensures in
-    let placed : gaps_in c.current_of-current.result.placement.words ≡ gaps_in (key).words = ap (λ (q : DP.Placement). gaps_in q.words) c.current_of-current.ensures.placement_is in
-    let held : Searching (nest) (turns) (gaps_in (key).words) (budget) c.loop-g.current c.loop-g.tries c.loop-g.g = subst
-    (λ (x : List ℕ). Searching (nest) (turns) x (budget) c.loop-g.current c.loop-g.tries c.loop-g.g)
-    (placed)
+    let asks : SearchAsks nest key turns = c.requires in
+    let has : HasTimes (nest_in nest).points turns times = rw c.points-points.ensures at c.times_of-times.ensures in
+    let placed : gaps_in c.current_of-current.result.placement.words ≡ gaps_in key.words = ap (λ (q : DP.Placement). gaps_in q.words) c.current_of-current.ensures.placement_is in
+    let held : Searching nest turns (gaps_in key.words) budget c.loop-g.current c.loop-g.tries c.loop-g.g = subst
+    (λ (x : List ℕ). Searching nest turns x budget c.loop-g.current c.loop-g.tries c.loop-g.g)
+    placed
     c.loop-g.invariant in
-    let from_start : (current : DU.Current) → (tries g : ℕ) → Searching (nest) (turns) (gaps_in (key).words) (budget) current tries g
-    → Searching (nest) (turns) (gaps_in c.current_of-current.result.placement.words) (budget) current tries g = λ current tries g s. subst (λ (x : List ℕ). Searching (nest) (turns) x (budget) current tries g) (sym (placed)) s in
-    from_start c.loop-g.current (c.loop-g.tries + 1) c.free_from-g-else-found-before.result
-    (search_kept (asks) (times) (has) (budget) (held) c.loop-g-test.true c.try_at-tried.result c.try_at-tried.ensures
-    c.free_from-g-else-found-before.result c.if-tries-budget.false (omega (arith, c.if-found-before.false)) c.free_from-g-else-found-before.ensures)
+    let from_start : (current : DU.Current) → (tries g : ℕ) → Searching nest turns (gaps_in key.words) budget current tries g
+    → Searching nest turns (gaps_in c.current_of-current.result.placement.words) budget current tries g = λ current tries g s. subst (λ (x : List ℕ). Searching nest turns x budget current tries g) (sym placed) s in
+    from_start c.loop-g.current (c.loop-g.tries + 1) c.free_from-g-else-tried-current.result
+    (search_kept asks times has budget held c.loop-g-test.true c.try_at-tried.result c.try_at-tried.ensures
+    c.free_from-g-else-tried-current.result c.if-tries-budget.false (omega (arith, c.if-tried-current.false)) c.free_from-g-else-tried-current.ensures)
 
 pub returns : goal.returns
 returns c =
@@ -205,12 +156,12 @@ returns c =
     let key : DP.Placement = c.args.key in
     let budget : ℕ = c.args.budget in
     let times : List ℕ = c.times_of-times.result in
-    let asks : SearchAsks (nest) (key) (turns) = c.requires in
-    let has : HasTimes (nest_in (nest)).points (turns) (times) = c.times_of-times.ensures in
-    let placed : gaps_in c.current_of-current.result.placement.words ≡ gaps_in (key).words = ap (λ (q : DP.Placement). gaps_in q.words) c.current_of-current.ensures.placement_is in
-    let held : Searching (nest) (turns) (gaps_in (key).words) (budget) c.loop-g.current c.loop-g.tries c.loop-g.g = subst
-    (λ (x : List ℕ). Searching (nest) (turns) x (budget) c.loop-g.current c.loop-g.tries c.loop-g.g)
-    (placed)
+    let asks : SearchAsks nest key turns = c.requires in
+    let has : HasTimes (nest_in nest).points turns times = rw c.points-points.ensures at c.times_of-times.ensures in
+    let placed : gaps_in c.current_of-current.result.placement.words ≡ gaps_in key.words = ap (λ (q : DP.Placement). gaps_in q.words) c.current_of-current.ensures.placement_is in
+    let held : Searching nest turns (gaps_in key.words) budget c.loop-g.current c.loop-g.tries c.loop-g.g = subst
+    (λ (x : List ℕ). Searching nest turns x budget c.loop-g.current c.loop-g.tries c.loop-g.g)
+    placed
     c.loop-g.invariant in
-    search_round (asks) (times) (has) (budget) (held) c.floor_of-floor.result c.outcome_of-2.result
+    search_round asks times has budget held c.floor_of-floor.result c.outcome_of-2.result
     c.loop-g-test.false c.floor_of-floor.ensures c.outcome_of-2.ensures

@@ -1,26 +1,22 @@
+use mathlib.Core.Path.{◌≡◌, ◌∙◌}
+use Prim.Native.Nat.{◌+◌, ◌-◌, ◌<◌}
 use native.Mathlib.Omega.{arith}
-use Rattle.call_improve.proofs.GapRanges.{least_start, least_less, least_same}
-use mathlib.Core.Path.{◌≡◌}
+use lib.ListN.{get_or, drop, length-take}
+use lib.Seq.{get_or-take, get_or-drop}
+use borrow.Rule.Slice.PartMut.{mid_of}
+use Rattle.std.proofs.lemmas.Bool.Decides.{nat_tests}
+use Rattle.call_improve.proofs.GapRanges.{least_on}
 use Rattle.call_improve.proofs.least_in.Goals as goal
 
-pub offset_bounds-times-lo : goal.offset_bounds-times-lo
-offset_bounds-times-lo c = omega (arith, c.requires.0, c.requires.1)
-
-pub bounds-times-lo : goal.bounds-times-lo
-bounds-times-lo c = omega (arith, c.requires.0, c.requires.1)
-
-pub loop-g-init : goal.loop-g-init
-loop-g-init c = (c.requires.0, least_start c.args.times.now c.args.lo)
-
-pub loop-g-preserved-then-w-least : goal.loop-g-preserved-then-w-least
-loop-g-preserved-then-w-least c =
-    (omega (arith, c.loop-g-test.true), least_less c.loop-g.invariant.1 (omega (arith, c.if-w-least.true)))
-
-pub loop-g-preserved : goal.loop-g-preserved
-loop-g-preserved c =
-    (omega (arith, c.loop-g-test.true), least_same c.loop-g.invariant.1 (omega (arith, c.if-w-least.false)))
-
-pub returns : goal.returns
-returns c =
-    let z : c.loop-g.g ≡ c.args.hi = omega (arith, c.loop-g.invariant.0, c.loop-g-test.false) in
-    rw z at c.loop-g.invariant.1
+pub loop-w-preserved : goal.loop-w-preserved
+loop-w-preserved c =
+    let i = c.args in
+    let table = i.times.now in
+    let j = c.loop-w.w-index in
+    let n = i.hi + 1 - (i.lo + 1) in
+    let under : j < n = omega (arith, length-take n (drop (i.lo + 1) table)) in
+    let here : get_or (mid_of (i.lo + 1) n table) j 0 ≡ get_or table (i.lo + 1 + j) 0 =
+    get_or-take n (drop (i.lo + 1) table) j 0 under ∙ get_or-drop (i.lo + 1) table j 0 in
+    let place : i.lo + 1 + j ≡ i.lo + j + 1 = omega arith in
+    let far : i.lo + (j + 1) ≡ i.lo + j + 1 = omega arith in
+    rw far (least_on c.loop-w.invariant (grind (arith, nat_tests, rw place at here)))

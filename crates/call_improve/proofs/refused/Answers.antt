@@ -9,4 +9,4 @@ pub returns : goal.returns
 returns c =
     let none : gaps_in c.empty.result.words ≡ [] =
     gaps_none c.empty.result.words (λ i l. c.empty.ensures i) in
-    cc none
+    cc (none, c.from.ensures)

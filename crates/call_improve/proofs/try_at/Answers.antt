@@ -1,6 +1,6 @@
-use mathlib.Core.Path.{refl, ap}
+use mathlib.Core.Path.{refl, sym, ◌∙◌}
 use native.Mathlib.Omega.{arith}
-use Rattle.paper_placements.specs.Answers.{is_cut}
+use Rattle.paper_placements.proofs.CutTest.{cut_some}
 use Rattle.call_improve.proofs.TryTurns.{gap_below, turn_start, turn_below, turn_up, turn_cut, turn_sum, turn_kept}
 use Rattle.call_improve.proofs.TryTurns.{turn_next, turn_done}
 use Rattle.call_improve.proofs.try_at.Goals as goal
@@ -12,30 +12,30 @@ pub loop-i-init : goal.loop-i-init
 loop-i-init c =
     turn_start c.requires.with_ends c.requires.try_asks c.empty-none.result.words c.put-placement.result.words c.empty-none.ensures c.put-placement.ensures
 
-pub loop-i-smaller-in-By : goal.loop-i-smaller-in-By
-loop-i-smaller-in-By c =
+pub loop-i-smaller-then-is_some : goal.loop-i-smaller-then-is_some
+loop-i-smaller-then-is_some c =
     omega (arith, turn_up c.requires.with_ends c.requires.try_asks c.loop-i.placement.words c.loop-i.invariant c.if-i-many.true)
 
-pub loop-i-preserved-in-By : goal.loop-i-preserved-in-By
-loop-i-preserved-in-By c =
-    turn_cut c.requires.with_ends c.requires.try_asks c.loop-i.placement.words c.loop-i.invariant c.if-i-many.true c.cut_in-cut.result
-    c.cut_in-cut.ensures (ap is_cut c.in-By.is)
+pub loop-i-preserved-then-is_some : goal.loop-i-preserved-then-is_some
+loop-i-preserved-then-is_some c =
+    turn_cut c.requires.with_ends c.requires.try_asks c.loop-i.placement.words c.loop-i.invariant c.if-i-many.true c.cut_in.result
+    c.cut_in.ensures (cut_some c.cut_in.result ∙ sym c.is_some.ensures ∙ c.if-is_some.true)
 
-pub put-placement-requires-in-Uncut : goal.put-placement-requires-in-Uncut
-put-placement-requires-in-Uncut c = turn_below c.requires.with_ends c.requires.try_asks c.loop-i.placement.words c.loop-i.invariant
+pub put-placement-requires-else-is_some : goal.put-placement-requires-else-is_some
+put-placement-requires-else-is_some c = turn_below c.requires.with_ends c.requires.try_asks c.loop-i.placement.words c.loop-i.invariant
 
 pub overflow_add-calls : goal.overflow_add-calls
 overflow_add-calls c =
     record {
       fits =
-          turn_sum c.requires.with_ends c.requires.try_asks c.loop-i.placement.words c.loop-i.invariant c.if-i-many.true c.cut_in-cut.result
-          c.cut_in-cut.ensures (ap is_cut c.in-Uncut.is);
+          turn_sum c.requires.with_ends c.requires.try_asks c.loop-i.placement.words c.loop-i.invariant c.if-i-many.true c.cut_in.result
+          c.cut_in.ensures (cut_some c.cut_in.result ∙ sym c.is_some.ensures ∙ c.if-is_some.false);
     }
 
-pub loop-i-preserved-in-Uncut : goal.loop-i-preserved-in-Uncut
-loop-i-preserved-in-Uncut c =
-    turn_kept c.requires.with_ends c.requires.try_asks c.loop-i.placement.words c.loop-i.invariant c.if-i-many.true c.cut_in-cut.result
-    c.cut_in-cut.ensures (ap is_cut c.in-Uncut.is) c.put-placement-in-Uncut.result.words c.put-placement-in-Uncut.ensures
+pub loop-i-preserved-else-is_some : goal.loop-i-preserved-else-is_some
+loop-i-preserved-else-is_some c =
+    turn_kept c.requires.with_ends c.requires.try_asks c.loop-i.placement.words c.loop-i.invariant c.if-i-many.true c.cut_in.result
+    c.cut_in.ensures (cut_some c.cut_in.result ∙ sym c.is_some.ensures ∙ c.if-is_some.false) c.put-placement-else-is_some.result.words c.put-placement-else-is_some.ensures
 
 pub returns-then-count-h : goal.returns-then-count-h
 returns-then-count-h c =

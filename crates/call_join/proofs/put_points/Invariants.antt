@@ -1,7 +1,7 @@
 -- `put_points` meets its contract: the lines of the points before i are written, and those from i on are left, with the
--- flags from f on (`Piecing`). The measure is how many are left.
+-- flags from f on (`Piecing`).
 use mathlib.Core.List.{List}
-use Prim.Native.Nat.{ℕ, ◌-◌}
+use Prim.Native.Nat.{ℕ}
 use lib.ListN.{drop}
 use Rattle.paper_nests.specs.Nests.{Nest}
 use Rattle.paper_nests.specs.Stored.{nest_in}
@@ -16,8 +16,5 @@ left_of n f i = point_pieces i (drop i n.points) (drop f n.flagged)
 
 abbrev pub invariant-loop-i : goal.invariant-loop-i
 invariant-loop-i l =
-    let n = nest_in l.nest in
+    let n = nest_in l.fn.nest in
     Piecing (point_pieces 0 n.points n.flagged) (left_of n l.f l.i) l.initial.out l.out l.at
-
-abbrev pub decreases-loop-i : goal.decreases-loop-i
-decreases-loop-i l = l.count - l.i

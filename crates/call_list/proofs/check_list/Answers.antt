@@ -1,5 +1,6 @@
 -- What is begun holds before the first record (`taken_none`), a turn takes one more (`taken_one`), and at the end all
 -- are taken (`taken_all`).
+use native.Mathlib.Omega.{arith}
 use Rattle.paper_nests.specs.declared.Dependence.{Dependence}
 use Rattle.desk.specs.Desks.{desk_in}
 use Rattle.call_list.specs.Lists.{all_deps}
@@ -18,4 +19,4 @@ loop-i-preserved c =
 
 pub returns : goal.returns
 returns c =
-    taken_all c.args.desk c.args.list.now c.loop-i.i c.loop-i.found c.loop-i.invariant c.loop-i-test.false
+    taken_all c.args.desk c.args.list.now _ c.loop-i.found c.loop-i.invariant (omega arith)

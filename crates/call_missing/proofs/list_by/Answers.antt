@@ -8,6 +8,8 @@ use Rattle.call_missing.specs.Covering.{CoverSays}
 use Rattle.call_missing.proofs.Listing.{line_bare, line_listed}
 use Rattle.call_missing.proofs.Listing.{front_bare, rear_bare, back_listed}
 use Rattle.call_missing.proofs.list_by.Goals as goal
+use Rattle.call_missing.proofs.list_by.Goals.{else-is_covered-2-via-then-is_covered-2+else-is_covered-3}
+use Rattle.call_missing.proofs.list_by.Goals.{else-is_covered-2-via-else-is_covered-2}
 
 pub returns-then-is_covered : goal.returns-then-is_covered
 returns-then-is_covered c ps fs b w =
@@ -41,22 +43,15 @@ returns-then-is_covered-3 c ps fs b w =
     c.list_range-front.result.words c.list_range-then-is_covered-3.result.words c.list_range-front.ensures
     c.list_range-then-is_covered-3.ensures
 
-pub returns-else-is_covered-3 : goal.returns-else-is_covered-3
-returns-else-is_covered-3 c ps fs b w d l =
-    let rear-told : let a = c.args in
-    let e = dep_in a.e in
-    CoverSays a.ends.now a.loops.words a.key.words e.s e.t (e.s + 1) (at a.ends.now e.d)
-    c.is_covered-then-is_covered-2.result = c.is_covered-then-is_covered-2.ensures in
+pub returns : goal.returns
+returns c ps fs b w d l =
     let a = c.args in
     let e = dep_in a.e in
     let k = is-back ps e w c.if-e-eq-INDEPENDENT.false in
-    rear_bare b e k c.is_covered-2.ensures (at a.ends.now e.d)
-    (b.ends_are e.d k.loop)
-    (rear-told) c.if-is_covered-3.false a.listed.words d
-
-pub returns-else-is_covered-2 : goal.returns-else-is_covered-2
-returns-else-is_covered-2 c ps fs b w d l =
-    let a = c.args in
-    let e = dep_in a.e in
-    front_bare b e (is-back ps e w c.if-e-eq-INDEPENDENT.false) c.is_covered-2.ensures
-    c.if-is_covered-2.false a.listed.words d
+    elim c.else-is_covered-2.branch [
+      | else-is_covered-2-via-then-is_covered-2+else-is_covered-3 x ↦
+          rear_bare b e k c.is_covered-2.ensures (at a.ends.now e.d) (b.ends_are e.d k.loop)
+          x.is_covered-then-is_covered-2.ensures x.if-is_covered-3.false a.listed.words d
+      | else-is_covered-2-via-else-is_covered-2 x ↦
+          front_bare b e k c.is_covered-2.ensures x.if-is_covered-2.false a.listed.words d
+    ]

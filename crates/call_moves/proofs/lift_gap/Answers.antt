@@ -1,39 +1,16 @@
--- `lift_gap` meets its contract: one law for each way through it (proofs/Moving).
+-- `lift_gap` meets its contract: one law for each way past the range of the gap (proofs/Moving).
 use mathlib.Core.Path.{sym, ◌∙◌}
-use native.Mathlib.Omega.{arith}
-use Rattle.call_moves.proofs.Moving.{ready, below, lift_refused, lift_missing, lift_made}
+use Rattle.call_moves.proofs.Moving.{lift_missing, lift_made}
 use Rattle.call_moves.proofs.lift_gap.Goals as goal
 
-pub returns-then-fault-ne0 : goal.returns-then-fault-ne0
-returns-then-fault-ne0 c =
+pub returns-then-not-holds : goal.returns-then-not-holds
+returns-then-not-holds c =
     let a = c.args in
-    lift_refused a.desk a.gap c.requires c.refused.result c.gap_fault-fault.result
-    c.gap_fault-fault.ensures (λ z. omega arith) c.refused.ensures
-
-pub holds-requires : goal.holds-requires
-holds-requires c =
-    let a = c.args in
-    below a.desk a.gap c.requires (sym c.gap_fault-fault.ensures ∙ omega arith)
-
-pub lift-after-requires : goal.lift-after-requires
-lift-after-requires c =
-    let a = c.args in record { ready = ready a.desk a.gap c.requires (sym c.gap_fault-fault.ensures ∙ omega arith); g_value = sym c.holds.ensures ∙ c.if-holds.true }
-
-pub with_move-requires : goal.with_move-requires
-with_move-requires c =
-    let a = c.args in record { ring = c.requires.ring; gap_bound = below a.desk a.gap c.requires (sym c.gap_fault-fault.ensures ∙ omega arith) }
-
-pub returns-then-holds : goal.returns-then-holds
-returns-then-holds c =
-    let a = c.args in
-    lift_made a.desk a.gap c.requires c.accepted.result (sym c.gap_fault-fault.ensures ∙ omega arith)
-    c.lift-after.result c.with_move.result
-    (sym c.holds.ensures ∙ c.if-holds.true) c.lift-after.ensures
-    c.with_move.ensures c.accepted.ensures
+    lift_missing a.desk a.gap c.requires c.refused-then-not-holds.result (sym c.in_default.ensures)
+    (sym c.holds.ensures ∙ c.if-not-holds.true) c.refused-then-not-holds.ensures
 
 pub returns : goal.returns
 returns c =
     let a = c.args in
-    lift_missing a.desk a.gap c.requires c.refused-2.result
-    (sym c.gap_fault-fault.ensures ∙ omega arith) (sym c.holds.ensures ∙ c.if-holds.false)
-    c.refused-2.ensures
+    lift_made a.desk a.gap c.requires c.accepted.result (sym c.in_default.ensures) c.lift-after.result c.with_move.result
+    (sym c.holds.ensures ∙ c.if-not-holds.false) c.lift-after.ensures c.with_move.ensures c.accepted.ensures

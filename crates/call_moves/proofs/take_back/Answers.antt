@@ -1,22 +1,13 @@
--- `take_back` meets its contract: one law for each way through it (proofs/Backs).
-use Rattle.call_moves.proofs.Backs.{latest_ready, latest_holds, back_refused, back_none, back_made}
+-- `take_back` meets its contract: without a move to take back it is 13, and the latest move is there to be undone
+-- (proofs/Backs).
+use Rattle.std.proofs.lemmas.Bool.{not-false}
+use Rattle.call_moves.proofs.Backs.{latest_holds, back_none}
 use Rattle.call_moves.proofs.take_back.Goals as goal
 
-pub returns-then-moves-eq0 : goal.returns-then-moves-eq0
-returns-then-moves-eq0 c =
-    let d = c.args.desk in
-    let m = c.requires in
-    back_none d m c.refused.result c.if-loaded.true c.if-moves-eq0.true c.refused.ensures
+pub returns-then-desk-eq0 : goal.returns-then-desk-eq0
+returns-then-desk-eq0 c =
+    back_none c.args.desk c.requires c.refused-then-desk-eq0.result (not-false _ c.if-not-desk.false)
+    c.if-desk-eq0.true c.refused-then-desk-eq0.ensures
 
-pub undone-after-requires : goal.undone-after-requires
-undone-after-requires c =
-    let d = c.args.desk in
-    let m = c.requires in record { ready = latest_ready d m c.latest.result c.latest.ensures c.if-loaded.true; gap_value = latest_holds d m c.latest.result c.latest.ensures }
-
-pub returns-then-loaded : goal.returns-then-loaded
-returns-then-loaded c =
-    back_made c.args.desk c.requires c.accepted.result c.latest.result c.undone-after.result c.pop.result
-    c.if-loaded.true c.if-moves-eq0.false c.latest.ensures c.undone-after.ensures c.pop.ensures c.accepted.ensures
-
-pub returns : goal.returns
-returns c = back_refused c.args.desk c.requires c.refused-2.result c.if-loaded.false c.refused-2.ensures
+pub undone-after-requires-clause-gap_value : goal.undone-after-requires-clause-gap_value
+undone-after-requires-clause-gap_value c = latest_holds c.args.desk c.requires c.latest.result c.latest.ensures

@@ -5,9 +5,9 @@ use Rattle.call_shape.proofs.blank.Goals as goal
 
 pub returns : goal.returns
 unfolding copies
-returns _ =
+returns c =
     record {
-      number_is = refl;
+      number_is = c.from.ensures;
       line_is = refl;
       no_owners = copies_at 256 0;
       no_ends = copies_at 256 0;

@@ -19,33 +19,23 @@ overflow_cast-owners c =
     let low = owner_at_most c.args.points.now c.loop-p.p in
     record { fits = omega (arith, owner_here, low, c.requires.1) }
 
-pub bounds-owners-p : goal.bounds-owners-p
-bounds-owners-p c = omega (arith, c.loop-p-test.true, c.requires.1)
-
 pub overflow_cast-ends : goal.overflow_cast-ends
 overflow_cast-ends c =
     let few = end_few c.args.points.now c.ends_of-closing.result c.ends_of-closing.ensures c.loop-p.p c.requires.0 c.requires.1 in
     record { fits = omega (arith, c.end_at.ensures, few) }
-
-pub bounds-ends-p : goal.bounds-ends-p
-bounds-ends-p c = omega (arith, c.loop-p-test.true, c.requires.1)
 
 pub overflow_cast-depths : goal.overflow_cast-depths
 overflow_cast-depths c =
     let few = inside_few c.loop-p.invariant c.requires.0 c.requires.1 (get_or c.args.points.now c.loop-p.p 0) in
     record { fits = omega (arith, c.inside.ensures, few) }
 
-pub bounds-depths-p : goal.bounds-depths-p
-bounds-depths-p c = omega (arith, c.loop-p-test.true, c.requires.1)
-
 pub deeper-depth-requires : goal.deeper-depth-requires
 deeper-depth-requires c = omega (arith, depth_few c.loop-p.invariant c.requires.0 c.requires.1)
 
 pub loop-p-preserved : goal.loop-p-preserved
 loop-p-preserved c =
-    let owner_here : let ps = c.args.points.now in
-    get_or c.owners_of-around.result c.loop-p.p 0 ≡ owner_of ps c.loop-p.p = c.owners_of-around.ensures c.loop-p.p c.loop-p-test.true in
-    pass_on c.loop-p.invariant c.requires.0 c.requires.1 c.loop-p-test.true _ _ _ _ (owner_here)
+    pass_on c.loop-p.invariant c.requires.0 c.requires.1 c.loop-p-test.true _ _ _ _
+    (c.owners_of-around.ensures c.loop-p.p c.loop-p-test.true)
     (c.end_at.ensures ∙ end_here c.args.points.now c.ends_of-closing.result c.ends_of-closing.ensures c.loop-p.p)
     c.inside.ensures c.deeper-depth.ensures
 

@@ -1,10 +1,7 @@
 -- `end_barriers` meets its contract. The invariant: the sum of the longest durations of the phases below k.
-use Prim.Native.Nat.{◌-◌}
+use Prim.Native.Nat.{◌*◌}
 use Rattle.call_sheet.proofs.Ending.{Summed}
 use Rattle.call_sheet.proofs.end_barriers.Given as goal
 
 abbrev pub invariant-loop-k : goal.invariant-loop-k
-invariant-loop-k l = Summed l.processors l.phases l.durations l.k l.from l.end
-
-abbrev pub decreases-loop-k : goal.decreases-loop-k
-decreases-loop-k l = l.phases - l.k
+invariant-loop-k l = Summed l.processors l.phases l.durations l.k (l.k * l.processors) l.end

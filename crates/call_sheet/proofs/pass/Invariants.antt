@@ -1,11 +1,7 @@
 -- `pass` meets its contract. The invariant: the times of the processors below p are stored.
-use Prim.Native.Nat.{◌-◌, ◌≤◌}
 use Rattle.call_sheet.specs.Says.{pass_time, Timed}
 use Rattle.call_sheet.proofs.pass.Given as goal
 
 abbrev pub invariant-loop-p : goal.invariant-loop-p
 invariant-loop-p l =
-    (l.p ≤ l.processors) × Timed (pass_time l.processors l.durations l.from l.waits l.asked l.earlier) l.initial.times l.times l.p
-
-abbrev pub decreases-loop-p : goal.decreases-loop-p
-decreases-loop-p l = l.processors - l.p
+    Timed (pass_time l.processors l.durations l.from l.waits l.asked l.earlier) l.initial.times l.times l.p

@@ -1,10 +1,6 @@
 -- `start` meets its contract. The invariant: the times of the processors below p are stored.
-use Prim.Native.Nat.{◌-◌, ◌≤◌}
 use Rattle.call_sheet.specs.Says.{time_at, Timed}
 use Rattle.call_sheet.proofs.start.Given as goal
 
 abbrev pub invariant-loop-p : goal.invariant-loop-p
-invariant-loop-p l = (l.p ≤ l.processors) × Timed (time_at l.durations) l.initial.times l.times l.p
-
-abbrev pub decreases-loop-p : goal.decreases-loop-p
-decreases-loop-p l = l.processors - l.p
+invariant-loop-p l = Timed (time_at l.durations) l.initial.times l.times l.p

@@ -6,7 +6,7 @@ use Rattle.call_skipped.proofs.none_chosen.Goals as goal
 pub returns : goal.returns
 returns c =
     record {
-      number_is = refl;
+      number_is = c.from.ensures;
       line_is = refl;
       set_is = gaps_none c.empty.result.words (λ i l. c.empty.ensures i);
     }

@@ -4,25 +4,21 @@ use mathlib.Core.Path.{sym, ◌∙◌}
 use Rattle.paper_nests.specs.Stored.{dep_in, nest_in}
 use Rattle.paper_nests.proofs.Deps.{valid_is}
 use Rattle.paper_nests.proofs.Flags.{flag_is_do}
-use Rattle.paper_nests.proofs.Stored.{counted_points}
 use Rattle.call_skipped.proofs.OneEnd.{no_one_end, one_end_set}
 use Rattle.call_skipped.proofs.with_end_of.Goals as goal
 
-pub slice_bounds-points-end : goal.slice_bounds-points-end
-slice_bounds-points-end c = counted_points c.args.nest c.requires.counted
-
-pub returns-then-goes_on : goal.returns-then-goes_on
-returns-then-goes_on c =
+pub returns-then-not-goes_on : goal.returns-then-not-goes_on
+returns-then-not-goes_on c =
     let n = nest_in c.args.nest in
     let v = valid_is n c.requires.nest_value in
-    one_end_set n.points n.flagged (dep_in c.args.e) (flag_is_do n.points n.flagged v.all_flags)
-    c.ends_of-ends.result c.set_of-flagged.result.words c.with_one_end.result.words v.shape v.few_points
-    c.ends_of-ends.ensures c.set_of-flagged.ensures (sym c.goes_on.ensures ∙ c.if-goes_on.true) c.with_one_end.ensures
+    no_one_end n.points n.flagged (dep_in c.args.e) (flag_is_do n.points n.flagged v.all_flags)
+    c.empty.result.words v.few_points (sym c.goes_on.ensures ∙ c.if-not-goes_on.true)
+    c.empty.ensures
 
 pub returns : goal.returns
 returns c =
     let n = nest_in c.args.nest in
     let v = valid_is n c.requires.nest_value in
-    no_one_end n.points n.flagged (dep_in c.args.e) (flag_is_do n.points n.flagged v.all_flags)
-    c.empty.result.words v.few_points (sym c.goes_on.ensures ∙ c.if-goes_on.false)
-    c.empty.ensures
+    one_end_set n.points n.flagged (dep_in c.args.e) (flag_is_do n.points n.flagged v.all_flags)
+    c.ends_of-ends.result c.set_of-flagged.result.words c.with_one_end.result.words v.shape v.few_points
+    (rw c.points.ensures at c.ends_of-ends.ensures) c.set_of-flagged.ensures (sym c.goes_on.ensures ∙ c.if-not-goes_on.false) c.with_one_end.ensures

@@ -1,13 +1,9 @@
 -- `write_cuts` meets its contract: the lines of the dependences before number i are written, and the rest is left
 -- (`CutLines`).
-use Prim.Native.Nat.{◌-◌}
 use Rattle.paper_nests.specs.Stored.{nest_in}
 use Rattle.paper_placements.specs.Words.{gaps_in}
 use Rattle.call_slips.proofs.CutLines.{CutLines}
 use Rattle.call_slips.proofs.write_cuts.Given as goal
 
-abbrev pub invariant-loop-i : goal.invariant-loop-i
-invariant-loop-i l = CutLines (nest_in l.nest) (gaps_in l.placement.words) l.initial.out l.out l.at l.i
-
-abbrev pub decreases-loop-i : goal.decreases-loop-i
-decreases-loop-i l = l.many - l.i
+abbrev pub invariant-loop-e : goal.invariant-loop-e
+invariant-loop-e l = CutLines (nest_in l.fn.nest) (gaps_in l.placement.words) l.initial.out l.out l.at l.e-index

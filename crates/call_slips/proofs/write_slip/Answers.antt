@@ -7,7 +7,6 @@ use borrow.Author.Rules.{rules}
 use borrow.Rule.Slice.PartMut.{put_mid}
 use Rattle.paper_nests.specs.Stored.{nest_in}
 use Rattle.paper_nests.proofs.Deps.{valid_is}
-use Rattle.paper_nests.proofs.Stored.{counted_points}
 use Rattle.paper_lines.proofs.Parts.{Partly}
 use Rattle.paper_placements.specs.Placements.{uncut}
 use Rattle.paper_placements.specs.Words.{gaps_in}
@@ -24,9 +23,6 @@ pub write_first-at-requires : goal.write_first-at-requires
 write_first-at-requires c =
     let n = nest_in c.args.nest in
     let gs = gaps_in c.args.placement.words in record { first_bound = omega (arith, c.uncut-first.ensures, uncut_most n gs c.requires.nest_value); first_in_bounds = omega (arith, slip_parts n gs, c.requires.words_in_bounds) }
-
-pub slice_bounds-points-end : goal.slice_bounds-points-end
-slice_bounds-points-end c = counted_points c.args.nest c.requires.counted
 
 pub slice_bounds-write_counts-end : goal.slice_bounds-write_counts-end
 slice_bounds-write_counts-end c = c.requires.counted.count_is

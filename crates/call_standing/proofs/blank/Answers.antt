@@ -8,7 +8,7 @@ pub returns : goal.returns
 unfolding copies
 returns c =
     record {
-      number_is = refl;
+      number_is = c.from.ensures;
       line_is = refl;
       no_gaps = gaps_none _ (λ i l. c.empty.ensures i);
       no_counts = copies_at 256 0;

@@ -2,6 +2,7 @@ use native.Mathlib.Omega.{arith}
 use Rattle.laws.specs.Entries.{at}
 use Rattle.call_textbook.proofs.Cutting.{counting_start, counting_cut, counting_pass, counting_done}
 use Rattle.call_textbook.proofs.count_cuts.Goals as goal
+use Rattle.call_textbook.proofs.count_cuts.Goals.{then-last-latest, else-last-latest}
 
 pub loop-p-init : goal.loop-p-init
 loop-p-init c =
@@ -10,11 +11,14 @@ loop-p-init c =
 pub overflow_add-cuts : goal.overflow_add-cuts
 overflow_add-cuts c = omega (arith, c.loop-p.invariant.few)
 
-pub loop-p-preserved-then-last-latest : goal.loop-p-preserved-then-last-latest
-loop-p-preserved-then-last-latest c = counting_cut c.loop-p.invariant (omega arith) (omega arith)
-
 pub loop-p-preserved : goal.loop-p-preserved
-loop-p-preserved c = counting_pass c.loop-p.invariant (omega arith) (omega arith)
+loop-p-preserved c =
+    elim c.if-last-latest.branch [
+      | then-last-latest w ↦
+          rw (w.cuts-is, w.last-is) (counting_cut c.loop-p.invariant (omega arith) (omega arith))
+      | else-last-latest w ↦
+          rw (w.cuts-is, w.last-is) (counting_pass c.loop-p.invariant (omega arith) (omega arith))
+    ]
 
 pub returns : goal.returns
 returns c = counting_done c.loop-p.invariant (omega arith)

@@ -1,5 +1,4 @@
 -- `first_barrier` meets its contract. The invariant: the best so far goes on to the best of all (`Choosing`).
-use Prim.Native.Nat.{suc, ◌-◌}
 use Rattle.laws.specs.Entries.{at}
 use Rattle.paper_placements.specs.Words.{gaps_in}
 use Rattle.paper_placements.specs.Placements.{is_free}
@@ -10,6 +9,3 @@ use Rattle.call_textbook.proofs.first_barrier.Given as goal
 abbrev pub invariant-loop-g : goal.invariant-loop-g
 invariant-loop-g l =
     Choosing (cuts_behind (at l.latest) l.m) (is_free (gaps_in l.barred.words)) l.m l.best l.least l.g
-
-abbrev pub decreases-loop-g : goal.decreases-loop-g
-decreases-loop-g l = suc l.m - l.g

@@ -1,10 +1,6 @@
 -- `latest_starts` meets its contract: one dependence after the other is entered (`Collecting`).
-use Prim.Native.Nat.{◌-◌}
 use Rattle.call_textbook.proofs.Tables.{Collecting}
 use Rattle.call_textbook.proofs.latest_starts.Given as goal
 
-abbrev pub invariant-loop-i : goal.invariant-loop-i
-invariant-loop-i l = Collecting l.free l.m l.nest.many l.nest.deps l.i l.latest
-
-abbrev pub decreases-loop-i : goal.decreases-loop-i
-decreases-loop-i l = l.many - l.i
+abbrev pub invariant-loop-e : goal.invariant-loop-e
+invariant-loop-e l = Collecting l.free l.m l.fn.nest.many l.fn.nest.deps l.e-index l.latest

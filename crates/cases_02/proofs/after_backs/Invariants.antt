@@ -1,10 +1,6 @@
--- `after_backs` meets its contract: each take-back's desk is made by calls. The measure is how many are left.
-use Prim.Native.Nat.{◌-◌}
+-- `after_backs` meets its contract: each take-back's desk is made by calls.
 use Rattle.desk.specs.Desks.{IsMade}
 use Rattle.cases_02.proofs.after_backs.Given as goal
 
-abbrev pub invariant-loop-i : goal.invariant-loop-i
-invariant-loop-i l = IsMade l.d
-
-abbrev pub decreases-loop-i : goal.decreases-loop-i
-decreases-loop-i l = l.many - l.i
+abbrev pub invariant-loop : goal.invariant-loop
+invariant-loop l = IsMade l.d

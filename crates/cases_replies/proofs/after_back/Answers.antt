@@ -3,4 +3,4 @@ use Rattle.call_moves.proofs.Made.{made_back}
 use Rattle.cases_replies.proofs.after_back.Goals as goal
 
 pub returns : goal.returns
-returns c = made_back c.args.desk c.take_back-moved.result c.requires c.take_back-moved.ensures
+returns c = made_back c.args.desk c.take_back.result c.requires c.take_back.ensures

@@ -5,4 +5,4 @@ use Rattle.cases_replies.proofs.after_lift.Goals as goal
 pub returns : goal.returns
 returns c =
     let a = c.args in
-    made_lift a.desk a.gap c.lift_gap-moved.result c.requires c.lift_gap-moved.ensures
+    made_lift a.desk a.gap c.lift_gap.result c.requires c.lift_gap.ensures

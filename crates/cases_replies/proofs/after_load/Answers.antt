@@ -5,4 +5,4 @@ use Rattle.cases_replies.proofs.after_load.Goals as goal
 pub returns : goal.returns
 returns c =
     let a = c.args in
-    made_load a.desk a.text.now c.load_nest-reply.result c.requires c.load_nest-reply.ensures
+    made_load a.desk a.text.now c.load_nest.result c.requires c.load_nest.ensures

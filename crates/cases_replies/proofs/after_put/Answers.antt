@@ -5,4 +5,4 @@ use Rattle.cases_replies.proofs.after_put.Goals as goal
 pub returns : goal.returns
 returns c =
     let a = c.args in
-    made_put a.desk a.gap c.put_gap-moved.result c.requires c.put_gap-moved.ensures
+    made_put a.desk a.gap c.put_gap.result c.requires c.put_gap.ensures

@@ -2,12 +2,12 @@
 use Rattle.desk.proofs.Made.{made_empty, made_load, made_plan}
 use Rattle.cases_replies.proofs.planned.Goals as goal
 
-pub plan_key-reply-requires : goal.plan_key-reply-requires
-plan_key-reply-requires c =
-    made_load c.empty-empty.result _ c.load_nest-loaded.result (made_empty c.empty-empty.result c.empty-empty.ensures) c.load_nest-loaded.ensures
+pub plan_key-requires : goal.plan_key-requires
+plan_key-requires c =
+    made_load c.empty.result _ c.load_nest-loaded.result (made_empty c.empty.result c.empty.ensures) c.load_nest-loaded.ensures
 
 pub returns : goal.returns
 returns c =
-    made_plan c.load_nest-loaded.result.desk c.plan_key-reply.result
-    (made_load c.empty-empty.result _ c.load_nest-loaded.result (made_empty c.empty-empty.result c.empty-empty.ensures) c.load_nest-loaded.ensures)
-    c.plan_key-reply.ensures
+    made_plan c.load_nest-loaded.result.desk c.plan_key.result
+    (made_load c.empty.result _ c.load_nest-loaded.result (made_empty c.empty.result c.empty.ensures) c.load_nest-loaded.ensures)
+    c.plan_key.ensures

@@ -1,39 +1,34 @@
 -- `judge` meets its contract: the verdict follows from what the uncut test and the comparison answer (proofs/Judged).
-use mathlib.Core.Path.{refl, sym, ◌∙◌, ap}
+use mathlib.Core.Path.{◌≡◌, refl, sym}
+use Prim.Native.Nat.{suc, ◌-◌}
+use native.Mathlib.Omega.{arith}
 use Rattle.paper_nests.specs.Stored.{nest_in}
-use Rattle.paper_nests.proofs.Stored.{counted_points}
 use Rattle.paper_nests.proofs.Deps.{valid_is}
-use Rattle.paper_placements.specs.Answers.{difference_in}
 use Rattle.paper_placements.specs.Words.{gaps_in}
 use Rattle.desk.proofs.Judged.{uncut_is, dearer_is, best_is}
 use Rattle.desk.proofs.judge.Goals as goal
 
-pub returns-then-first-ne0 : goal.returns-then-first-ne0
-returns-then-first-ne0 c =
-    let a = c.args in
-    uncut_is (nest_in a.nest) (gaps_in a.key.words) (gaps_in a.placement.words) c.uncut-first.result c.uncut-first.ensures
-    c.if-first-ne0.true
+pub returns-in-Some : goal.returns-in-Some
+returns-in-Some c =
+    let first = c.in-Some.first in
+    let back : suc first - 1 ≡ first = omega arith in
+    rw
+    back at
+    (uncut_is (nest_in c.args.nest) (gaps_in c.args.key.words) (gaps_in c.args.placement.words)
+    (suc first) c.in-Some.ensures (λ z. omega (arith, z)))
 
-pub slice_bounds-points-end : goal.slice_bounds-points-end
-slice_bounds-points-end c = counted_points c.args.nest c.requires.counted
-
-pub compare-compared-requires : goal.compare-compared-requires
-compare-compared-requires c =
+pub compare-requires : goal.compare-requires
+compare-requires c =
     let v = valid_is (nest_in c.args.nest) c.requires.nest_value in record { points_value = (v.shape, v.few_points); words_value = c.requires.words_value; words_value_2 = c.requires.words_value_2 }
 
-pub returns-in-Differ : goal.returns-in-Differ
-returns-in-Differ c =
-    let a = c.args in
-    let n = nest_in a.nest in
-    let difference = c.compare-compared.ensures n refl in
-    dearer_is n (gaps_in a.key.words) (gaps_in a.placement.words) _ _ _
-    (sym c.uncut-first.ensures ∙ c.if-first-ne0.false)
-    (ap difference_in (sym c.in-Differ.is) ∙ difference)
+pub returns-in-Some-compare : goal.returns-in-Some-compare
+returns-in-Some-compare c =
+    let n = nest_in c.args.nest in
+    dearer_is n (gaps_in c.args.key.words) (gaps_in c.args.placement.words) _ _ _
+    (sym c.in_default.ensures) (c.in-Some-compare.ensures n refl)
 
-pub returns-in-Same : goal.returns-in-Same
-returns-in-Same c =
-    let a = c.args in
-    let n = nest_in a.nest in
-    let difference = c.compare-compared.ensures n refl in
-    best_is n (gaps_in a.key.words) (gaps_in a.placement.words) (sym c.uncut-first.ensures ∙ c.if-first-ne0.false)
-    (ap difference_in (sym c.in-Same.is) ∙ difference)
+pub returns-in-None : goal.returns-in-None
+returns-in-None c =
+    let n = nest_in c.args.nest in
+    best_is n (gaps_in c.args.key.words) (gaps_in c.args.placement.words)
+    (sym c.in_default.ensures) (c.in-None.ensures n refl)

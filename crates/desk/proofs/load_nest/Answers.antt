@@ -3,13 +3,10 @@ use mathlib.Core.Path.{refl}
 use Rattle.desk.proofs.Loads.{load_refused, load_accepted}
 use Rattle.desk.proofs.load_nest.Goals as goal
 
-pub returns-then-number-ne0 : goal.returns-then-number-ne0
-returns-then-number-ne0 c =
-    let a = c.args in
-    load_refused a.text.now c.read_nest-reading.result c.read_nest-reading.ensures a.desk _ c.if-number-ne0.true refl refl refl
+pub returns-in-Err : goal.returns-in-Err
+returns-in-Err c = load_refused c.args.text.now c.in-Err.fault c.in-Err.ensures c.args.desk _ c.from.ensures refl refl
 
-pub returns : goal.returns
-returns c =
-    let a = c.args in
-    load_accepted a.text.now c.read_nest-reading.result c.read_nest-reading.ensures a.desk _ c.if-number-ne0.false refl refl refl refl refl
-    c.empty.ensures c.empty-2.ensures c.empty-3.ensures
+pub returns-in-Ok : goal.returns-in-Ok
+returns-in-Ok c =
+    load_accepted c.args.text.now c.in-Ok.nest c.in-Ok.ensures c.args.desk _ refl refl refl refl refl
+    c.empty.ensures c.empty-in-Ok.ensures c.empty-in-Ok-2.ensures

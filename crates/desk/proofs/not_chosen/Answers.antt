@@ -4,9 +4,9 @@ use Rattle.paper_placements.proofs.Words.{gaps_none}
 use Rattle.desk.proofs.not_chosen.Goals as goal
 
 pub returns : goal.returns
-returns c =
+returns g c =
     record {
-      number_is = refl;
+      number_is = c.number.ensures;
       line_is = refl;
       set_is = gaps_none c.empty.result.words (λ i l. c.empty.ensures i);
     }

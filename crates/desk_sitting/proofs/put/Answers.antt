@@ -2,12 +2,10 @@
 use Rattle.desk_sitting.proofs.Outcome.{put_says}
 use Rattle.desk_sitting.proofs.put.Goals as goal
 
-pub recounted-r-requires : goal.recounted-r-requires
-recounted-r-requires c = record { ready = c.requires.ready; g_value = c.requires.g_value }
-
 pub returns : goal.returns
 returns c =
+    let r = c.recounted in
     put_says c.requires.ready c.requires.g_value
-    (record { placement = c.put-r.result; counts = c.recounted-r.result.counts; uncut = c.recounted-r.result.uncut })
-    c.put-r.ensures
-    (record { counts_are = c.recounted-r.ensures.counts_are; uncut_is = c.recounted-r.ensures.uncut_is })
+    (record { placement = c.put.result; counts = r.result.counts; uncut = r.result.uncut })
+    c.put.ensures
+    (record { counts_are = r.ensures.counts_are; uncut_is = r.ensures.uncut_is })

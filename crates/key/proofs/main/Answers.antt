@@ -7,10 +7,10 @@ use Rattle.key.proofs.Reading.{read_within}
 use Rattle.key.proofs.main.Goals as goal
 
 pub slice_bounds-input-end : goal.slice_bounds-input-end
-slice_bounds-input-end c = read_within _ c.read_input.result c.read_input.new.input _ c.in-Whole.is c.read_input.ensures
+slice_bounds-input-end c = read_within _ c.read_input.result c.read_input.new.input _ c.in-Some.is c.read_input.ensures
 
 pub slice_bounds-answer-end : goal.slice_bounds-answer-end
 slice_bounds-answer-end c =
-    let within : c.in-Whole.read ≤ length c.read_input.new.input =
-    read_within _ c.read_input.result c.read_input.new.input _ c.in-Whole.is c.read_input.ensures in
-    sym (length-take-le c.in-Whole.read c.read_input.new.input within)
+    let within : c.in-Some.read ≤ length c.read_input.new.input =
+    read_within _ c.read_input.result c.read_input.new.input _ c.in-Some.is c.read_input.ensures in
+    sym (length-take-le c.in-Some.read c.read_input.new.input within)

@@ -6,8 +6,8 @@ use Rattle.key.specs.Inputs.{INTERRUPTS}
 use Rattle.key.proofs.Reading.{Reading}
 use Rattle.key.proofs.read_input.Given as goal
 
-abbrev pub invariant-loop-at : goal.invariant-loop-at
-invariant-loop-at l = Reading l.initial.input l.reads l.at l.input
+abbrev pub invariant-loop-reads : goal.invariant-loop-reads
+invariant-loop-reads l = Reading l.initial.input l.reads l.input
 
-abbrev pub decreases-loop-at : goal.decreases-loop-at
-decreases-loop-at l = (length l.input - l.at) + (INTERRUPTS - l.reads.interrupts)
+abbrev pub decreases-loop-reads : goal.decreases-loop-reads
+decreases-loop-reads l = (length l.input - l.reads.bytes) + (INTERRUPTS - l.reads.interrupts)

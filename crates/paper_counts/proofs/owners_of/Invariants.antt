@@ -1,11 +1,6 @@
 -- `owners_of` meets its contract: each turn notes the loop of one more gap (`Walked`).
-use Prim.Native.Nat.{◌-◌}
-use lib.ListN.{length}
 use Rattle.paper_counts.proofs.Walk.{Walked}
 use Rattle.paper_counts.proofs.owners_of.Given as goal
 
 abbrev pub invariant-loop-g : goal.invariant-loop-g
 invariant-loop-g l = Walked l.points l.g l.around l.owners
-
-abbrev pub decreases-loop-g : goal.decreases-loop-g
-decreases-loop-g l = length l.points - l.g

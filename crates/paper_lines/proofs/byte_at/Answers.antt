@@ -7,13 +7,11 @@ use Rattle.paper_lines.proofs.byte_at.Goals as goal
 pub returns-then-i-line : goal.returns-then-i-line
 returns-then-i-line c = frame_past c.args.line.now c.args.i c.if-i-line.true
 
-pub value-requires : goal.value-requires
-value-requires c =
-    record { b_value = hex_at c.args.line.now (2 * c.args.i) c.requires.line_value (omega arith); are_values = c.requires.are_values }
+pub value-requires-clause-b_value : goal.value-requires-clause-b_value
+value-requires-clause-b_value c = hex_at c.args.line.now (2 * c.args.i) c.requires.line_value (omega arith)
 
-pub value-requires-2 : goal.value-requires-2
-value-requires-2 c =
-    record { b_value = hex_at c.args.line.now (2 * c.args.i + 1) c.requires.line_value (omega arith); are_values = c.requires.are_values }
+pub value-requires-2-clause-b_value : goal.value-requires-2-clause-b_value
+value-requires-2-clause-b_value c = hex_at c.args.line.now (2 * c.args.i + 1) c.requires.line_value (omega arith)
 
 pub returns : goal.returns
 returns c =

@@ -1,10 +1,6 @@
 -- `digit_values` meets its contract. The invariant: the values passed are in the table (`Filling`).
-use Prim.Native.Nat.{◌-◌, ◌≤◌}
 use Rattle.paper_lines.proofs.Values.{Filling}
 use Rattle.paper_lines.proofs.digit_values.Given as goal
 
 abbrev pub invariant-loop-v : goal.invariant-loop-v
-invariant-loop-v l = (Filling l.values l.v) × (l.v ≤ 16)
-
-abbrev pub decreases-loop-v : goal.decreases-loop-v
-decreases-loop-v l = 16 - l.v
+invariant-loop-v l = Filling l.values l.v

@@ -1,27 +1,25 @@
-use mathlib.Core.Path.{◌≡◌, sym, ◌∙◌}
-use mathlib.Core.Bool.{true, false}
-use native.Mathlib.Omega.{arith}
-use lib.ListN.{get_or}
+-- `digits_from` meets its contract: what the chain counts are the digits from the known ones on.
+use mathlib.Core.Path.{◌≡◌, ap, ◌∙◌}
+use mathlib.Core.List.{List}
+use Prim.Native.Nat.{ℕ, ◌+◌}
+use lib.ListN.{length, drop}
+use borrow.Author.Rules.{rules, part_to_end}
+use borrow.Author.Tests.{tests}
+use Rattle.std.specs.List.{take_while}
+use Rattle.std.proofs.lemmas.Iterator.{YieldsList-from_slice}
+use Rattle.std.proofs.lemmas.Iterator.Consumers.{count_from_yields_List}
+use Rattle.std.proofs.lemmas.Iterator.Search.{YieldsList-from_take_while}
 use Rattle.paper_lines.specs.Lines.{is_hex}
-use Rattle.paper_lines.proofs.Reading.{end_on, end_here, end_past}
+use Rattle.paper_lines.proofs.Reading.{digits_while}
 use Rattle.paper_lines.proofs.digits_from.Goals as goal
-
-pub is_hex-requires : goal.is_hex-requires
-is_hex-requires c = c.requires.are_values
-
-pub loop-i-preserved : goal.loop-i-preserved
-loop-i-preserved c =
-    let s = c.args.text.now in
-    let is : is_hex (get_or s c.loop-i.i 0) ≡ true = sym c.is_hex.ensures ∙ c.if-is_hex.true in
-    (omega arith, end_on s c.loop-i.i c.loop-i-test.true is ∙ c.loop-i.invariant.1)
-
-pub returns-else-is_hex : goal.returns-else-is_hex
-returns-else-is_hex c =
-    let s = c.args.text.now in
-    let is : is_hex (get_or s c.loop-i.i 0) ≡ false = sym c.is_hex.ensures ∙ c.if-is_hex.false in
-    omega (arith, end_here s c.loop-i.i c.loop-i-test.true is)
 
 pub returns : goal.returns
 returns c =
-    let s = c.args.text.now in
-    omega (arith, end_past s c.loop-i.i c.loop-i-test.false)
+    let rest : List ℕ = drop c.args.known c.args.text.now in
+    let whole : c.take_while.result.iter.rest.now ≡ rest = cc (part_to_end c.args.text.now c.args.known) in
+    let e : c.count.result ≡ length (take_while is_hex rest) =
+    count_from_yields_List c.take_while.result c.count.result c.count.ensures.ran
+    (YieldsList-from_take_while _ is_hex (YieldsList-from_slice rest whole) c.take_while.ensures.closure
+    c.take_while.ensures.done
+    (λ x b q k. search (rules, tests))) in
+    ap (λ (n : ℕ). c.args.known + n) (e ∙ ap length (digits_while rest))

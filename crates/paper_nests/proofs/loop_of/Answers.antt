@@ -1,40 +1,29 @@
 use native.Mathlib.Omega.{arith}
-use Rattle.paper_nests.proofs.Backward.{back_start, back_found, back_ends}
+use Rattle.paper_nests.proofs.Backward.{back_found, back_ends}
 use Rattle.paper_nests.proofs.Backward.{back_over_do, back_over_end, back_over_other}
 use Rattle.paper_nests.proofs.loop_of.Goals as goal
 
-pub loop-i-init : goal.loop-i-init
-loop-i-init c = back_start c.args.points.now c.args.g
+pub returns-in-1 : goal.returns-in-1
+returns-in-1 c =
+    let r = c.requires in
+    back_found _ r.points_value _ r.g_nonzero.0 r.g_nonzero.1 _ _ c.loop-i-test.true c.loop-i.invariant c.in-1.is c.if-depth-eq0.true
 
-pub bounds-points-i : goal.bounds-points-i
-bounds-points-i c = omega (arith, c.loop-i.invariant.low)
+pub loop-i-preserved-in-1-2 : goal.loop-i-preserved-in-1-2
+loop-i-preserved-in-1-2 c =
+    let r = c.requires in
+    back_over_do _ r.points_value _ r.g_nonzero.0 r.g_nonzero.1 _ _ c.loop-i-test.true c.loop-i.invariant c.in-1.is c.if-depth-eq0.false
 
-pub returns-then-depth-eq0 : goal.returns-then-depth-eq0
-returns-then-depth-eq0 c =
-    let a = c.args in
-    back_found a.points.now c.requires.points_value a.g c.requires.g_nonzero.0 c.requires.g_nonzero.1 c.loop-i.depth c.loop-i.i c.loop-i-test.true c.loop-i.invariant
-    c.if-p-eq-DO.true c.if-depth-eq0.true
-
-pub loop-i-preserved-then-p-eq-DO : goal.loop-i-preserved-then-p-eq-DO
-loop-i-preserved-then-p-eq-DO c =
-    let a = c.args in
-    back_over_do a.points.now c.requires.points_value a.g c.requires.g_nonzero.0 c.requires.g_nonzero.1 c.loop-i.depth c.loop-i.i c.loop-i-test.true c.loop-i.invariant
-    c.if-p-eq-DO.true c.if-depth-eq0.false
-
-pub loop-i-preserved-then-p-eq-ENDDO : goal.loop-i-preserved-then-p-eq-ENDDO
-loop-i-preserved-then-p-eq-ENDDO c =
-    let a = c.args in
-    back_over_end a.points.now c.requires.points_value a.g c.requires.g_nonzero.0 c.requires.g_nonzero.1 c.loop-i.depth c.loop-i.i c.loop-i-test.true c.loop-i.invariant
-    c.if-p-eq-ENDDO.true
+pub loop-i-preserved-in-2 : goal.loop-i-preserved-in-2
+loop-i-preserved-in-2 c =
+    let r = c.requires in
+    back_over_end _ r.points_value _ r.g_nonzero.0 r.g_nonzero.1 _ _ c.loop-i-test.true c.loop-i.invariant c.in-2.is
 
 pub loop-i-preserved : goal.loop-i-preserved
 loop-i-preserved c =
-    let a = c.args in
-    back_over_other a.points.now c.requires.points_value a.g c.requires.g_nonzero.0 c.requires.g_nonzero.1 c.loop-i.depth c.loop-i.i c.loop-i-test.true c.loop-i.invariant
-    c.if-p-eq-DO.false c.if-p-eq-ENDDO.false
+    let r = c.requires in
+    back_over_other _ r.points_value _ r.g_nonzero.0 r.g_nonzero.1 _ _ c.loop-i-test.true c.loop-i.invariant (omega arith) (omega arith)
 
 pub returns : goal.returns
 returns c =
-    let a = c.args in
-    absurd (back_ends a.points.now c.requires.points_value a.g c.requires.g_nonzero.0 c.requires.g_nonzero.1 c.loop-i.depth c.loop-i.i
-    c.loop-i-test.false c.loop-i.invariant)
+    let r = c.requires in
+    absurd (back_ends _ r.points_value _ r.g_nonzero.0 r.g_nonzero.1 _ _ c.loop-i-test.false c.loop-i.invariant)

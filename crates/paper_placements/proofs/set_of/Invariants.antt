@@ -4,6 +4,3 @@ use Rattle.paper_placements.proofs.set_of.Given as goal
 
 abbrev pub invariant-loop-i : goal.invariant-loop-i
 invariant-loop-i l = SetFrom l.all l.count l.i l.set.words
-
-abbrev pub decreases-loop-i : goal.decreases-loop-i
-decreases-loop-i l = l.i

@@ -11,11 +11,11 @@ returns c =
     blank_made
     c.empty-none.result
     c.with_point-open.result
-    c.with_point-closed.result
+    c.with_point.result
     c.empty-none.ensures
     c.with_point-open.ensures
-    c.with_point-closed.ensures in
+    c.with_point.ensures in
     record {
       got_is = ap (got 0 0) made ∙ sym (blank_read [] refl);
-      counted = c.with_point-closed.ensures.counted;
+      counted = c.with_point.ensures.counted;
     }

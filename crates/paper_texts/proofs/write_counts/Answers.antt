@@ -1,12 +1,12 @@
-use mathlib.Core.Path.{◌≡◌}
 use Prim.Native.Nat.{◌+◌, ◌≤◌}
 use native.Mathlib.Omega.{arith}
 use lib.ListN.{length, length-take, length-drop}
 use borrow.Author.Rules.{rules}
-use Rattle.paper_placements.specs.Words.{gaps_in}
-use Rattle.paper_texts.proofs.Counting.{Given, count_begin, count_length, count_within}
+use Rattle.paper_texts.proofs.Counting.{Given, count_begin, count_within}
 use Rattle.paper_texts.proofs.Counting.{count_room, count_skip, count_on, count_done}
+use Rattle.paper_placements.specs.Words.{gaps_in}
 use Rattle.paper_texts.proofs.write_counts.Goals as goal
+use Rattle.paper_texts.proofs.write_counts.Goals.{After-counts_of-counts, In-loop-d, then-points-d-eq-DO, else-points-d-eq-DO}
 
 pub counts_of-counts-requires : goal.counts_of-counts-requires
 counts_of-counts-requires c = record { points_value = c.requires.points_value; words_value = c.requires.words_value }
@@ -16,109 +16,59 @@ loop-d-init c =
     let a = c.args in
     count_begin a.points.now c.counts_of-counts.result a.out.now
 
+given
+    : (c : After-counts_of-counts)
+    → Given c.args.points.now (gaps_in c.args.key.words) c.counts_of-counts.result c.args.out.now
+given c =
+    record { few = c.requires.points_value.1; gaps = c.requires.words_value; counts_are = c.counts_of-counts.ensures; room = c.requires.counts_fit }
+
+within : (c : In-loop-d) → c.loop-d.at ≤ length c.loop-d.out
+within c =
+    let a = c.args in
+    let known : Given a.points.now (gaps_in a.key.words) c.counts_of-counts.result a.out.now = record { few = c.requires.points_value.1; gaps = c.requires.words_value; counts_are = c.counts_of-counts.ensures; room = c.requires.counts_fit } in
+    let low : c.loop-d.at ≤ length a.out.now = count_within a.points.now c.counts_of-counts.result a.out.now c.loop-d.out c.loop-d.at c.loop-d.d
+    c.loop-d.invariant (gaps_in a.key.words) known in
+    omega (arith, low, c.loop-d.auto.out)
+
 pub slice_bounds-put_frame-count : goal.slice_bounds-put_frame-count
-slice_bounds-put_frame-count c =
-    let given : let a = c.args in
-    Given a.points.now (gaps_in a.key.words) c.counts_of-counts.result a.out.now = record { few = c.requires.points_value.1; gaps = c.requires.words_value; counts_are = c.counts_of-counts.ensures; room = c.requires.counts_fit } in
-    let inside : let o = c.args.out.now in (length c.loop-d.out ≡ length o) × (c.loop-d.at ≤ length o) = let a = c.args in
-    let t = c.counts_of-counts.result in
-    let gs = gaps_in a.key.words in (
-      count_length a.points.now t a.out.now c.loop-d.out c.loop-d.at c.loop-d.d c.loop-d.invariant gs (given),
-      count_within a.points.now t a.out.now c.loop-d.out c.loop-d.at c.loop-d.d c.loop-d.invariant gs (given),
-    ) in
-    omega (arith, (inside).0, (inside).1)
+slice_bounds-put_frame-count c = within (goal.at.slice_bounds-put_frame-count c).In-loop-d
 
 pub slice_bounds-put_frame-start : goal.slice_bounds-put_frame-start
 slice_bounds-put_frame-start c =
-    let given : let a = c.args in
-    Given a.points.now (gaps_in a.key.words) c.counts_of-counts.result a.out.now = record { few = c.requires.points_value.1; gaps = c.requires.words_value; counts_are = c.counts_of-counts.ensures; room = c.requires.counts_fit } in
-    let inside : let o = c.args.out.now in (length c.loop-d.out ≡ length o) × (c.loop-d.at ≤ length o) = let a = c.args in
-    let t = c.counts_of-counts.result in
-    let gs = gaps_in a.key.words in (
-      count_length a.points.now t a.out.now c.loop-d.out c.loop-d.at c.loop-d.d c.loop-d.invariant gs (given),
-      count_within a.points.now t a.out.now c.loop-d.out c.loop-d.at c.loop-d.d c.loop-d.invariant gs (given),
-    ) in
-    let z = inside in
-    search rules
-
-pub slice_bounds-put_frame-end : goal.slice_bounds-put_frame-end
-slice_bounds-put_frame-end c =
-    let given : let a = c.args in
-    Given a.points.now (gaps_in a.key.words) c.counts_of-counts.result a.out.now = record { few = c.requires.points_value.1; gaps = c.requires.words_value; counts_are = c.counts_of-counts.ensures; room = c.requires.counts_fit } in
-    let inside : let o = c.args.out.now in (length c.loop-d.out ≡ length o) × (c.loop-d.at ≤ length o) = let a = c.args in
-    let t = c.counts_of-counts.result in
-    let gs = gaps_in a.key.words in (
-      count_length a.points.now t a.out.now c.loop-d.out c.loop-d.at c.loop-d.d c.loop-d.invariant gs (given),
-      count_within a.points.now t a.out.now c.loop-d.out c.loop-d.at c.loop-d.d c.loop-d.invariant gs (given),
-    ) in
-    let z = inside in
+    let low = within (goal.at.slice_bounds-put_frame-start c).In-loop-d in
     search rules
 
 pub put_frame-at-requires : goal.put_frame-at-requires
 put_frame-at-requires c =
-    let given : let a = c.args in
-    Given a.points.now (gaps_in a.key.words) c.counts_of-counts.result a.out.now = record { few = c.requires.points_value.1; gaps = c.requires.words_value; counts_are = c.counts_of-counts.ensures; room = c.requires.counts_fit } in
-    let inside : let o = c.args.out.now in (length c.loop-d.out ≡ length o) × (c.loop-d.at ≤ length o) = let a = c.args in
-    let t = c.counts_of-counts.result in
-    let gs = gaps_in a.key.words in (
-      count_length a.points.now t a.out.now c.loop-d.out c.loop-d.at c.loop-d.d c.loop-d.invariant gs (given),
-      count_within a.points.now t a.out.now c.loop-d.out c.loop-d.at c.loop-d.d c.loop-d.invariant gs (given),
-    ) in
-    let room : c.loop-d.at + 7 ≤ length c.args.out.now = let a = c.args in
-    count_room a.points.now c.counts_of-counts.result a.out.now c.loop-d.out c.loop-d.at c.loop-d.d c.loop-d.invariant
-    (gaps_in a.key.words) (given) c.loop-d-test.true c.if-points-d-eq-DO.true in
-    simp (length-take, length-drop) (omega (arith, (inside).0, room))
+    let a = c.args in
+    let room : c.loop-d.at + 7 ≤ length a.out.now = count_room a.points.now c.counts_of-counts.result a.out.now c.loop-d.out c.loop-d.at c.loop-d.d
+    c.loop-d.invariant (gaps_in a.key.words) (given (goal.at.put_frame-at-requires c).After-counts_of-counts)
+    c.loop-d-test.true c.if-points-d-eq-DO.true in
+    simp (length-take, length-drop) (omega (arith, c.loop-d.auto.out, room))
 
 pub overflow_add-at : goal.overflow_add-at
 overflow_add-at c =
-    let given : let a = c.args in
-    Given a.points.now (gaps_in a.key.words) c.counts_of-counts.result a.out.now = record { few = c.requires.points_value.1; gaps = c.requires.words_value; counts_are = c.counts_of-counts.ensures; room = c.requires.counts_fit } in
-    let room : c.loop-d.at + 7 ≤ length c.args.out.now = let a = c.args in
-    count_room a.points.now c.counts_of-counts.result a.out.now c.loop-d.out c.loop-d.at c.loop-d.d c.loop-d.invariant
-    (gaps_in a.key.words) (given) c.loop-d-test.true c.if-points-d-eq-DO.true in
-    let y : c.put_frame-at.result ≡ 7 = c.put_frame-at.ensures.value in
-    omega (arith, room)
-
-pub overflow_add-d : goal.overflow_add-d
-overflow_add-d c = omega (arith, c.loop-d-test.true)
-
-pub loop-d-smaller-then-points-d-eq-DO : goal.loop-d-smaller-then-points-d-eq-DO
-loop-d-smaller-then-points-d-eq-DO c = omega (arith, c.loop-d-test.true)
-
-pub loop-d-preserved-then-points-d-eq-DO : goal.loop-d-preserved-then-points-d-eq-DO
-loop-d-preserved-then-points-d-eq-DO c =
     let a = c.args in
-    count_on a.points.now c.counts_of-counts.result a.out.now c.loop-d.out c.loop-d.at c.loop-d.d c.loop-d.invariant
-    c.put_frame-at.new.out c.put_frame-at.result c.loop-d-test.true c.if-points-d-eq-DO.true c.put_frame-at.ensures.value c.put_frame-at.ensures.out_after
-
-pub overflow_add-d-else-points-d-eq-DO : goal.overflow_add-d-else-points-d-eq-DO
-overflow_add-d-else-points-d-eq-DO c = omega (arith, c.loop-d-test.true)
-
-pub loop-d-smaller : goal.loop-d-smaller
-loop-d-smaller c = omega (arith, c.loop-d-test.true)
+    let room : c.loop-d.at + 7 ≤ length a.out.now = count_room a.points.now c.counts_of-counts.result a.out.now c.loop-d.out c.loop-d.at c.loop-d.d
+    c.loop-d.invariant (gaps_in a.key.words) (given (goal.at.overflow_add-at c).After-counts_of-counts)
+    c.loop-d-test.true c.if-points-d-eq-DO.true in
+    omega (arith, room, c.put_frame-at.ensures.value)
 
 pub loop-d-preserved : goal.loop-d-preserved
 loop-d-preserved c =
     let a = c.args in
-    count_skip a.points.now c.counts_of-counts.result a.out.now c.loop-d.out c.loop-d.at c.loop-d.d c.loop-d.invariant
-    c.loop-d-test.true c.if-points-d-eq-DO.false
-
-pub shape_of-out : goal.shape_of-out
-shape_of-out c =
-    let given : let a = c.args in
-    Given a.points.now (gaps_in a.key.words) c.counts_of-counts.result a.out.now = record { few = c.requires.points_value.1; gaps = c.requires.words_value; counts_are = c.counts_of-counts.ensures; room = c.requires.counts_fit } in
-    let inside : let o = c.args.out.now in (length c.loop-d.out ≡ length o) × (c.loop-d.at ≤ length o) = let a = c.args in
     let t = c.counts_of-counts.result in
-    let gs = gaps_in a.key.words in (
-      count_length a.points.now t a.out.now c.loop-d.out c.loop-d.at c.loop-d.d c.loop-d.invariant gs (given),
-      count_within a.points.now t a.out.now c.loop-d.out c.loop-d.at c.loop-d.d c.loop-d.invariant gs (given),
-    ) in
-    (inside).0
+    elim c.if-points-d-eq-DO.branch [
+      | then-points-d-eq-DO w ↦ rw (w.out-is, w.at-is)
+          (count_on a.points.now t a.out.now c.loop-d.out c.loop-d.at c.loop-d.d c.loop-d.invariant w.put_frame-at.new.out
+          w.put_frame-at.result c.loop-d-test.true w.if-points-d-eq-DO.true w.put_frame-at.ensures.value w.put_frame-at.ensures.out_after)
+      | else-points-d-eq-DO w ↦ rw (w.out-is, w.at-is)
+          (count_skip a.points.now t a.out.now c.loop-d.out c.loop-d.at c.loop-d.d c.loop-d.invariant c.loop-d-test.true
+          w.if-points-d-eq-DO.false)
+    ]
 
 pub returns : goal.returns
 returns c =
-    let given : let a = c.args in
-    Given a.points.now (gaps_in a.key.words) c.counts_of-counts.result a.out.now = record { few = c.requires.points_value.1; gaps = c.requires.words_value; counts_are = c.counts_of-counts.ensures; room = c.requires.counts_fit } in
     let a = c.args in
     count_done a.points.now c.counts_of-counts.result a.out.now c.loop-d.out c.loop-d.at c.loop-d.d c.loop-d.invariant
-    (gaps_in a.key.words) (given) c.loop-d-test.false
+    (gaps_in a.key.words) (given (goal.at.returns c).After-counts_of-counts) c.loop-d-test.false

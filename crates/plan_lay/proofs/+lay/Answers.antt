@@ -1,212 +1,189 @@
 use mathlib.Core.Path.{◌≡◌, refl, ◌∙◌, ap}
 use mathlib.Core.List.{List}
-use Prim.Native.Nat.{ℕ, ◌+◌, ◌-◌, ◌*◌, ◌≤◌, ◌<◌}
+use Prim.Native.Nat.{ℕ, min, ◌-◌, ◌*◌, ◌≤◌}
 use native.Mathlib.Omega.{arith}
 use lib.ListN.{length, set, length-set}
 use Rattle.laws.specs.Entries.{at}
 use Rattle.plan_sweeps.specs.Listed.{row}
-use Rattle.plan_lay.proofs.Calls.{Call, called, picked}
+use Rattle.plan_rows.specs.Made.{Copied}
+use Rattle.plan_lay.proofs.Calls.{called, picked}
 use Rattle.plan_lay.proofs.Sharing.{lowered_kept}
 use Rattle.plan_lay.proofs.Turns.{begin, on_put, on_skip, child_long, child_asked, on_child}
-use Rattle.plan_lay.proofs.Whole.{Lowered, lowered_size, blank, done}
+use Rattle.plan_lay.proofs.Whole.{Lowered, blank, done}
 use Rattle.plan_lay.proofs.+lay.Goals as goal
+
+-- the copied row, lowered at the chosen suffix; what the loops inside leave of it is as long
+lowered
+    : (need copy : List ℕ) {reach : List ℕ} {base d e last m : ℕ}
+    → 256 ≤ length need
+    → length copy ≡ length need
+    → Copied reach base d e copy
+    → m ≡ min (at copy last) e
+    → Lowered reach base d e last (set copy last m)
+lowered need copy {last = last} room sized copied m_is =
+    record { copy = copy; copied = copied; size = omega arith; need_is = ap (λ (v : ℕ). set copy last v) m_is }
+
+still
+    : (need copy now : List ℕ) (last m : ℕ)
+    → 256 ≤ length need
+    → length copy ≡ length need
+    → length now ≡ length (set copy last m)
+    → 256 ≤ length now
+still need copy now last m room sized same = omega (arith, length-set copy last m)
 
 pub overflow_mul-base : goal.overflow_mul-base
 overflow_mul-base t c =
-    let call : Call c.args.points.now c.args.own.now c.args.ends.now c.args.reach.now
-    c.args.limit.now c.args.left.now c.args.choice.now c.args.d c.args.q c.args.h = called (c.requires.charts, (c.requires.lay_room, (c.requires.d_value, (c.requires.has_height, (c.requires.d_lt_q, (c.requires.q_bound, c.requires.choices)))))) in
-    let a = call in omega arith
+    let r = c.requires in
+    let a = called r.charts r.lay_room r.d_value r.has_height r.d_lt_q r.q_bound r.choices in
+    omega arith
 
 pub overflow_add-base : goal.overflow_add-base
 overflow_add-base t c =
-    let call : Call c.args.points.now c.args.own.now c.args.ends.now c.args.reach.now
-    c.args.limit.now c.args.left.now c.args.choice.now c.args.d c.args.q c.args.h = called (c.requires.charts, (c.requires.lay_room, (c.requires.d_value, (c.requires.has_height, (c.requires.d_lt_q, (c.requires.q_bound, c.requires.choices)))))) in
-    let a = call in omega arith
+    let r = c.requires in
+    let a = called r.charts r.lay_room r.d_value r.has_height r.d_lt_q r.q_bound r.choices in
+    omega arith
 
 pub offset_bounds-left-base : goal.offset_bounds-left-base
 offset_bounds-left-base t c =
-    let call : Call c.args.points.now c.args.own.now c.args.ends.now c.args.reach.now
-    c.args.limit.now c.args.left.now c.args.choice.now c.args.d c.args.q c.args.h = called (c.requires.charts, (c.requires.lay_room, (c.requires.d_value, (c.requires.has_height, (c.requires.d_lt_q, (c.requires.q_bound, c.requires.choices)))))) in
-    let a = call in omega arith
+    let r = c.requires in
+    let a = called r.charts r.lay_room r.d_value r.has_height r.d_lt_q r.q_bound r.choices in
+    omega arith
 
 pub bounds-left-base : goal.bounds-left-base
 bounds-left-base t c =
-    let call : Call c.args.points.now c.args.own.now c.args.ends.now c.args.reach.now
-    c.args.limit.now c.args.left.now c.args.choice.now c.args.d c.args.q c.args.h = called (c.requires.charts, (c.requires.lay_room, (c.requires.d_value, (c.requires.has_height, (c.requires.d_lt_q, (c.requires.q_bound, c.requires.choices)))))) in
-    let a = call in omega arith
+    let r = c.requires in
+    let a = called r.charts r.lay_room r.d_value r.has_height r.d_lt_q r.q_bound r.choices in
+    omega arith
 
 pub returns-then-left-base-eq0 : goal.returns-then-left-base-eq0
 returns-then-left-base-eq0 t c =
-    let call : Call c.args.points.now c.args.own.now c.args.ends.now c.args.reach.now
-    c.args.limit.now c.args.left.now c.args.choice.now c.args.d c.args.q c.args.h = called (c.requires.charts, (c.requires.lay_room, (c.requires.d_value, (c.requires.has_height, (c.requires.d_lt_q, (c.requires.q_bound, c.requires.choices)))))) in record { lay_says = blank (call) c.args.key.words c.if-left-base-eq0.true; kept = λ i h. refl }
+    let r = c.requires in
+    let a = called r.charts r.lay_room r.d_value r.has_height r.d_lt_q r.q_bound r.choices in record { lay_says = blank a c.args.key.words c.if-left-base-eq0.true; kept = λ i h. refl }
 
 pub offset_bounds-ends-d : goal.offset_bounds-ends-d
 offset_bounds-ends-d t c =
-    let call : Call c.args.points.now c.args.own.now c.args.ends.now c.args.reach.now
-    c.args.limit.now c.args.left.now c.args.choice.now c.args.d c.args.q c.args.h = called (c.requires.charts, (c.requires.lay_room, (c.requires.d_value, (c.requires.has_height, (c.requires.d_lt_q, (c.requires.q_bound, c.requires.choices)))))) in
-    let a = call in omega arith
+    let r = c.requires in
+    let a = called r.charts r.lay_room r.d_value r.has_height r.d_lt_q r.q_bound r.choices in
+    omega arith
 
 pub bounds-ends-d : goal.bounds-ends-d
 bounds-ends-d t c =
-    let call : Call c.args.points.now c.args.own.now c.args.ends.now c.args.reach.now
-    c.args.limit.now c.args.left.now c.args.choice.now c.args.d c.args.q c.args.h = called (c.requires.charts, (c.requires.lay_room, (c.requires.d_value, (c.requires.has_height, (c.requires.d_lt_q, (c.requires.q_bound, c.requires.choices)))))) in
-    let a = call in omega arith
+    let r = c.requires in
+    let a = called r.charts r.lay_room r.d_value r.has_height r.d_lt_q r.q_bound r.choices in
+    omega arith
 
 pub overflow_add-last : goal.overflow_add-last
 overflow_add-last t c =
-    let call : Call c.args.points.now c.args.own.now c.args.ends.now c.args.reach.now
-    c.args.limit.now c.args.left.now c.args.choice.now c.args.d c.args.q c.args.h = called (c.requires.charts, (c.requires.lay_room, (c.requires.d_value, (c.requires.has_height, (c.requires.d_lt_q, (c.requires.q_bound, c.requires.choices)))))) in
-    let a = call in omega arith
+    let r = c.requires in
+    let a = called r.charts r.lay_room r.d_value r.has_height r.d_lt_q r.q_bound r.choices in
+    omega arith
 
 pub offset_bounds-choice-base : goal.offset_bounds-choice-base
 offset_bounds-choice-base t c =
-    let call : Call c.args.points.now c.args.own.now c.args.ends.now c.args.reach.now
-    c.args.limit.now c.args.left.now c.args.choice.now c.args.d c.args.q c.args.h = called (c.requires.charts, (c.requires.lay_room, (c.requires.d_value, (c.requires.has_height, (c.requires.d_lt_q, (c.requires.q_bound, c.requires.choices)))))) in
-    let a = call in omega arith
+    let r = c.requires in
+    let a = called r.charts r.lay_room r.d_value r.has_height r.d_lt_q r.q_bound r.choices in
+    omega arith
 
 pub bounds-choice-base : goal.bounds-choice-base
 bounds-choice-base t c =
-    let call : Call c.args.points.now c.args.own.now c.args.ends.now c.args.reach.now
-    c.args.limit.now c.args.left.now c.args.choice.now c.args.d c.args.q c.args.h = called (c.requires.charts, (c.requires.lay_room, (c.requires.d_value, (c.requires.has_height, (c.requires.d_lt_q, (c.requires.q_bound, c.requires.choices)))))) in
-    let a = call in omega arith
-
-pub overflow_cast-last : goal.overflow_cast-last
-overflow_cast-last t c =
-    let i = c.args in
-    omega (arith, c.shared_slice_known-10-1.given (i.h * 256 + i.q))
+    let r = c.requires in
+    let a = called r.charts r.lay_room r.d_value r.has_height r.d_lt_q r.q_bound r.choices in
+    omega arith
 
 pub copy_row-requires : goal.copy_row-requires
 copy_row-requires t c =
-    let call : Call c.args.points.now c.args.own.now c.args.ends.now c.args.reach.now
-    c.args.limit.now c.args.left.now c.args.choice.now c.args.d c.args.q c.args.h = called (c.requires.charts, (c.requires.lay_room, (c.requires.d_value, (c.requires.has_height, (c.requires.d_lt_q, (c.requires.q_bound, c.requires.choices)))))) in
-    let a = call in record { e_in_bounds = omega arith; e_in_bounds_2 = omega (arith, c.requires.in_bounds, a.short, a.charts.few); d_lt_e = omega (arith, a.long) }
+    let r = c.requires in
+    let a = called r.charts r.lay_room r.d_value r.has_height r.d_lt_q r.q_bound r.choices in
+    record { e_in_bounds = omega arith; e_in_bounds_2 = omega (arith, c.requires.in_bounds, a.short, a.charts.few); d_lt_e = omega (arith, a.long) }
 
 pub offset_bounds-need-last : goal.offset_bounds-need-last
 offset_bounds-need-last t c =
-    let call : Call c.args.points.now c.args.own.now c.args.ends.now c.args.reach.now
-    c.args.limit.now c.args.left.now c.args.choice.now c.args.d c.args.q c.args.h = called (c.requires.charts, (c.requires.lay_room, (c.requires.d_value, (c.requires.has_height, (c.requires.d_lt_q, (c.requires.q_bound, c.requires.choices)))))) in
-    let last : ℕ = row c.args.choice.now (c.args.h * 256) c.args.q in
-    let chosen : (c.args.d < last) × (last ≤ at c.args.ends.now c.args.d) = picked (call) c.if-left-base-eq0.false in
-    let a = call in
-    let x = chosen in
+    let r = c.requires in
+    let a = called r.charts r.lay_room r.d_value r.has_height r.d_lt_q r.q_bound r.choices in
+    let x = picked a c.if-left-base-eq0.false in
     omega arith
 
 pub bounds-need-last : goal.bounds-need-last
 bounds-need-last t c =
-    let call : Call c.args.points.now c.args.own.now c.args.ends.now c.args.reach.now
-    c.args.limit.now c.args.left.now c.args.choice.now c.args.d c.args.q c.args.h = called (c.requires.charts, (c.requires.lay_room, (c.requires.d_value, (c.requires.has_height, (c.requires.d_lt_q, (c.requires.q_bound, c.requires.choices)))))) in
-    let last : ℕ = row c.args.choice.now (c.args.h * 256) c.args.q in
-    let chosen : (c.args.d < last) × (last ≤ at c.args.ends.now c.args.d) = picked (call) c.if-left-base-eq0.false in
-    let a = call in
-    let x = chosen in
+    let r = c.requires in
+    let a = called r.charts r.lay_room r.d_value r.has_height r.d_lt_q r.q_bound r.choices in
+    let x = picked a c.if-left-base-eq0.false in
     omega (arith, c.requires.in_bounds, a.short, a.charts.few, c.copy_row.auto.xs)
 
 pub offset_bounds-need-last-2 : goal.offset_bounds-need-last-2
 offset_bounds-need-last-2 t c =
-    let call : Call c.args.points.now c.args.own.now c.args.ends.now c.args.reach.now
-    c.args.limit.now c.args.left.now c.args.choice.now c.args.d c.args.q c.args.h = called (c.requires.charts, (c.requires.lay_room, (c.requires.d_value, (c.requires.has_height, (c.requires.d_lt_q, (c.requires.q_bound, c.requires.choices)))))) in
-    let last : ℕ = row c.args.choice.now (c.args.h * 256) c.args.q in
-    let chosen : (c.args.d < last) × (last ≤ at c.args.ends.now c.args.d) = picked (call) c.if-left-base-eq0.false in
-    let a = call in
-    let x = chosen in
+    let r = c.requires in
+    let a = called r.charts r.lay_room r.d_value r.has_height r.d_lt_q r.q_bound r.choices in
+    let x = picked a c.if-left-base-eq0.false in
     omega arith
 
 pub bounds-need-last-2 : goal.bounds-need-last-2
 bounds-need-last-2 t c =
-    let call : Call c.args.points.now c.args.own.now c.args.ends.now c.args.reach.now
-    c.args.limit.now c.args.left.now c.args.choice.now c.args.d c.args.q c.args.h = called (c.requires.charts, (c.requires.lay_room, (c.requires.d_value, (c.requires.has_height, (c.requires.d_lt_q, (c.requires.q_bound, c.requires.choices)))))) in
-    let last : ℕ = row c.args.choice.now (c.args.h * 256) c.args.q in
-    let chosen : (c.args.d < last) × (last ≤ at c.args.ends.now c.args.d) = picked (call) c.if-left-base-eq0.false in
-    let copy : List ℕ = c.copy_row.new.xs in
-    let sized : length (copy) ≡ length c.args.need.now = c.copy_row.auto.xs in
-    let a = call in
-    let x = chosen in
-    omega (arith, c.requires.in_bounds, a.short, a.charts.few, sized)
+    let r = c.requires in
+    let a = called r.charts r.lay_room r.d_value r.has_height r.d_lt_q r.q_bound r.choices in
+    let x = picked a c.if-left-base-eq0.false in
+    omega (arith, c.requires.in_bounds, a.short, a.charts.few, c.copy_row.auto.xs)
 
 pub overflow_add-f : goal.overflow_add-f
 overflow_add-f t c =
-    let call : Call c.args.points.now c.args.own.now c.args.ends.now c.args.reach.now
-    c.args.limit.now c.args.left.now c.args.choice.now c.args.d c.args.q c.args.h = called (c.requires.charts, (c.requires.lay_room, (c.requires.d_value, (c.requires.has_height, (c.requires.d_lt_q, (c.requires.q_bound, c.requires.choices)))))) in
-    let a = call in omega arith
+    let r = c.requires in
+    let a = called r.charts r.lay_room r.d_value r.has_height r.d_lt_q r.q_bound r.choices in
+    omega arith
 
 pub loop-p-init : goal.loop-p-init
 loop-p-init t c =
-    let call : Call c.args.points.now c.args.own.now c.args.ends.now c.args.reach.now
-    c.args.limit.now c.args.left.now c.args.choice.now c.args.d c.args.q c.args.h = called (c.requires.charts, (c.requires.lay_room, (c.requires.d_value, (c.requires.has_height, (c.requires.d_lt_q, (c.requires.q_bound, c.requires.choices)))))) in
-    begin (call)
+    let r = c.requires in
+    let a = called r.charts r.lay_room r.d_value r.has_height r.d_lt_q r.q_bound r.choices in
+    begin a
 
 pub bounds-points-before : goal.bounds-points-before
 bounds-points-before t c =
-    let call : Call c.args.points.now c.args.own.now c.args.ends.now c.args.reach.now
-    c.args.limit.now c.args.left.now c.args.choice.now c.args.d c.args.q c.args.h = called (c.requires.charts, (c.requires.lay_room, (c.requires.d_value, (c.requires.has_height, (c.requires.d_lt_q, (c.requires.q_bound, c.requires.choices)))))) in
-    let a = call in omega arith
+    let r = c.requires in
+    let a = called r.charts r.lay_room r.d_value r.has_height r.d_lt_q r.q_bound r.choices in
+    omega arith
 
 pub offset_bounds-own-before : goal.offset_bounds-own-before
 offset_bounds-own-before t c =
-    let call : Call c.args.points.now c.args.own.now c.args.ends.now c.args.reach.now
-    c.args.limit.now c.args.left.now c.args.choice.now c.args.d c.args.q c.args.h = called (c.requires.charts, (c.requires.lay_room, (c.requires.d_value, (c.requires.has_height, (c.requires.d_lt_q, (c.requires.q_bound, c.requires.choices)))))) in
-    let a = call in omega arith
+    let r = c.requires in
+    let a = called r.charts r.lay_room r.d_value r.has_height r.d_lt_q r.q_bound r.choices in
+    omega arith
 
 pub bounds-own-before : goal.bounds-own-before
 bounds-own-before t c =
-    let call : Call c.args.points.now c.args.own.now c.args.ends.now c.args.reach.now
-    c.args.limit.now c.args.left.now c.args.choice.now c.args.d c.args.q c.args.h = called (c.requires.charts, (c.requires.lay_room, (c.requires.d_value, (c.requires.has_height, (c.requires.d_lt_q, (c.requires.q_bound, c.requires.choices)))))) in
-    let a = call in omega arith
+    let r = c.requires in
+    let a = called r.charts r.lay_room r.d_value r.has_height r.d_lt_q r.q_bound r.choices in
+    omega arith
 
 pub overflow_sub-base : goal.overflow_sub-base
 overflow_sub-base t c =
-    let call : Call c.args.points.now c.args.own.now c.args.ends.now c.args.reach.now
-    c.args.limit.now c.args.left.now c.args.choice.now c.args.d c.args.q c.args.h = called (c.requires.charts, (c.requires.lay_room, (c.requires.d_value, (c.requires.has_height, (c.requires.d_lt_q, (c.requires.q_bound, c.requires.choices)))))) in
-    let a = call in omega arith
+    let r = c.requires in
+    let a = called r.charts r.lay_room r.d_value r.has_height r.d_lt_q r.q_bound r.choices in
+    omega arith
 
 pub step_child-s-requires : goal.step_child-s-requires
 step_child-s-requires t c =
-    let call : Call c.args.points.now c.args.own.now c.args.ends.now c.args.reach.now
-    c.args.limit.now c.args.left.now c.args.choice.now c.args.d c.args.q c.args.h = called (c.requires.charts, (c.requires.lay_room, (c.requires.d_value, (c.requires.has_height, (c.requires.d_lt_q, (c.requires.q_bound, c.requires.choices)))))) in
-    let last : ℕ = row c.args.choice.now (c.args.h * 256) c.args.q in
-    let copy : List ℕ = c.copy_row.new.xs in
-    let sized : length (copy) ≡ length c.args.need.now = c.copy_row.auto.xs in
-    let swept : List ℕ = set (copy) (last) c.smaller.result in
-    let lowered : Lowered c.args.reach.now (c.args.h * 256) c.args.d
-    (at c.args.ends.now c.args.d) (last) (swept) = record {
-      copy = (copy);
-      copied = λ a i j. c.copy_row.ensures.copied a (omega arith) j;
-      size = omega (arith, (sized), c.requires.in_bounds);
-      need_is = ap (λ (v : ℕ). set (copy) (last) v) c.smaller.ensures;
-    } in
-    let room : 256 ≤ length c.loop-p.need = omega (arith, c.loop-p.invariant.shared.size, lowered_size (lowered)) in
-    let a = call in
-    let r = room in record { p_in_bounds = omega arith; p_in_bounds_2 = omega arith; l_le_p = a.charts.own_low (c.loop-p.p - 1); c_in_bounds = omega (arith, c.loop-p.invariant.small) }
+    let r = c.requires in
+    let a = called r.charts r.lay_room r.d_value r.has_height r.d_lt_q r.q_bound r.choices in
+    let room = still _ _ _ _ _ r.in_bounds c.copy_row.auto.xs c.loop-p.invariant.shared.size in
+    record { p_in_bounds = omega arith; p_in_bounds_2 = omega arith; l_le_p = a.charts.own_low (c.loop-p.p - 1); c_in_bounds = omega (arith, c.loop-p.invariant.small) }
 
 pub put_where-more-requires : goal.put_where-more-requires
 put_where-more-requires t c =
-    let call : Call c.args.points.now c.args.own.now c.args.ends.now c.args.reach.now
-    c.args.limit.now c.args.left.now c.args.choice.now c.args.d c.args.q c.args.h = called (c.requires.charts, (c.requires.lay_room, (c.requires.d_value, (c.requires.has_height, (c.requires.d_lt_q, (c.requires.q_bound, c.requires.choices)))))) in
-    let a = call in omega arith
+    let r = c.requires in
+    let a = called r.charts r.lay_room r.d_value r.has_height r.d_lt_q r.q_bound r.choices in
+    omega arith
 
 pub overflow_sub-h : goal.overflow_sub-h
 overflow_sub-h t c =
-    let call : Call c.args.points.now c.args.own.now c.args.ends.now c.args.reach.now
-    c.args.limit.now c.args.left.now c.args.choice.now c.args.d c.args.q c.args.h = called (c.requires.charts, (c.requires.lay_room, (c.requires.d_value, (c.requires.has_height, (c.requires.d_lt_q, (c.requires.q_bound, c.requires.choices)))))) in
-    let a = call in omega arith
+    let r = c.requires in
+    let a = called r.charts r.lay_room r.d_value r.has_height r.d_lt_q r.q_bound r.choices in
+    omega arith
 
 pub lay-k-requires : goal.lay-k-requires
 lay-k-requires t c =
-    let call : Call c.args.points.now c.args.own.now c.args.ends.now c.args.reach.now
-    c.args.limit.now c.args.left.now c.args.choice.now c.args.d c.args.q c.args.h = called (c.requires.charts, (c.requires.lay_room, (c.requires.d_value, (c.requires.has_height, (c.requires.d_lt_q, (c.requires.q_bound, c.requires.choices)))))) in
-    let last : ℕ = row c.args.choice.now (c.args.h * 256) c.args.q in
-    let copy : List ℕ = c.copy_row.new.xs in
-    let sized : length (copy) ≡ length c.args.need.now = c.copy_row.auto.xs in
-    let swept : List ℕ = set (copy) (last) c.smaller.result in
-    let lowered : Lowered c.args.reach.now (c.args.h * 256) c.args.d
-    (at c.args.ends.now c.args.d) (last) (swept) = record {
-      copy = (copy);
-      copied = λ a i j. c.copy_row.ensures.copied a (omega arith) j;
-      size = omega (arith, (sized), c.requires.in_bounds);
-      need_is = ap (λ (v : ℕ). set (copy) (last) v) c.smaller.ensures;
-    } in
-    let room : 256 ≤ length c.loop-p.need = omega (arith, c.loop-p.invariant.shared.size, lowered_size (lowered)) in
-    let a = call in (
+    let r = c.requires in
+    let a = called r.charts r.lay_room r.d_value r.has_height r.d_lt_q r.q_bound r.choices in
+    let room = still _ _ _ _ _ r.in_bounds c.copy_row.auto.xs c.loop-p.invariant.shared.size in (
       omega (arith),
       (
         room,
@@ -217,144 +194,104 @@ lay-k-requires t c =
 
 pub loop-p-smaller-then-points-before-eq-ENDDO : goal.loop-p-smaller-then-points-before-eq-ENDDO
 loop-p-smaller-then-points-before-eq-ENDDO t c =
-    let call : Call c.args.points.now c.args.own.now c.args.ends.now c.args.reach.now
-    c.args.limit.now c.args.left.now c.args.choice.now c.args.d c.args.q c.args.h = called (c.requires.charts, (c.requires.lay_room, (c.requires.d_value, (c.requires.has_height, (c.requires.d_lt_q, (c.requires.q_bound, c.requires.choices)))))) in
-    omega (arith, child_long (call) c.loop-p.invariant c.loop-p-test.true c.if-points-before-eq-ENDDO.true)
+    let r = c.requires in
+    let a = called r.charts r.lay_room r.d_value r.has_height r.d_lt_q r.q_bound r.choices in
+    omega (arith, child_long a c.loop-p.invariant c.loop-p-test.true c.if-points-before-eq-ENDDO.true)
 
 pub loop-p-preserved-then-points-before-eq-ENDDO : goal.loop-p-preserved-then-points-before-eq-ENDDO
 loop-p-preserved-then-points-before-eq-ENDDO t c =
-    let call : Call c.args.points.now c.args.own.now c.args.ends.now c.args.reach.now
-    c.args.limit.now c.args.left.now c.args.choice.now c.args.d c.args.q c.args.h = called (c.requires.charts, (c.requires.lay_room, (c.requires.d_value, (c.requires.has_height, (c.requires.d_lt_q, (c.requires.q_bound, c.requires.choices)))))) in
-    on_child (call) c.loop-p.invariant c.loop-p-test.true c.if-points-before-eq-ENDDO.true
+    let r = c.requires in
+    let a = called r.charts r.lay_room r.d_value r.has_height r.d_lt_q r.q_bound r.choices in
+    on_child a c.loop-p.invariant c.loop-p-test.true c.if-points-before-eq-ENDDO.true
     c.step_child-s.ensures c.put_where-more.result.words c.put_where-more.ensures c.lay-k.ensures.lay_says c.lay-k.auto.need
     c.lay-k.ensures.kept
 
 pub offset_bounds-need-p : goal.offset_bounds-need-p
 offset_bounds-need-p t c =
-    let call : Call c.args.points.now c.args.own.now c.args.ends.now c.args.reach.now
-    c.args.limit.now c.args.left.now c.args.choice.now c.args.d c.args.q c.args.h = called (c.requires.charts, (c.requires.lay_room, (c.requires.d_value, (c.requires.has_height, (c.requires.d_lt_q, (c.requires.q_bound, c.requires.choices)))))) in
-    let a = call in omega arith
+    let r = c.requires in
+    let a = called r.charts r.lay_room r.d_value r.has_height r.d_lt_q r.q_bound r.choices in
+    omega arith
 
 pub bounds-need-p : goal.bounds-need-p
 bounds-need-p t c =
-    let call : Call c.args.points.now c.args.own.now c.args.ends.now c.args.reach.now
-    c.args.limit.now c.args.left.now c.args.choice.now c.args.d c.args.q c.args.h = called (c.requires.charts, (c.requires.lay_room, (c.requires.d_value, (c.requires.has_height, (c.requires.d_lt_q, (c.requires.q_bound, c.requires.choices)))))) in
-    let last : ℕ = row c.args.choice.now (c.args.h * 256) c.args.q in
-    let copy : List ℕ = c.copy_row.new.xs in
-    let sized : length (copy) ≡ length c.args.need.now = c.copy_row.auto.xs in
-    let swept : List ℕ = set (copy) (last) c.smaller.result in
-    let lowered : Lowered c.args.reach.now (c.args.h * 256) c.args.d
-    (at c.args.ends.now c.args.d) (last) (swept) = record {
-      copy = (copy);
-      copied = λ a i j. c.copy_row.ensures.copied a (omega arith) j;
-      size = omega (arith, (sized), c.requires.in_bounds);
-      need_is = ap (λ (v : ℕ). set (copy) (last) v) c.smaller.ensures;
-    } in
-    let room : 256 ≤ length c.loop-p.need = omega (arith, c.loop-p.invariant.shared.size, lowered_size (lowered)) in
-    let a = call in
+    let r = c.requires in
+    let a = called r.charts r.lay_room r.d_value r.has_height r.d_lt_q r.q_bound r.choices in
+    let room = still _ _ _ _ _ r.in_bounds c.copy_row.auto.xs c.loop-p.invariant.shared.size in
     omega (arith, room, c.loop-p.invariant.high, a.short, a.charts.few)
 
 pub put-k-requires : goal.put-k-requires
 put-k-requires t c =
-    let call : Call c.args.points.now c.args.own.now c.args.ends.now c.args.reach.now
-    c.args.limit.now c.args.left.now c.args.choice.now c.args.d c.args.q c.args.h = called (c.requires.charts, (c.requires.lay_room, (c.requires.d_value, (c.requires.has_height, (c.requires.d_lt_q, (c.requires.q_bound, c.requires.choices)))))) in
-    let a = call in omega arith
+    let r = c.requires in
+    let a = called r.charts r.lay_room r.d_value r.has_height r.d_lt_q r.q_bound r.choices in
+    omega arith
 
 pub overflow_add-c : goal.overflow_add-c
 overflow_add-c t c =
-    let call : Call c.args.points.now c.args.own.now c.args.ends.now c.args.reach.now
-    c.args.limit.now c.args.left.now c.args.choice.now c.args.d c.args.q c.args.h = called (c.requires.charts, (c.requires.lay_room, (c.requires.d_value, (c.requires.has_height, (c.requires.d_lt_q, (c.requires.q_bound, c.requires.choices)))))) in
-    let a = call in
+    let r = c.requires in
+    let a = called r.charts r.lay_room r.d_value r.has_height r.d_lt_q r.q_bound r.choices in
     omega (arith, c.loop-p.invariant.small)
 
 pub loop-p-preserved-then-need-p : goal.loop-p-preserved-then-need-p
 loop-p-preserved-then-need-p t c =
-    let call : Call c.args.points.now c.args.own.now c.args.ends.now c.args.reach.now
-    c.args.limit.now c.args.left.now c.args.choice.now c.args.d c.args.q c.args.h = called (c.requires.charts, (c.requires.lay_room, (c.requires.d_value, (c.requires.has_height, (c.requires.d_lt_q, (c.requires.q_bound, c.requires.choices)))))) in
-    on_put (call) c.loop-p.invariant c.loop-p-test.true c.if-points-before-eq-ENDDO.false c.if-need-p.true
+    let r = c.requires in
+    let a = called r.charts r.lay_room r.d_value r.has_height r.d_lt_q r.q_bound r.choices in
+    on_put a c.loop-p.invariant c.loop-p-test.true c.if-points-before-eq-ENDDO.false c.if-need-p.true
     c.put-k.ensures
 
 pub loop-p-preserved : goal.loop-p-preserved
 loop-p-preserved t c =
-    let call : Call c.args.points.now c.args.own.now c.args.ends.now c.args.reach.now
-    c.args.limit.now c.args.left.now c.args.choice.now c.args.d c.args.q c.args.h = called (c.requires.charts, (c.requires.lay_room, (c.requires.d_value, (c.requires.has_height, (c.requires.d_lt_q, (c.requires.q_bound, c.requires.choices)))))) in
-    on_skip (call) c.loop-p.invariant c.loop-p-test.true c.if-points-before-eq-ENDDO.false c.if-need-p.false
+    let r = c.requires in
+    let a = called r.charts r.lay_room r.d_value r.has_height r.d_lt_q r.q_bound r.choices in
+    on_skip a c.loop-p.invariant c.loop-p-test.true c.if-points-before-eq-ENDDO.false c.if-need-p.false
 
 pub overflow_add-base-2 : goal.overflow_add-base-2
 overflow_add-base-2 t c =
-    let call : Call c.args.points.now c.args.own.now c.args.ends.now c.args.reach.now
-    c.args.limit.now c.args.left.now c.args.choice.now c.args.d c.args.q c.args.h = called (c.requires.charts, (c.requires.lay_room, (c.requires.d_value, (c.requires.has_height, (c.requires.d_lt_q, (c.requires.q_bound, c.requires.choices)))))) in
-    let last : ℕ = row c.args.choice.now (c.args.h * 256) c.args.q in
-    let chosen : (c.args.d < last) × (last ≤ at c.args.ends.now c.args.d) = picked (call) c.if-left-base-eq0.false in
-    let a = call in
-    let x = chosen in
+    let r = c.requires in
+    let a = called r.charts r.lay_room r.d_value r.has_height r.d_lt_q r.q_bound r.choices in
+    let x = picked a c.if-left-base-eq0.false in
     omega arith
 
 pub offset_bounds-limit-base : goal.offset_bounds-limit-base
 offset_bounds-limit-base t c =
-    let call : Call c.args.points.now c.args.own.now c.args.ends.now c.args.reach.now
-    c.args.limit.now c.args.left.now c.args.choice.now c.args.d c.args.q c.args.h = called (c.requires.charts, (c.requires.lay_room, (c.requires.d_value, (c.requires.has_height, (c.requires.d_lt_q, (c.requires.q_bound, c.requires.choices)))))) in
-    let last : ℕ = row c.args.choice.now (c.args.h * 256) c.args.q in
-    let chosen : (c.args.d < last) × (last ≤ at c.args.ends.now c.args.d) = picked (call) c.if-left-base-eq0.false in
-    let a = call in
-    let x = chosen in
+    let r = c.requires in
+    let a = called r.charts r.lay_room r.d_value r.has_height r.d_lt_q r.q_bound r.choices in
+    let x = picked a c.if-left-base-eq0.false in
     omega arith
 
 pub bounds-limit-base : goal.bounds-limit-base
 bounds-limit-base t c =
-    let call : Call c.args.points.now c.args.own.now c.args.ends.now c.args.reach.now
-    c.args.limit.now c.args.left.now c.args.choice.now c.args.d c.args.q c.args.h = called (c.requires.charts, (c.requires.lay_room, (c.requires.d_value, (c.requires.has_height, (c.requires.d_lt_q, (c.requires.q_bound, c.requires.choices)))))) in
-    let last : ℕ = row c.args.choice.now (c.args.h * 256) c.args.q in
-    let chosen : (c.args.d < last) × (last ≤ at c.args.ends.now c.args.d) = picked (call) c.if-left-base-eq0.false in
-    let a = call in
-    let x = chosen in
+    let r = c.requires in
+    let a = called r.charts r.lay_room r.d_value r.has_height r.d_lt_q r.q_bound r.choices in
+    let x = picked a c.if-left-base-eq0.false in
     omega arith
-
-pub overflow_cast-limit : goal.overflow_cast-limit
-overflow_cast-limit t c =
-    let last : ℕ = row c.args.choice.now (c.args.h * 256) c.args.q in
-    omega (arith, c.shared_slice_known-11-1.given (c.args.h * 256 + last))
 
 pub overflow_add-d : goal.overflow_add-d
 overflow_add-d t c =
-    let call : Call c.args.points.now c.args.own.now c.args.ends.now c.args.reach.now
-    c.args.limit.now c.args.left.now c.args.choice.now c.args.d c.args.q c.args.h = called (c.requires.charts, (c.requires.lay_room, (c.requires.d_value, (c.requires.has_height, (c.requires.d_lt_q, (c.requires.q_bound, c.requires.choices)))))) in
-    let a = call in omega arith
+    let r = c.requires in
+    let a = called r.charts r.lay_room r.d_value r.has_height r.d_lt_q r.q_bound r.choices in
+    omega arith
 
 pub put_where-requires : goal.put_where-requires
 put_where-requires t c =
-    let call : Call c.args.points.now c.args.own.now c.args.ends.now c.args.reach.now
-    c.args.limit.now c.args.left.now c.args.choice.now c.args.d c.args.q c.args.h = called (c.requires.charts, (c.requires.lay_room, (c.requires.d_value, (c.requires.has_height, (c.requires.d_lt_q, (c.requires.q_bound, c.requires.choices)))))) in
-    let a = call in omega arith
+    let r = c.requires in
+    let a = called r.charts r.lay_room r.d_value r.has_height r.d_lt_q r.q_bound r.choices in
+    omega arith
 
 pub shape_of-need : goal.shape_of-need
-shape_of-need t c =
-    let last : ℕ = row c.args.choice.now (c.args.h * 256) c.args.q in
-    let copy : List ℕ = c.copy_row.new.xs in
-    let sized : length (copy) ≡ length c.args.need.now = c.copy_row.auto.xs in
-    c.loop-p.invariant.shared.size ∙ length-set (copy) (last) c.smaller.result ∙ sized
+shape_of-need t c = c.loop-p.invariant.shared.size ∙ simp length-set c.copy_row.auto.xs
 
 pub returns : goal.returns
 returns t c =
-    let call : Call c.args.points.now c.args.own.now c.args.ends.now c.args.reach.now
-    c.args.limit.now c.args.left.now c.args.choice.now c.args.d c.args.q c.args.h = called (c.requires.charts, (c.requires.lay_room, (c.requires.d_value, (c.requires.has_height, (c.requires.d_lt_q, (c.requires.q_bound, c.requires.choices)))))) in
-    let last : ℕ = row c.args.choice.now (c.args.h * 256) c.args.q in
-    let chosen : (c.args.d < last) × (last ≤ at c.args.ends.now c.args.d) = picked (call) c.if-left-base-eq0.false in
-    let copy : List ℕ = c.copy_row.new.xs in
-    let sized : length (copy) ≡ length c.args.need.now = c.copy_row.auto.xs in
-    let swept : List ℕ = set (copy) (last) c.smaller.result in
-    let lowered : Lowered c.args.reach.now (c.args.h * 256) c.args.d
-    (at c.args.ends.now c.args.d) (last) (swept) = record {
-      copy = (copy);
-      copied = λ a i j. c.copy_row.ensures.copied a (omega arith) j;
-      size = omega (arith, (sized), c.requires.in_bounds);
-      need_is = ap (λ (v : ℕ). set (copy) (last) v) c.smaller.ensures;
-    } in
-    let a = call in record {
-      lay_says = done a c.put_where.result.words c.if-left-base-eq0.false (lowered) c.loop-p.invariant
+    let r = c.requires in
+    let a = called r.charts r.lay_room r.d_value r.has_height r.d_lt_q r.q_bound r.choices in
+    let x = picked a c.if-left-base-eq0.false in
+    let copy = c.copy_row.new.xs in
+    record {
+      lay_says = done a c.put_where.result.words c.if-left-base-eq0.false
+          (lowered _ copy r.in_bounds c.copy_row.auto.xs c.copy_row.ensures.copied c.min.ensures) c.loop-p.invariant
           (omega (arith, c.loop-p-test)) c.put_where.ensures;
       kept = λ i h.
-          lowered_kept c.args.need.now (copy) c.loop-p.need c.args.d (at c.args.ends.now c.args.d)
-          (last) c.smaller.result (chosen).0 (chosen).1 c.copy_row.ensures.kept
+          lowered_kept c.args.need.now copy c.loop-p.need c.args.d (at c.args.ends.now c.args.d)
+          (row c.args.choice.now (c.args.h * 256) c.args.q) c.min.result x.0 x.1 c.copy_row.ensures.kept
           c.loop-p.invariant.shared.kept i (λ j. omega (arith, h j, a.e_is));
     }

@@ -4,13 +4,25 @@ use native.Mathlib.Omega.{arith}
 use lib.ListN.{length}
 use Rattle.laws.proofs.Copies.{copies}
 use Rattle.paper_nests.specs.Kinds.{POINTS}
-use Rattle.paper_nests.specs.Stored.{nest_in}
+use Rattle.paper_nests.specs.Stored.{nest_in, IsCounted}
+use Rattle.paper_nests.specs.Valid.{is_valid}
+use Rattle.paper_nests.specs.declared.Nest as DN
+use mathlib.Core.Path.{◌≡◌}
+use mathlib.Core.Bool.{true}
 use Rattle.paper_nests.proofs.Levels.{starts_with_do}
 use Rattle.paper_nests.proofs.Loops.{end-after, outermost}
-use Rattle.plan_tables.proofs.Preparing.{count_there, unowned_filled, blank_filled, points_of, fits_of}
+use Rattle.plan_tables.proofs.Preparing.{unowned_filled, blank_filled, points_of, fits_of}
 use Rattle.plan_nest.proofs.Planning.{charts, choices, key, top_height, unset_top}
 use borrow.Author.Rules.{rules}
 use Rattle.plan_nest.proofs.plan.Goals as goal
+
+-- a nest has points, and not too many
+some : {n : DN.Nest} → IsCounted n → is_valid (nest_in n) ≡ true → (1 < n.count) × (n.count ≤ POINTS)
+some {n} counted valid =
+    let ps = (nest_in n).points in
+    let w = points_of (nest_in n) valid in
+    let l = end-after ps w.shape 0 (starts_with_do ps w.shape) in
+    (omega (arith, counted.count_is, outermost ps w.shape), omega (arith, counted.count_is, w.few))
 
 pub overflow_cast-high : goal.overflow_cast-high
 overflow_cast-high c =
@@ -24,40 +36,21 @@ prepare-requires c =
 
 pub overflow_sub-n : goal.overflow_sub-n
 overflow_sub-n c =
-    let there : (1 < c.args.nest.count) × (c.args.nest.count ≤ POINTS) = let n = nest_in c.args.nest in
-    let w = points_of n c.requires.nest_value in
-    let l = end-after n.points w.shape 0 (starts_with_do n.points w.shape) in
-    (omega (arith, c.requires.counted.count_is, outermost n.points w.shape), omega (arith, c.requires.counted.count_is, w.few)) in
-    let s = there in
+    let s = some c.requires.counted c.requires.nest_value in
     omega arith
 
 pub clear_rows-requires : goal.clear_rows-requires
 clear_rows-requires c =
-    let there : (1 < c.args.nest.count) × (c.args.nest.count ≤ POINTS) = let n = nest_in c.args.nest in
-    let w = points_of n c.requires.nest_value in
-    let l = end-after n.points w.shape 0 (starts_with_do n.points w.shape) in
-    (omega (arith, c.requires.counted.count_is, outermost n.points w.shape), omega (arith, c.requires.counted.count_is, w.few)) in
-    let s = there in
+    let s = some c.requires.counted c.requires.nest_value in
     search rules
 
 pub overflow_sub-n-2 : goal.overflow_sub-n-2
 overflow_sub-n-2 c =
-    let there : (1 < c.args.nest.count) × (c.args.nest.count ≤ POINTS) = let n = nest_in c.args.nest in
-    let w = points_of n c.requires.nest_value in
-    let l = end-after n.points w.shape 0 (starts_with_do n.points w.shape) in
-    (omega (arith, c.requires.counted.count_is, outermost n.points w.shape), omega (arith, c.requires.counted.count_is, w.few)) in
-    let s = there in omega arith
+    let s = some c.requires.counted c.requires.nest_value in omega arith
 
 pub clear_rows-requires-2 : goal.clear_rows-requires-2
 clear_rows-requires-2 c =
-    let there : (1 < c.args.nest.count) × (c.args.nest.count ≤ POINTS) = let n = nest_in c.args.nest in
-    let w = points_of n c.requires.nest_value in
-    let l = end-after n.points w.shape 0 (starts_with_do n.points w.shape) in
-    (omega (arith, c.requires.counted.count_is, outermost n.points w.shape), omega (arith, c.requires.counted.count_is, w.few)) in
-    let s = there in search rules
-
-pub slice_bounds-points-end : goal.slice_bounds-points-end
-slice_bounds-points-end c = count_there c.args.nest.count c.args.nest.points c.requires.counted.count_is
+    let s = some c.requires.counted c.requires.nest_value in search rules
 
 pub settle-requires : goal.settle-requires
 settle-requires c =
@@ -70,7 +63,8 @@ settle-requires c =
     let heights = c.prepare.new.heights in
     let reach = c.prepare.new.reach in
     let limit = c.prepare.new.limit in
-    let has = c.prepare.new.has in record {
+    let has = c.prepare.new.has in
+    rw c.points-points.ensures record {
       lists_room = record { need_room = omega arith; cs_room = omega arith; fs_room = omega arith; link_room = omega arith };
       charts = charts ps ds own ends heights reach limit has w c.prepare.ensures (omega (arith, c.prepare.auto.own))
           (omega (arith, c.prepare.auto.ends));
@@ -87,24 +81,6 @@ settle-requires c =
       unset_2 = unset_top ps w.shape c.requires.counted.count_is c.clear_rows-2.ensures;
     }
 
-pub slice_bounds-points-end-2 : goal.slice_bounds-points-end-2
-slice_bounds-points-end-2 c = count_there c.args.nest.count c.args.nest.points c.requires.counted.count_is
-
-pub slice_bounds-lay-end : goal.slice_bounds-lay-end
-slice_bounds-lay-end c = c.requires.counted.count_is
-
-pub slice_bounds-lay-end-2 : goal.slice_bounds-lay-end-2
-slice_bounds-lay-end-2 c = omega (arith, c.prepare.auto.own)
-
-pub slice_bounds-lay-end-3 : goal.slice_bounds-lay-end-3
-slice_bounds-lay-end-3 c = omega (arith, c.prepare.auto.ends)
-
-pub slice_bounds-lay-end-4 : goal.slice_bounds-lay-end-4
-slice_bounds-lay-end-4 c = omega (arith, c.prepare.auto.reach)
-
-pub slice_bounds-lay-end-5 : goal.slice_bounds-lay-end-5
-slice_bounds-lay-end-5 c = omega (arith, c.prepare.auto.limit)
-
 pub lay-requires : goal.lay-requires
 lay-requires c =
     let n = c.args.nest in
@@ -118,7 +94,8 @@ lay-requires c =
     let limit = c.prepare.new.limit in
     let has = c.prepare.new.has in
     let left = c.settle.new.left in
-    let choice = c.settle.new.choice in record {
+    let choice = c.settle.new.choice in
+    rw c.points-points.ensures record {
       in_bounds = omega (arith, c.settle.auto.need);
       charts = charts ps ds own ends heights reach limit has w c.prepare.ensures (omega (arith, c.prepare.auto.own))
           (omega (arith, c.prepare.auto.ends));
@@ -132,7 +109,7 @@ lay-requires c =
       has_height = top_height ps;
       d_lt_q = omega arith;
       q_bound = end-after ps w.shape 0 (starts_with_do ps w.shape);
-      choices = choices ps ds own ends heights reach limit has w c.prepare.ensures left choice c.settle.ensures.rows;
+      choices = choices ps ds own ends heights reach limit has w c.prepare.ensures left choice (rw c.points-points.ensures at c.settle.ensures.rows);
     }
 
 pub returns : goal.returns
@@ -149,5 +126,6 @@ returns c =
     let has = c.prepare.new.has in
     let left = c.settle.new.left in
     let choice = c.settle.new.choice in
-    key ps ds own ends heights reach limit has w c.prepare.ensures left choice c.settle.ensures.rows
-    c.empty-none.result.words c.lay.result.words c.empty-none.ensures c.lay.ensures.lay_says
+    key ps ds own ends heights reach limit has w c.prepare.ensures left choice
+    (rw c.points-points.ensures at c.settle.ensures.rows) c.empty-none.result.words c.lay.result.words
+    c.empty-none.ensures (rw c.points-points.ensures at c.lay.ensures.lay_says)

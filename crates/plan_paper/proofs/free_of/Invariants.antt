@@ -4,6 +4,3 @@ use Rattle.plan_paper.proofs.free_of.Given as goal
 
 abbrev pub invariant-loop-i : goal.invariant-loop-i
 invariant-loop-i l = FreeFrom l.nest l.i l.free
-
-abbrev pub decreases-loop-i : goal.decreases-loop-i
-decreases-loop-i l = l.i

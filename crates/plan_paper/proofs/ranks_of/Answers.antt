@@ -4,21 +4,15 @@ use borrow.Author.Rules.{rules}
 use lib.ListN.{length}
 use Rattle.paper_nests.specs.Kinds.{POINTS}
 use Rattle.paper_nests.specs.Stored.{nest_in}
-use Rattle.plan_paper.proofs.Ranking.{RanksTo, ranks_start, rank_fits, ranks_on, ranks_done}
+use Rattle.plan_paper.proofs.Ranking.{ranks_start, rank_fits, ranks_on, ranks_done}
 use Rattle.plan_paper.proofs.ranks_of.Goals as goal
-
-pub loop-g-init : goal.loop-g-init
-loop-g-init _ = λ bs p. p
 
 pub overflow_add-rank : goal.overflow_add-rank
 overflow_add-rank c =
-    let ranked : RanksTo (nest_in c.args.nest).barred c.loop-g.g c.loop-g.rank c.loop-g.ranks = let long : length c.free_of-ranks.result ≡ POINTS = search rules in
+    let long : length c.free_of-ranks.result ≡ POINTS = search rules in
     let bs = (nest_in c.args.nest).barred in
-    c.loop-g.invariant bs (ranks_start bs c.free_of-ranks.result long c.free_of-ranks.ensures) in
-    let n = c.args.nest in
-    record {
-      fits = omega (arith, rank_fits (nest_in n).barred c.loop-g.g c.loop-g.rank c.loop-g.ranks c.loop-g-test.true (ranked));
-    }
+    let ranked = c.loop-g.invariant bs (ranks_start bs c.free_of-ranks.result long c.free_of-ranks.ensures) in
+    record { fits = omega (arith, rank_fits bs c.loop-g.g c.loop-g.rank c.loop-g.ranks c.loop-g-test.true ranked) }
 
 pub loop-g-preserved : goal.loop-g-preserved
 loop-g-preserved c =
@@ -26,8 +20,7 @@ loop-g-preserved c =
 
 pub returns : goal.returns
 returns c =
-    let ranked : RanksTo (nest_in c.args.nest).barred c.loop-g.g c.loop-g.rank c.loop-g.ranks = let long : length c.free_of-ranks.result ≡ POINTS = search rules in
+    let long : length c.free_of-ranks.result ≡ POINTS = search rules in
     let bs = (nest_in c.args.nest).barred in
-    c.loop-g.invariant bs (ranks_start bs c.free_of-ranks.result long c.free_of-ranks.ensures) in
-    let n = c.args.nest in
-    ranks_done (nest_in n).barred c.loop-g.g c.loop-g.rank c.loop-g.ranks c.loop-g-test.false (ranked)
+    ranks_done bs c.loop-g.g c.loop-g.rank c.loop-g.ranks c.loop-g-test.false
+    (c.loop-g.invariant bs (ranks_start bs c.free_of-ranks.result long c.free_of-ranks.ensures))

@@ -6,6 +6,3 @@ use Rattle.plan_paper.proofs.reduce.Given as goal
 
 abbrev pub invariant-loop-i : goal.invariant-loop-i
 invariant-loop-i l = IsRing l.nest l.ring × DepsFrom l.nest l.ring.deps l.i
-
-abbrev pub decreases-loop-i : goal.decreases-loop-i
-decreases-loop-i l = l.i

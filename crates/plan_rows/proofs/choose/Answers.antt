@@ -1,23 +1,14 @@
 use native.Mathlib.Omega.{arith}
+use Rattle.std.proofs.Math.Nat.{add-sub_cancel}
 use Rattle.plan_rows.proofs.Choosing.{choosing_none, choosing_more, choosing_all}
 use Rattle.plan_rows.proofs.choose.Goals as goal
 
 pub loop-q-init : goal.loop-q-init
-loop-q-init c =
-    choosing_none (omega (arith, c.requires.e_in_bounds, c.requires.e_in_bounds_2, c.requires.e_in_bounds_3, c.requires.e_in_bounds_4, c.requires.d_lt_e, c.requires.e_bound))
-
-pub overflow_cast-q : goal.overflow_cast-q
-overflow_cast-q c = omega (arith, c.loop-q.invariant.high, c.requires.e_bound)
+loop-q-init c = rw add-sub_cancel (choosing_none c.requires.d_lt_e)
 
 pub loop-q-preserved : goal.loop-q-preserved
 loop-q-preserved c =
-    choosing_more c.loop-q.invariant (omega arith) (omega (arith, c.requires.e_in_bounds, c.requires.e_in_bounds_2, c.requires.e_in_bounds_3, c.requires.e_in_bounds_4, c.requires.d_lt_e, c.requires.e_bound)) (omega (arith, c.requires.e_in_bounds, c.requires.e_in_bounds_2, c.requires.e_in_bounds_3, c.requires.e_in_bounds_4, c.requires.d_lt_e, c.requires.e_bound)) c.better-best.ensures
-
-pub shape_of-left : goal.shape_of-left
-shape_of-left c = c.loop-q.invariant.left_length
-
-pub shape_of-choice : goal.shape_of-choice
-shape_of-choice c = c.loop-q.invariant.choice_length
+    choosing_more c.loop-q.invariant (omega arith) (omega arith) (omega arith) c.better-best.ensures
 
 pub returns : goal.returns
 returns c =

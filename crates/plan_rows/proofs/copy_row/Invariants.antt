@@ -1,10 +1,7 @@
--- `copy_row` meets its contract. The invariant: the entries up to p are copied.
+-- `copy_row` meets its contract. The invariant: the entries before q are copied.
 use Prim.Native.Nat.{◌-◌}
 use Rattle.plan_rows.proofs.Copying.{Copying}
 use Rattle.plan_rows.proofs.copy_row.Given as goal
 
-abbrev pub invariant-loop-p : goal.invariant-loop-p
-invariant-loop-p l = Copying l.from l.base l.d l.e l.initial.xs l.xs l.p
-
-abbrev pub decreases-loop-p : goal.decreases-loop-p
-decreases-loop-p l = l.e - l.p
+abbrev pub invariant-loop-q : goal.invariant-loop-q
+invariant-loop-q l = Copying l.from l.base l.d l.e l.initial.xs l.xs (l.q - 1)

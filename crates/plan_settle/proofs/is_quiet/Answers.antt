@@ -2,20 +2,16 @@ use native.Mathlib.Omega.{arith}
 use Rattle.plan_settle.proofs.Quiet.{quiet_more, quiet_all, quiet_not}
 use Rattle.plan_settle.proofs.is_quiet.Goals as goal
 
-pub loop-i-init : goal.loop-i-init
-loop-i-init c = (omega arith, λ l a b. absurd (omega arith))
-
 pub returns-then-has-i-ne0 : goal.returns-then-has-i-ne0
 returns-then-has-i-ne0 c =
     let a = c.args in
-    quiet_not a.has.now a.d a.e c.loop-i.i c.loop-i.invariant.0 c.loop-i-test.true c.if-has-i-ne0.true
+    quiet_not a.has.now a.d a.e c.loop-i.i (omega arith) c.loop-i-test.true c.if-has-i-ne0.true
 
 pub loop-i-preserved : goal.loop-i-preserved
 loop-i-preserved c =
-    let a = c.args in
-    (omega (arith, c.loop-i.invariant.0), quiet_more a.has.now a.d c.loop-i.i c.loop-i.invariant.1 c.if-has-i-ne0.false)
+    quiet_more c.args.has.now c.args.d c.loop-i.i c.loop-i.invariant c.if-has-i-ne0.false
 
 pub returns : goal.returns
 returns c =
     let a = c.args in
-    quiet_all a.has.now a.d a.e c.loop-i.i c.loop-i.invariant.1 c.loop-i-test.false
+    quiet_all a.has.now a.d a.e c.loop-i.i c.loop-i.invariant c.loop-i-test.false

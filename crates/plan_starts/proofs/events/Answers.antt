@@ -24,7 +24,7 @@ loop-p-preserved-then-points-before-eq-ENDDO c =
 
 pub last_need-a-requires : goal.last_need-a-requires
 last_need-a-requires c =
-    omega (arith, c.smaller.ensures, c.requires.starts_room.sweep_room.need_room, c.loop-p.invariant.bound)
+    omega (arith, c.min.ensures, c.requires.starts_room.sweep_room.need_room, c.loop-p.invariant.bound)
 
 pub overflow_cast-fs : goal.overflow_cast-fs
 overflow_cast-fs c = omega (arith, c.loop-p.invariant.bound.high, c.requires.starts_room.short)
@@ -32,13 +32,13 @@ overflow_cast-fs c = omega (arith, c.loop-p.invariant.bound.high, c.requires.sta
 pub overflow_cast-link : goal.overflow_cast-link
 overflow_cast-link c =
     let i = c.args in
-    let low = seek_high (at i.need.now) c.loop-p.p i.d c.smaller.result in
-    omega (arith, c.last_need-a.ensures, c.smaller.ensures, c.loop-p.invariant.bound.high, c.requires.starts_room.short)
+    let low = seek_high (at i.need.now) c.loop-p.p i.d c.min.result in
+    omega (arith, c.last_need-a.ensures, c.min.ensures, c.loop-p.invariant.bound.high, c.requires.starts_room.short)
 
 pub loop-p-preserved : goal.loop-p-preserved
 loop-p-preserved c =
     eventing_plain c.requires.starts_room c.requires.ground c.loop-p.invariant (omega (arith, c.loop-p-test)) c.if-points-before-eq-ENDDO.false
-    (rw c.smaller.ensures at c.last_need-a.ensures)
+    (rw c.min.ensures at c.last_need-a.ensures)
 
 pub shape_of-cs : goal.shape_of-cs
 shape_of-cs c = c.loop-p.invariant.cs_length

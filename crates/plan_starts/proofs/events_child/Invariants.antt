@@ -1,6 +1,6 @@
 -- `events_child` meets its contract: the gap after the loop, then the gaps of the loop from the right. The invariant: the
--- gaps after x are filled (`Filling`), and `outer` is the front of a barrier after the loop.
-use Prim.Native.Nat.{suc, ◌≤◌}
+-- gaps from x on are filled (`Filling`), and `outer` is the front of a barrier after the loop.
+use Prim.Native.Nat.{suc, ◌-◌}
 use mathlib.Core.Path.{◌≡◌}
 use Rattle.plan_sweeps.specs.Listed.{row}
 use Rattle.laws.specs.Choice.{first_of}
@@ -9,8 +9,4 @@ use Rattle.plan_starts.proofs.events_child.Given as goal
 
 abbrev pub invariant-loop-x : goal.invariant-loop-x
 invariant-loop-x l =
-    (l.outer ≡ first_of (row l.left l.kids (suc l.l)) (suc l.p)) × Filling l.need l.left l.kids l.d l.l l.p l.initial.cs l.initial.fs l.initial.link l.cs l.fs l.link l.a l.x ×
-    (l.x ≤ l.p)
-
-abbrev pub decreases-loop-x : goal.decreases-loop-x
-decreases-loop-x l = l.x
+    (l.outer ≡ first_of (row l.left l.kids (suc l.l)) (suc l.p)) × Filling l.need l.left l.kids l.d l.l l.p l.initial.cs l.initial.fs l.initial.link l.cs l.fs l.link l.a (l.x - 1)

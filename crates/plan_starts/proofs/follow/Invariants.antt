@@ -1,10 +1,7 @@
--- `follow` meets its contract. The invariant: the starts up to p are followed (`Following`).
+-- `follow` meets its contract. The invariant: the starts before x are followed (`Following`).
 use Prim.Native.Nat.{◌-◌}
 use Rattle.plan_starts.proofs.Following.{Following}
 use Rattle.plan_starts.proofs.follow.Given as goal
 
-abbrev pub invariant-loop-p : goal.invariant-loop-p
-invariant-loop-p l = Following l.link l.initial.cs l.initial.fs l.d l.e l.cs l.fs l.p
-
-abbrev pub decreases-loop-p : goal.decreases-loop-p
-decreases-loop-p l = l.e - l.p
+abbrev pub invariant-loop-x : goal.invariant-loop-x
+invariant-loop-x l = Following l.link l.initial.cs l.initial.fs l.d l.e l.cs l.fs (l.x - 1)

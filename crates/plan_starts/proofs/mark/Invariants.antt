@@ -1,10 +1,6 @@
 -- `mark` meets its contract. The invariant: the gaps up to p are marked (`Marking`).
-use Prim.Native.Nat.{◌-◌}
 use Rattle.plan_starts.proofs.Marking.{Marking}
 use Rattle.plan_starts.proofs.mark.Given as goal
 
 abbrev pub invariant-loop-p : goal.invariant-loop-p
 invariant-loop-p l = Marking l.points l.own l.reach l.base l.left l.kids l.d l.e l.initial.need l.need l.p
-
-abbrev pub decreases-loop-p : goal.decreases-loop-p
-decreases-loop-p l = l.e - l.p

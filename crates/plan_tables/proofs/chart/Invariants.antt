@@ -1,14 +1,6 @@
 -- `chart` meets its contract: each turn notes the loop of one more gap, and what the point there says (`Charting`).
-use mathlib.Core.Path.{◌≡◌}
-use Prim.Native.Nat.{◌-◌}
-use lib.ListN.{length}
 use Rattle.plan_tables.proofs.Charting.{Charting}
 use Rattle.plan_tables.proofs.chart.Given as goal
 
 abbrev pub invariant-loop-i : goal.invariant-loop-i
-invariant-loop-i l =
-    Charting l.points l.i l.o l.h l.own l.ends l.heights ×
-    ((length l.own ≡ length l.initial.own) × ((length l.ends ≡ length l.initial.ends) × (length l.heights ≡ length l.initial.heights)))
-
-abbrev pub decreases-loop-i : goal.decreases-loop-i
-decreases-loop-i l = length l.points - l.i
+invariant-loop-i l = Charting l.points l.i l.o l.h l.own l.ends l.heights

@@ -1,3 +1,4 @@
+use native.Mathlib.Omega.{arith}
 use Rattle.plan_tables.proofs.Collecting.{collect_start, fits_here, collect_on, collect_done}
 use Rattle.plan_tables.proofs.collect.Goals as goal
 
@@ -8,12 +9,12 @@ loop-i-init c =
 
 pub enter-requires : goal.enter-requires
 enter-requires c =
-    let p = c.loop-i.invariant in record { points = c.requires.points; charted = c.requires.charted; chart_room = c.requires.chart_room; lines_room = p.room; fits = fits_here c.requires.counted p c.loop-i-test.true c.requires.all_fit }
+    let p = c.loop-i.invariant in record { points = c.requires.points; charted = c.requires.charted; chart_room = c.requires.chart_room; lines_room = p.room; fits = fits_here c.requires.counted p (omega arith) c.requires.all_fit }
 
 pub loop-i-preserved : goal.loop-i-preserved
 loop-i-preserved c =
-    collect_on c.requires.counted c.loop-i.invariant c.loop-i-test.true c.enter.auto.reach c.enter.auto.back c.enter.auto.has
+    collect_on c.requires.counted c.loop-i.invariant (omega arith) c.enter.auto.reach c.enter.auto.back c.enter.auto.has
     c.enter.ensures
 
 pub returns : goal.returns
-returns c = collect_done c.requires.counted c.loop-i.invariant c.loop-i-test.false
+returns c = collect_done c.requires.counted c.loop-i.invariant (omega arith)

@@ -7,6 +7,3 @@ use Rattle.plan_tables.proofs.collect.Given as goal
 abbrev pub invariant-loop-i : goal.invariant-loop-i
 invariant-loop-i l =
     Collecting l.points (nest_in l.nest).deps l.heights l.initial.reach l.initial.back l.initial.has l.i l.reach l.back l.has
-
-abbrev pub decreases-loop-i : goal.decreases-loop-i
-decreases-loop-i l = l.i

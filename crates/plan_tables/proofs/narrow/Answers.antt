@@ -1,33 +1,39 @@
+use mathlib.Core.List.{List}
+use Prim.Native.Nat.{ℕ}
+use Rattle.plan_tables.specs.Charts.{Points, HeightsAre, EndsAre}
 use native.Mathlib.Omega.{arith}
 use Rattle.plan_tables.proofs.Limits.{Ended, row_there, limits_start, limits_on, limits_skip}
 use Rattle.plan_tables.proofs.Limits.{limits_done}
 use Rattle.plan_tables.proofs.narrow.Goals as goal
-use Rattle.plan_tables.proofs.narrow.Goals.{then-points-d-eq-DO, else-points-d-eq-DO}
+use Rattle.plan_tables.proofs.narrow.Goals.{then-kind-eq-DO, else-kind-eq-DO}
+
+-- the points, the heights and the ENDDOs
+ended : {ps ends heights : List ℕ} → Points ps → HeightsAre ps heights → EndsAre ps ends → Ended ps ends heights
+ended p h e = record { tall = record { points = p; heights_are = h }; stops = e }
 
 pub loop-d-init : goal.loop-d-init
 loop-d-init _ = limits_start
 
 pub overflow_mul-heights : goal.overflow_mul-heights
 overflow_mul-heights c =
-    let ended : Ended c.args.points.now c.args.ends.now c.args.heights.now = record { tall = record { points = c.requires.points; heights_are = c.requires.heights_are }; stops = c.requires.ends_are } in
-    let t = row_there (ended) c.loop-d.d c.if-points-d-eq-DO.true in
+    let w = ended c.requires.points c.requires.heights_are c.requires.ends_are in
+    let t = row_there w c.loop-d.d c.if-kind-eq-DO.true in
     omega arith
 
 pub narrow_row-requires : goal.narrow_row-requires
 narrow_row-requires c =
-    let ended : Ended c.args.points.now c.args.ends.now c.args.heights.now = record { tall = record { points = c.requires.points; heights_are = c.requires.heights_are }; stops = c.requires.ends_are } in
-    let t = row_there (ended) c.loop-d.d c.if-points-d-eq-DO.true in record { d_le_e = t.0; e_bound = t.1; e_in_bounds = omega (arith, c.requires.in_bounds_3, c.loop-d.invariant.same) }
+    let w = ended c.requires.points c.requires.heights_are c.requires.ends_are in
+    let t = row_there w c.loop-d.d c.if-kind-eq-DO.true in record { d_le_e = t.0; e_bound = t.1; e_in_bounds = omega (arith, c.requires.in_bounds_3, c.loop-d.invariant.same) }
 
 pub loop-d-preserved : goal.loop-d-preserved
 loop-d-preserved c =
-    let ended : Ended c.args.points.now c.args.ends.now c.args.heights.now = record { tall = record { points = c.requires.points; heights_are = c.requires.heights_are }; stops = c.requires.ends_are } in
-    let w = ended in
-    elim c.if-points-d-eq-DO.branch [
-      | then-points-d-eq-DO x ↦ rw x.limit-is (limits_on w c.loop-d.invariant x.if-points-d-eq-DO.true x.narrow_row.auto.xs x.narrow_row.ensures)
-      | else-points-d-eq-DO x ↦ rw x.limit-is (limits_skip w c.loop-d.invariant x.if-points-d-eq-DO.false)
+    let w = ended c.requires.points c.requires.heights_are c.requires.ends_are in
+    elim c.if-kind-eq-DO.branch [
+      | then-kind-eq-DO x ↦ rw x.limit-is (limits_on w c.loop-d.invariant x.if-kind-eq-DO.true x.narrow_row.auto.xs x.narrow_row.ensures)
+      | else-kind-eq-DO x ↦ rw x.limit-is (limits_skip w c.loop-d.invariant x.if-kind-eq-DO.false)
     ]
 
 pub returns : goal.returns
 returns c =
-    let ended : Ended c.args.points.now c.args.ends.now c.args.heights.now = record { tall = record { points = c.requires.points; heights_are = c.requires.heights_are }; stops = c.requires.ends_are } in
-    limits_done (ended) c.loop-d.invariant c.loop-d-test.false
+    let w = ended c.requires.points c.requires.heights_are c.requires.ends_are in
+    limits_done w c.loop-d.invariant (omega arith)

@@ -1,11 +1,6 @@
 -- `narrow` meets its contract: the rows of the loops passed hold limits, the others what goes back (`LimitingAll`).
-use Prim.Native.Nat.{◌-◌}
-use lib.ListN.{length}
 use Rattle.plan_tables.proofs.Limits.{LimitingAll}
 use Rattle.plan_tables.proofs.narrow.Given as goal
 
 abbrev pub invariant-loop-d : goal.invariant-loop-d
 invariant-loop-d l = LimitingAll l.points l.heights l.initial.limit l.d l.limit
-
-abbrev pub decreases-loop-d : goal.decreases-loop-d
-decreases-loop-d l = length l.points - l.d

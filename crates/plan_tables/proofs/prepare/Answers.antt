@@ -1,13 +1,7 @@
 -- `prepare` meets its contract: what `chart`, `collect` and `narrow` promise is all that is asked (`all_prepared`).
 use native.Mathlib.Omega.{arith}
-use Rattle.plan_tables.proofs.Preparing.{count_there, all_prepared}
+use Rattle.plan_tables.proofs.Preparing.{all_prepared}
 use Rattle.plan_tables.proofs.prepare.Goals as goal
-
-pub slice_bounds-points-end : goal.slice_bounds-points-end
-slice_bounds-points-end c = count_there c.args.nest.count c.args.nest.points c.requires.counted.count_is
-
-pub slice_bounds-points-end-2 : goal.slice_bounds-points-end-2
-slice_bounds-points-end-2 c = count_there c.args.nest.count c.args.nest.points c.requires.counted.count_is
 
 pub collect-requires : goal.collect-requires
 collect-requires c =
@@ -24,9 +18,6 @@ collect-requires c =
       all_fit = c.requires.all_fit;
       blank = c.requires.blank;
     }
-
-pub slice_bounds-points-end-3 : goal.slice_bounds-points-end-3
-slice_bounds-points-end-3 c = count_there c.args.nest.count c.args.nest.points c.requires.counted.count_is
 
 pub narrow-requires : goal.narrow-requires
 narrow-requires c =

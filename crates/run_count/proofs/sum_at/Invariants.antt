@@ -1,11 +1,6 @@
--- `sum_at` meets its contract. The invariant: what is summed and what is left give the whole (`Summing`). The measure
--- is how many gaps are left.
-use Prim.Native.Nat.{◌-◌}
+-- `sum_at` meets its contract. The invariant: what is summed and what is left give the whole (`Summing`).
 use Rattle.run_count.proofs.Summing.{Summing}
 use Rattle.run_count.proofs.sum_at.Given as goal
 
 abbrev pub invariant-loop-g : goal.invariant-loop-g
 invariant-loop-g l = Summing l.times l.p.words l.g l.calls
-
-abbrev pub decreases-loop-g : goal.decreases-loop-g
-decreases-loop-g l = 256 - l.g

@@ -1,11 +1,8 @@
 -- `Placement::lowest_from` meets its contract. The invariant: no gap is held from lo up to the words still to be looked
--- at (`Passed`). The measure is how many those are.
-use Prim.Native.Nat.{◌-◌, ◌*◌}
+-- at (`Passed`).
+use Prim.Native.Nat.{◌*◌}
 use Rattle.paper_placements.proofs.Lowest.{Passed}
 use Rattle.paper_placements.proofs.Placement.lowest_from.Given as goal
 
 abbrev pub invariant-loop-i : goal.invariant-loop-i
 invariant-loop-i l = Passed l.self.words l.lo (l.i * 64)
-
-abbrev pub decreases-loop-i : goal.decreases-loop-i
-decreases-loop-i l = 4 - l.i
