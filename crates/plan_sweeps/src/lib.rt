@@ -15,6 +15,16 @@ pub struct Step {
     pub ask: usize,
 }
 
+// A loop's inside as a sweep reads it: the points, the loop of each gap, and the fronts of the loops inside in the row
+// of a table that starts at `kids`.
+#[derive(Clone, Copy)]
+pub struct Inside<'a> {
+    pub points: &'a [u8],
+    pub own: &'a [usize],
+    pub left: &'a [u16],
+    pub kids: usize,
+}
+
 // Over the child l with its ENDDO p and the gap after it.
 pub fn step_child(
     need: &[usize],
