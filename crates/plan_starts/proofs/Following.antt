@@ -1,6 +1,6 @@
 -- What is made from each start on, from left to right: a link lies before its start, so that it is there already.
--- Main definition: `Following`. Main statements: `following_none`, `next`, `following_more`.
-use mathlib.Core.Path.{◌≡◌, refl, sym, ◌∙◌, ap}
+-- Main definition: `Following`. Main statement: `following_more`.
+use mathlib.Core.Path.{◌≡◌, sym, ◌∙◌, ap}
 use mathlib.Core.List.{List}
 use mathlib.Core.Logic.{⊎_elim}
 use Prim.Native.Nat.{ℕ, zero, suc, ◌+◌, ◌≤◌, ◌<◌}
@@ -27,34 +27,7 @@ first_within : (d e a b : ℕ) → (0 < a → d < a) → a ≤ e → d < b → b
 first_within d e zero b h i j k = (j, k)
 first_within d e (suc a) b h i j k = (h (omega arith), i)
 
--- the numbers at the next start: its front, its link, and its count
-pub record Next (link cs fs : List ℕ) (e p : ℕ) : Type 0 where
-  pub front : at fs (p + 1) ≤ e
-  pub linked : at link (at fs (p + 1)) ≤ p
-  pub sum : at cs (p + 1) + at cs (at link (at fs (p + 1))) ≤ p + 1
-
 module _ {link cs₀ fs₀ : List ℕ} {d e : ℕ} (room : FollowRoom d e link cs₀ fs₀) where
-  pub following_none : Following link cs₀ fs₀ d e cs₀ fs₀ d
-  following_none =
-      record {
-        low = omega arith;
-        high = omega (arith, room.long);
-        cs_length = refl;
-        fs_length = refl;
-        sofar =
-            record {
-              c_is = λ x i j. absurd (omega arith);
-              f_is = λ x i j. absurd (omega arith);
-              small = λ x i j. absurd (omega arith);
-              low = λ x i j. absurd (omega arith);
-              high = λ x i j. absurd (omega arith);
-              c_none = room.c_none;
-              f_none = room.f_none;
-            };
-        c_rest = λ x h. refl;
-        f_rest = λ x h. refl;
-      }
-
   module _ {cs fs : List ℕ} {p : ℕ} (s : Following link cs₀ fs₀ d e cs fs p) (before : p < e) where
     -- the next start: its event, its link, and what is made from the link on
     front_is : at fs (p + 1) ≡ at fs₀ (p + 1)
@@ -84,14 +57,6 @@ module _ {link cs₀ fs₀ : List ℕ} {d e : ℕ} (room : FollowRoom d e link c
     sized = link_small (at link (at fs (p + 1))) linked (λ z. omega
         (arith, link_is, fit.link_low (omega (arith, link_is))))
 
-    pub next : Next link cs fs e p
-    next =
-        record {
-          front = omega (arith, front_is, fit.front_high);
-          linked = linked;
-          sum = omega (arith, s.c_rest (p + 1) (omega arith), fit.cost, sized.0, linked);
-        }
-
     -- the link of the next start
     abbrev n : ℕ
     n = at link (at fs (p + 1))
@@ -99,6 +64,9 @@ module _ {link cs₀ fs₀ : List ℕ} {d e : ℕ} (room : FollowRoom d e link c
     -- what is made from the next start on
     abbrev c : ℕ
     c = at cs (p + 1) + at cs n
+
+    c_small : c ≤ p + 1
+    c_small = omega (arith, s.c_rest (p + 1) (omega arith), fit.cost, sized.0, linked)
 
     pub following_more
         : {f : ℕ}
@@ -117,7 +85,7 @@ module _ {link cs₀ fs₀ : List ℕ} {d e : ℕ} (room : FollowRoom d e link c
                 f_is = λ x i j. stored fs (p + 1) f x
                     (first_of (at (set fs (p + 1) f) (at link (at fs₀ x))) (at fs₀ x))
                     rf (λ (z : x ≡ p + 1). rw z here_f) (λ (z : x ≡ p + 1 → ⊥). old_f x i (omega (arith, z)));
-                small = λ x i j. at_each (λ (y v : ℕ). v ≤ y) cs c rc next.sum s.sofar.small
+                small = λ x i j. at_each (λ (y v : ℕ). v ≤ y) cs c rc c_small s.sofar.small
                     x i j;
                 low = λ x i j. at_each (λ (y v : ℕ). d < v) fs f rf within.0 s.sofar.low x i j;
                 high = λ x i j. at_each (λ (y v : ℕ). v ≤ e) fs f rf within.1 s.sofar.high x i j;

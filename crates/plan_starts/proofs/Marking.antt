@@ -1,6 +1,5 @@
 -- The marks, one gap after the other.
--- Main definition: `Marking`. Main statements: `marking_none`, `marking_do`, `marking_other`,
--- `marking_all`.
+-- Main definition: `Marking`. Main statements: `marking_do`, `marking_other`.
 use mathlib.Core.Path.{◌≡◌, refl, sym, ◌∙◌}
 use mathlib.Core.Bool.{Bool, true, false, ◌&&◌}
 use mathlib.Core.List.{List}
@@ -29,15 +28,6 @@ module _
     {ps own reach : List ℕ} {base : ℕ} {left : List ℕ} {kids d e : ℕ} {need₀ : List ℕ}
     (room : MarkRoom ps own reach base left kids d e need₀)
   where
-    pub marking_none : Marking ps own reach base left kids d e need₀ need₀ d
-    marking_none =
-        record {
-          low = omega arith;
-          high = omega (arith, room.long);
-          same = refl;
-          marks = λ a i j. absurd (omega arith);
-        }
-
     module _
         {need : List ℕ} {p : ℕ} (s : Marking ps own reach base left kids d e need₀ need p) (before : p < e)
       where
@@ -73,10 +63,3 @@ module _
                 both : (t : Bool) → pick (t && false) 0 (row reach base (suc p)) ≡ row reach base (suc p)
                 both true = refl
                 both false = refl
-
-pub marking_all
-    : {ps own reach : List ℕ} {base : ℕ} {left : List ℕ} {kids d e : ℕ} {need₀ need : List ℕ} {p : ℕ}
-    → Marking ps own reach base left kids d e need₀ need p
-    → e ≤ p
-    → Marked ps own (row reach base) left kids d e need
-marking_all s all a i j = s.marks a i (omega arith)

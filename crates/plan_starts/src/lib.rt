@@ -12,6 +12,8 @@ ghost use Rattle.plan_starts.specs.Grounds.{Ground};
 ghost use Rattle.plan_starts.specs.Started.{Marked, end_after, EventSays, EventsSay, Followed, StartsSay};
 ghost use Rattle.plan_starts.specs.Started.{MarkRoom, ChildRoom, ChildSays, FollowRoom, StartsRoom};
 
+use plan_sweeps::Inside;
+
 // Own barriers, and the leftmost barrier.
 #[derive(Clone, Copy)]
 pub struct Front {
@@ -21,26 +23,18 @@ pub struct Front {
 
 // The ends of the lines that start at each gap; 0 at the first gap of a loop inside that holds barriers, which is a
 // start that nothing above it cuts.
-pub fn mark(
-    points: &[u8],
-    own: &[usize],
-    reach: &[u16],
-    base: usize,
-    left: &[u16],
-    kids: usize,
-    d: usize,
-    e: usize,
-    need: &mut [usize],
-)
-    requires { MarkRoom points.now own.now reach.now base left.now kids d e need.old }
-    ensures { Marked points.now own.now (row reach.now base)
-        left.now kids d e need.new }
+pub fn mark(inside: &Inside, reach: &[u16], base: usize, d: usize, e: usize, need: &mut [usize])
+    requires { MarkRoom inside.now.points.now inside.now.own.now reach.now base
+        inside.now.left.now inside.now.kids d e need.old }
+    ensures { Marked inside.now.points.now inside.now.own.now (row reach.now base)
+        inside.now.left.now inside.now.kids d e need.new }
 {
     for p in d..e {
         let q = p + 1;
         let end = reach[base + q] as usize;
-        need[q] = if points[p] == paper_nests::DO {
-            end_after(own[p], d, p, left[kids + q] as usize, end)
+        need[q] = if inside.points[p] == paper_nests::DO {
+            let first = inside.left[inside.kids + q] as usize;
+            end_after(inside.own[p], d, p, first, end)
         } else {
             end
         };
@@ -49,24 +43,22 @@ pub fn mark(
 
 // What a sweep makes from each start on, into two lists; gives the last start with a line that ends at e or before.
 pub fn follow_all(
-    points: &[u8],
-    own: &[usize],
+    inside: &Inside,
     need: &[usize],
-    left: &[u16],
-    kids: usize,
     d: usize,
     e: usize,
     cs: &mut [u16],
     fs: &mut [u16],
     link: &mut [u16],
 ) -> usize
-    requires starts_room { StartsRoom points.now own.now need.now left.now kids d e cs.old fs.old link.old }
-    requires ground { Ground points.now own.now left.now kids d e }
-    ensures { StartsSay points.now own.now need.now left.now kids
-        d e cs.new fs.new result }
+    requires starts_room { StartsRoom inside.now.points.now inside.now.own.now need.now
+        inside.now.left.now inside.now.kids d e cs.old fs.old link.old }
+    requires ground { Ground inside.now.points.now inside.now.own.now inside.now.left.now inside.now.kids d e }
+    ensures { StartsSay inside.now.points.now inside.now.own.now need.now
+        inside.now.left.now inside.now.kids d e cs.new fs.new result }
 {
     let first = plan_sweeps::last_need(need, e + 1, d, e);
-    events(points, own, need, left, kids, d, e, first, cs, fs, link);
+    events(inside, need, d, e, first, cs, fs, link);
     cs[0] = 0;
     fs[0] = 0;
     follow(d, e, link, cs, fs);
@@ -86,11 +78,8 @@ fn end_after(own: usize, d: usize, p: usize, first: usize, end: usize) -> usize
 
 // The events and links of all gaps, from e down to d + 1. The links only fall.
 fn events(
-    points: &[u8],
-    own: &[usize],
+    inside: &Inside,
     need: &[usize],
-    left: &[u16],
-    kids: usize,
     d: usize,
     e: usize,
     first: usize,
@@ -98,19 +87,20 @@ fn events(
     fs: &mut [u16],
     link: &mut [u16],
 )
-    requires starts_room { StartsRoom points.now own.now need.now left.now kids d e cs.old fs.old link.old }
-    requires ground { Ground points.now own.now left.now kids d e }
+    requires starts_room { StartsRoom inside.now.points.now inside.now.own.now need.now
+        inside.now.left.now inside.now.kids d e cs.old fs.old link.old }
+    requires ground { Ground inside.now.points.now inside.now.own.now inside.now.left.now inside.now.kids d e }
     requires first_value { first ≡ seek (at need.now) (e + 1) d e }
-    ensures { EventsSay points.now own.now need.now left.now kids
-        d e cs.new fs.new link.new }
+    ensures { EventsSay inside.now.points.now inside.now.own.now need.now
+        inside.now.left.now inside.now.kids d e cs.new fs.new link.new }
 {
     let mut a = first;
     let mut p = e;
     while d < p {
         let before = p - 1;
-        if points[before] == paper_nests::ENDDO {
-            let l = own[before];
-            a = events_child(need, left, kids, d, l, before, a, cs, fs, link);
+        if inside.points[before] == paper_nests::ENDDO {
+            let l = inside.own[before];
+            a = events_child(inside, need, d, l, before, a, cs, fs, link);
             p = l;
         } else {
             a = plan_sweeps::last_need(need, p, d, a.min(before));
@@ -124,9 +114,8 @@ fn events(
 
 // Those of the child l with its ENDDO p and of the gap after it.
 fn events_child(
+    inside: &Inside,
     need: &[usize],
-    left: &[u16],
-    kids: usize,
     d: usize,
     l: usize,
     p: usize,
@@ -135,18 +124,18 @@ fn events_child(
     fs: &mut [u16],
     link: &mut [u16],
 ) -> usize
-    requires { ChildRoom need.now left.now kids d l p cs.old fs.old link.old last }
-    ensures { ChildSays need.now left.now kids d l p cs.old fs.old
+    requires { ChildRoom need.now inside.now.left.now inside.now.kids d l p cs.old fs.old link.old last }
+    ensures { ChildSays need.now inside.now.left.now inside.now.kids d l p cs.old fs.old
         link.old cs.new fs.new link.new result }
 {
-    let outer = plan_sweeps::first_or(left[kids + (l + 1)], (p + 1) as u16);
+    let outer = plan_sweeps::first_or(inside.left[inside.kids + (l + 1)], (p + 1) as u16);
     let after = p + 1;
     let mut a = plan_sweeps::last_need(need, after, d, last.min(l));
     cs[after] = 1;
     fs[after] = outer;
     link[after] = a as u16;
     for x in (l + 1..after).rev() {
-        let v = event(left, kids, x, outer);
+        let v = event(inside, x, outer);
         a = plan_sweeps::last_need(need, x, d, a);
         cs[x] = v.c;
         fs[x] = v.f;
@@ -157,11 +146,11 @@ fn events_child(
 
 // The event at a gap x of a child: the child cuts all, or a barrier after the child.
 #[tactic(auto, unfolding(crate::specs::Started::cost_at, crate::specs::Started::front_or))]
-fn event(left: &[u16], kids: usize, x: usize, outer: u16) -> Front
-    requires { kids + x < length left.now }
-    ensures { EventSays (row left.now kids) x outer result.c result.f }
+fn event(inside: &Inside, x: usize, outer: u16) -> Front
+    requires { inside.now.kids + x < length inside.now.left.now }
+    ensures { EventSays (row inside.now.left.now inside.now.kids) x outer result.c result.f }
 {
-    let g = left[kids + x];
+    let g = inside.left[inside.kids + x];
     if 0 < g {
         Front { c: 0, f: g }
     } else {

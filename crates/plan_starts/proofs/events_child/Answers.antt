@@ -28,14 +28,6 @@ entered
     (set fs (p + 1) f) (set link (p + 1) a) a p
 entered room f m a = let outer = outer_is room (first_given f) in (outer, filling_after room outer m a)
 
-pub overflow_cast-p : goal.overflow_cast-p
-overflow_cast-p c = omega (arith, c.requires.narrow)
-
-pub last_need-a-requires : goal.last_need-a-requires
-last_need-a-requires c =
-    let r = c.requires in
-    omega (arith, c.min.ensures, r.short, r.need_room)
-
 pub overflow_cast-link : goal.overflow_cast-link
 overflow_cast-link c =
     let z = entered c.requires c.first_or-outer.ensures c.min.ensures c.last_need-a.ensures in
@@ -45,14 +37,6 @@ pub loop-x-init : goal.loop-x-init
 loop-x-init c =
     let z = entered c.requires c.first_or-outer.ensures c.min.ensures c.last_need-a.ensures in
     rw add-sub_cancel (z.0, rebased c.requires z.1)
-
-pub event-v-requires : goal.event-v-requires
-event-v-requires c =
-    let r = c.requires in
-    omega (arith, r.left_room)
-
-pub last_need-a-requires-in-loop-x : goal.last_need-a-requires-in-loop-x
-last_need-a-requires-in-loop-x c = omega (arith, c.loop-x.invariant.1.last_high, c.requires)
 
 pub overflow_cast-link-in-loop-x : goal.overflow_cast-link-in-loop-x
 overflow_cast-link-in-loop-x c =
@@ -65,26 +49,12 @@ pub loop-x-preserved : goal.loop-x-preserved
 loop-x-preserved c =
     let z = entered c.requires c.first_or-outer.ensures c.min.ensures c.last_need-a.ensures in
     let i = c.args in
+    let left = row i.inside.now.left.now i.inside.now.kids in
     let v = c.event-v.ensures i.p (omega arith) in (
       c.loop-x.invariant.0,
       filling_more (room_on c.requires z.1) c.loop-x.invariant.1 (omega arith) v.0
-          (v.1 ∙ ap (front_or (row i.left.now i.kids) i.p (c.loop-x.x - 1)) c.loop-x.invariant.0) c.last_need-a-in-loop-x.ensures,
+          (v.1 ∙ ap (front_or left i.p (c.loop-x.x - 1)) c.loop-x.invariant.0) c.last_need-a-in-loop-x.ensures,
     )
-
-pub shape_of-cs : goal.shape_of-cs
-shape_of-cs c =
-    let z = entered c.requires c.first_or-outer.ensures c.min.ensures c.last_need-a.ensures in
-    c.loop-x.invariant.1.cs_length ∙ z.1.cs_length
-
-pub shape_of-fs : goal.shape_of-fs
-shape_of-fs c =
-    let z = entered c.requires c.first_or-outer.ensures c.min.ensures c.last_need-a.ensures in
-    c.loop-x.invariant.1.fs_length ∙ z.1.fs_length
-
-pub shape_of-link : goal.shape_of-link
-shape_of-link c =
-    let z = entered c.requires c.first_or-outer.ensures c.min.ensures c.last_need-a.ensures in
-    c.loop-x.invariant.1.link_length ∙ z.1.link_length
 
 pub returns : goal.returns
 returns c =

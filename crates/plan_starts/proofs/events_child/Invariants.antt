@@ -9,4 +9,6 @@ use Rattle.plan_starts.proofs.events_child.Given as goal
 
 abbrev pub invariant-loop-x : goal.invariant-loop-x
 invariant-loop-x l =
-    (l.outer ≡ first_of (row l.left l.kids (suc l.l)) (suc l.p)) × Filling l.need l.left l.kids l.d l.l l.p l.initial.cs l.initial.fs l.initial.link l.cs l.fs l.link l.a (l.x - 1)
+    let i = l.inside in
+    (l.outer ≡ first_of (row i.left.now i.kids (suc l.l)) (suc l.p)) × Filling l.need i.left.now i.kids l.d l.l l.p
+    l.initial.cs l.initial.fs l.initial.link l.cs l.fs l.link l.a (l.x - 1)

@@ -1,6 +1,4 @@
 -- `follow_all` meets its contract: the events, followed from left to right, are what the sweeps make (Whole).
-use mathlib.Core.Path.{◌∙◌}
-use lib.ListN.{length-set}
 use Rattle.plan_starts.proofs.Whole.{follow_room, joined}
 use Rattle.plan_starts.proofs.follow_all.Goals as goal
 
@@ -8,12 +6,6 @@ pub follow-requires : goal.follow-requires
 follow-requires c =
     follow_room c.requires.starts_room c.events.ensures c.events.auto.cs
     c.events.auto.fs c.events.auto.link
-
-pub shape_of-cs : goal.shape_of-cs
-shape_of-cs c = c.follow.auto.cs ∙ simp length-set c.events.auto.cs
-
-pub shape_of-fs : goal.shape_of-fs
-shape_of-fs c = c.follow.auto.fs ∙ simp length-set c.events.auto.fs
 
 pub returns : goal.returns
 returns c =
