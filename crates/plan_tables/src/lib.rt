@@ -17,7 +17,20 @@ use paper_nests::{Dependence, Nest};
 // The entries of a row, one for each point.
 const ROW: usize = 256;
 
+// The points of a nest with the tables of its loops: of each gap its loop, of each DO its ENDDO and its height.
+// What holds of them stands in clauses and is no invariant: `number_lines` of argue_sets takes a Chart, and may ask no
+// more than it asked of the slices.
+#[derive(Clone, Copy)]
+pub struct Chart<'a> {
+    pub points: &'a [u8],
+    pub own: &'a [usize],
+    pub ends: &'a [usize],
+    pub heights: &'a [usize],
+}
+
 // All tables of a nest, in lists that nothing is noted in.
+// The lists that are written stay beside each other, here and below: a struct of them would need in each function a
+// clause for each field that it keeps its reference, which is no plainer.
 pub fn prepare(
     nest: Nest,
     own: &mut [usize],
@@ -37,14 +50,20 @@ pub fn prepare(
     ensures { Prepared (nest_in nest).points (nest_in nest).deps own.new ends.new
         heights.new reach.new limit.new has.new }
 {
-    let points = &nest.points[..nest.count];
-    chart(points, own, ends, heights);
-    collect(nest, points, own, ends, heights, reach, limit, has);
-    narrow(points, ends, heights, limit);
+    let points = nest.points();
+    chart_loops(points, own, ends, heights);
+    let chart = Chart {
+        points,
+        own,
+        ends,
+        heights,
+    };
+    collect(nest, &chart, reach, limit, has);
+    narrow(&chart, limit);
 }
 
 // Of each gap its loop, of each DO its ENDDO and its height.
-fn chart(points: &[u8], own: &mut [usize], ends: &mut [usize], heights: &mut [usize])
+fn chart_loops(points: &[u8], own: &mut [usize], ends: &mut [usize], heights: &mut [usize])
     requires points { Points points.now }
     requires chart_room { ChartRoom own.old ends.old heights.old }
     requires unowned { Unowned own.old }
@@ -67,99 +86,81 @@ fn chart(points: &[u8], own: &mut [usize], ends: &mut [usize], heights: &mut [us
 }
 
 // All dependences, each in the row of its home: independent ones in `reach`, carried ones in `back`.
-fn collect(
-    nest: Nest,
-    points: &[u8],
-    own: &[usize],
-    ends: &[usize],
-    heights: &[usize],
-    reach: &mut [u16],
-    back: &mut [u16],
-    has: &mut [usize],
-)
-    requires points { Points points.now }
-    requires charted { Charted points.now own.now ends.now heights.now }
-    requires chart_room { ChartRoom own.now ends.now heights.now }
+fn collect(nest: Nest, chart: &Chart, reach: &mut [u16], back: &mut [u16], has: &mut [usize])
+    requires points { Points chart.now.points.now }
+    requires charted { Charted chart.now.points.now chart.now.own.now chart.now.ends.now chart.now.heights.now }
+    requires chart_room { ChartRoom chart.now.own.now chart.now.ends.now chart.now.heights.now }
     requires lines_room { LinesRoom reach.old back.old has.old }
     requires counted { IsCounted nest }
-    requires all_fit { AllFit points.now (nest_in nest).deps }
-    requires blank { Blank (length points.now) reach.old back.old has.old }
-    ensures { Collected points.now (nest_in nest).deps heights.now
+    requires all_fit { AllFit chart.now.points.now (nest_in nest).deps }
+    requires blank { Blank (length chart.now.points.now) reach.old back.old has.old }
+    ensures { Collected chart.now.points.now (nest_in nest).deps chart.now.heights.now
         reach.new back.new has.new }
 {
     for i in (0..nest.many).rev() {
-        enter(points, own, ends, heights, reach, back, has, nest.deps[i]);
+        enter(chart, reach, back, has, nest.deps[i]);
     }
 }
 
 // One dependence more.
-fn enter(
-    points: &[u8],
-    own: &[usize],
-    ends: &[usize],
-    heights: &[usize],
-    reach: &mut [u16],
-    back: &mut [u16],
-    has: &mut [usize],
-    e: Dependence,
-)
-    requires points { Points points.now }
-    requires charted { Charted points.now own.now ends.now heights.now }
-    requires chart_room { ChartRoom own.now ends.now heights.now }
+fn enter(chart: &Chart, reach: &mut [u16], back: &mut [u16], has: &mut [usize], e: Dependence)
+    requires points { Points chart.now.points.now }
+    requires charted { Charted chart.now.points.now chart.now.own.now chart.now.ends.now chart.now.heights.now }
+    requires chart_room { ChartRoom chart.now.own.now chart.now.ends.now chart.now.heights.now }
     requires lines_room { LinesRoom reach.old back.old has.old }
-    requires fits { Fits points.now (dep_in e) }
-    ensures { Entered points.now heights.now (dep_in e)
+    requires fits { Fits chart.now.points.now (dep_in e) }
+    ensures { Entered chart.now.points.now chart.now.heights.now (dep_in e)
         reach.old back.old has.old
         reach.new back.new has.new }
 {
     let s = e.s as usize;
     let t = e.t as usize;
     if e.kind == paper_nests::INDEPENDENT {
-        let home = home_of(points, own, ends, s, t);
-        lower(reach, heights[home] * ROW + (s + 1), t as u16);
+        let home = home_of(chart, s, t);
+        lower(reach, chart.heights[home] * ROW + (s + 1), t as u16);
         has[home] = 1;
     } else {
         let d = e.d as usize;
-        lower(back, heights[d] * ROW + s, t as u16);
+        lower(back, chart.heights[d] * ROW + s, t as u16);
         has[d] = 1;
     }
 }
 
 // The innermost loop that holds all gaps from s + 1 to t.
-pub fn home_of(points: &[u8], own: &[usize], ends: &[usize], s: usize, t: usize) -> usize
-    requires points { Points points.now }
-    requires own_is { OwnIs points.now own.now }
-    requires ends_are { EndsAre points.now ends.now }
-    requires in_bounds { POINTS ≤ length own.now }
-    requires in_bounds_2 { POINTS ≤ length ends.now }
+pub fn home_of(chart: &Chart, s: usize, t: usize) -> usize
+    requires points { Points chart.now.points.now }
+    requires own_is { OwnIs chart.now.points.now chart.now.own.now }
+    requires ends_are { EndsAre chart.now.points.now chart.now.ends.now }
+    requires in_bounds { POINTS ≤ length chart.now.own.now }
+    requires in_bounds_2 { POINTS ≤ length chart.now.ends.now }
     requires s_lt_t { s < t }
-    requires t_in_bounds { t < length points.now }
-    ensures { result ≡ owner_from (suc s) t points.now }
+    requires t_in_bounds { t < length chart.now.points.now }
+    ensures { result ≡ owner_from (suc s) t chart.now.points.now }
 {
-    let mut l = if points[s] == paper_nests::DO {
+    let mut l = if chart.points[s] == paper_nests::DO {
         s
     } else {
-        own[s]
+        chart.own[s]
     };
-    while ends[l] < t {
-        l = own[l];
+    while chart.ends[l] < t {
+        l = chart.own[l];
     }
     l
 }
 
 // From what goes back in each loop's row, its limits.
-fn narrow(points: &[u8], ends: &[usize], heights: &[usize], limit: &mut [u16])
-    requires points { Points points.now }
-    requires ends_are { EndsAre points.now ends.now }
-    requires heights_are { HeightsAre points.now heights.now }
-    requires in_bounds { POINTS ≤ length ends.now }
-    requires in_bounds_2 { POINTS ≤ length heights.now }
+fn narrow(chart: &Chart, limit: &mut [u16])
+    requires points { Points chart.now.points.now }
+    requires ends_are { EndsAre chart.now.points.now chart.now.ends.now }
+    requires heights_are { HeightsAre chart.now.points.now chart.now.heights.now }
+    requires in_bounds { POINTS ≤ length chart.now.ends.now }
+    requires in_bounds_2 { POINTS ≤ length chart.now.heights.now }
     requires in_bounds_3 { TABLE ≤ length limit.old }
-    ensures { Limited points.now heights.now limit.old limit.new }
+    ensures { Limited chart.now.points.now chart.now.heights.now limit.old limit.new }
 {
-    for (d, &kind) in points.iter().enumerate() {
+    for (d, &kind) in chart.points.iter().enumerate() {
         if kind == paper_nests::DO {
-            narrow_row(limit, heights[d] * ROW, d, ends[d]);
+            narrow_row(limit, chart.heights[d] * ROW, d, chart.ends[d]);
         }
     }
 }

@@ -6,4 +6,5 @@ use Rattle.plan_tables.proofs.collect.Given as goal
 
 abbrev pub invariant-loop-i : goal.invariant-loop-i
 invariant-loop-i l =
-    Collecting l.points (nest_in l.nest).deps l.heights l.initial.reach l.initial.back l.initial.has l.i l.reach l.back l.has
+    Collecting l.chart.points.now (nest_in l.nest).deps l.chart.heights.now l.initial.reach l.initial.back l.initial.has
+    l.i l.reach l.back l.has

@@ -29,7 +29,7 @@ module _ {ps own ends heights : List ℕ} (points : Points ps) (charted : Charte
 
 pub home_of-home-requires : goal.home_of-home-requires
 home_of-home-requires c =
-    let f = is-line c.args.points.now (dep_in c.args.e) c.requires.fits c.if-e-eq-INDEPENDENT.true in
+    let f = is-line c.args.chart.now.points.now (dep_in c.args.e) c.requires.fits c.if-e-eq-INDEPENDENT.true in
     record {
       points = c.requires.points;
       own_is = c.requires.charted.own_is;
@@ -40,23 +40,23 @@ home_of-home-requires c =
       t_in_bounds = f.target_there;
     }
 
-pub offset_bounds-heights-home : goal.offset_bounds-heights-home
-offset_bounds-heights-home c =
+pub offset_bounds-chart-home : goal.offset_bounds-chart-home
+offset_bounds-chart-home c =
     let z = homed c.requires.points c.requires.charted c.requires.fits c.if-e-eq-INDEPENDENT.true c.home_of-home.ensures in
     omega arith
 
-pub bounds-heights-home : goal.bounds-heights-home
-bounds-heights-home c =
+pub bounds-chart-home : goal.bounds-chart-home
+bounds-chart-home c =
     let z = homed c.requires.points c.requires.charted c.requires.fits c.if-e-eq-INDEPENDENT.true c.home_of-home.ensures in
     omega (arith, c.requires.chart_room.heights_room)
 
-pub overflow_mul-heights : goal.overflow_mul-heights
-overflow_mul-heights c =
+pub overflow_mul-chart : goal.overflow_mul-chart
+overflow_mul-chart c =
     let z = homed c.requires.points c.requires.charted c.requires.fits c.if-e-eq-INDEPENDENT.true c.home_of-home.ensures in
     omega arith
 
-pub overflow_add-heights : goal.overflow_add-heights
-overflow_add-heights c =
+pub overflow_add-chart : goal.overflow_add-chart
+overflow_add-chart c =
     let z = homed c.requires.points c.requires.charted c.requires.fits c.if-e-eq-INDEPENDENT.true c.home_of-home.ensures in
     omega arith
 
@@ -77,12 +77,12 @@ bounds-has-home c =
 
 pub returns-then-e-eq-INDEPENDENT : goal.returns-then-e-eq-INDEPENDENT
 returns-then-e-eq-INDEPENDENT c ds p =
-    let f = is-line c.args.points.now (dep_in c.args.e) c.requires.fits c.if-e-eq-INDEPENDENT.true in
+    let f = is-line c.args.chart.now.points.now (dep_in c.args.e) c.requires.fits c.if-e-eq-INDEPENDENT.true in
     rw c.lower.ensures
     (line_entered (tall c.requires.points c.requires.charted) c.requires.lines_room p f c.home_of-home.ensures)
 
 pub returns-else-e-eq-INDEPENDENT : goal.returns-else-e-eq-INDEPENDENT
 returns-else-e-eq-INDEPENDENT c ds p =
-    let f = is-back c.args.points.now (dep_in c.args.e) c.requires.fits c.if-e-eq-INDEPENDENT.false in
+    let f = is-back c.args.chart.now.points.now (dep_in c.args.e) c.requires.fits c.if-e-eq-INDEPENDENT.false in
     rw c.lower-else-e-eq-INDEPENDENT.ensures
     (back_entered (tall c.requires.points c.requires.charted) c.requires.lines_room p f)

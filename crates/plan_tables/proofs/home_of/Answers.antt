@@ -5,7 +5,7 @@ use Rattle.plan_tables.specs.Charts.{Points, OwnIs, EndsAre}
 use Rattle.plan_tables.proofs.Climbing.{Call, climb_from_do, climb_from_owner, climb_falls}
 use Rattle.plan_tables.proofs.Climbing.{climb_on, climb_done}
 use Rattle.plan_tables.proofs.home_of.Goals as goal
-use Rattle.plan_tables.proofs.home_of.Goals.{then-points-s-eq-DO, else-points-s-eq-DO}
+use Rattle.plan_tables.proofs.home_of.Goals.{then-chart-s-eq-DO, else-chart-s-eq-DO}
 
 -- what the call has
 call :
@@ -17,9 +17,9 @@ pub loop-l-init : goal.loop-l-init
 loop-l-init c =
     let r = c.requires in
     let a = call r.points r.own_is r.ends_are r.s_lt_t r.t_in_bounds in
-    elim c.if-points-s-eq-DO.branch [
-      | then-points-s-eq-DO w ↦ rw w.l-is (climb_from_do a w.if-points-s-eq-DO.true)
-      | else-points-s-eq-DO w ↦ rw w.l-is (climb_from_owner a w.if-points-s-eq-DO.false)
+    elim c.if-chart-s-eq-DO.branch [
+      | then-chart-s-eq-DO w ↦ rw w.l-is (climb_from_do a w.if-chart-s-eq-DO.true)
+      | else-chart-s-eq-DO w ↦ rw w.l-is (climb_from_owner a w.if-chart-s-eq-DO.false)
     ]
 
 pub loop-l-smaller : goal.loop-l-smaller

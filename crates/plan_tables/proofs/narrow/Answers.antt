@@ -14,8 +14,8 @@ ended p h e = record { tall = record { points = p; heights_are = h }; stops = e 
 pub loop-d-init : goal.loop-d-init
 loop-d-init _ = limits_start
 
-pub overflow_mul-heights : goal.overflow_mul-heights
-overflow_mul-heights c =
+pub overflow_mul-chart : goal.overflow_mul-chart
+overflow_mul-chart c =
     let w = ended c.requires.points c.requires.heights_are c.requires.ends_are in
     let t = row_there w c.loop-d.d c.if-kind-eq-DO.true in
     omega arith

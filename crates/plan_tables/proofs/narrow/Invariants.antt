@@ -3,4 +3,4 @@ use Rattle.plan_tables.proofs.Limits.{LimitingAll}
 use Rattle.plan_tables.proofs.narrow.Given as goal
 
 abbrev pub invariant-loop-d : goal.invariant-loop-d
-invariant-loop-d l = LimitingAll l.points l.heights l.initial.limit l.d l.limit
+invariant-loop-d l = LimitingAll l.chart.points.now l.chart.heights.now l.initial.limit l.d l.limit

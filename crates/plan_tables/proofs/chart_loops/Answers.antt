@@ -1,7 +1,7 @@
 use native.Mathlib.Omega.{arith}
 use Rattle.plan_tables.proofs.Charting.{chart_start, chart_done, on_do, on_end, on_plain, height_there}
-use Rattle.plan_tables.proofs.chart.Goals as goal
-use Rattle.plan_tables.proofs.chart.Goals.{then-kind-eq-DO, else-kind-eq-DO+then-kind-eq-ENDDO, else-kind-eq-DO+else-kind-eq-ENDDO}
+use Rattle.plan_tables.proofs.chart_loops.Goals as goal
+use Rattle.plan_tables.proofs.chart_loops.Goals.{then-kind-eq-DO, else-kind-eq-DO+then-kind-eq-ENDDO, else-kind-eq-DO+else-kind-eq-ENDDO}
 
 pub loop-i-init : goal.loop-i-init
 loop-i-init c = chart_start c.requires.chart_room c.requires.unowned
