@@ -12,6 +12,7 @@ ghost use Rattle.argue_key.specs.Laps.{starting, last_back};
 ghost use Rattle.argue_sets.specs.Numbered.{line_set, Unnumbered, NumberSays, LaterSays};
 
 use paper_nests::{Dependence, Nest};
+use plan_tables::Chart;
 
 // The entries of a row, one for each point.
 const ROW: usize = 256;
@@ -25,29 +26,23 @@ pub struct Start {
 
 // Of each loop and each gap of its range the set of the first line that starts there and ends where the reach does, in
 // a table in which nothing is numbered.
-pub fn number_lines(
-    nest: Nest,
-    points: &[u8],
-    own: &[usize],
-    ends: &[usize],
-    heights: &[usize],
-    reach: &[u16],
-    sets: &mut [u16],
-)
+// What holds of the chart stands in clauses, here and in `number_line`: a type with an invariant would ask more.
+pub fn number_lines(nest: Nest, chart: &Chart, reach: &[u16], sets: &mut [u16])
     requires counted { IsCounted nest }
-    requires points { Points points.now }
-    requires all_fit { AllFit points.now (nest_in nest).deps }
-    requires charted { Charted points.now own.now ends.now heights.now }
-    requires chart_room { ChartRoom own.now ends.now heights.now }
+    requires points { Points chart.now.points.now }
+    requires all_fit { AllFit chart.now.points.now (nest_in nest).deps }
+    requires charted { Charted chart.now.points.now chart.now.own.now chart.now.ends.now chart.now.heights.now }
+    requires chart_room { ChartRoom chart.now.own.now chart.now.ends.now chart.now.heights.now }
     requires in_bounds { (TABLE ≤ length reach.now) × (TABLE ≤ length sets.old) }
-    requires rows { Rows points.now heights.now reach.now (reach_of points.now (nest_in nest).deps) }
+    requires rows { Rows chart.now.points.now chart.now.heights.now reach.now
+        (reach_of chart.now.points.now (nest_in nest).deps) }
     requires unnumbered { Unnumbered nest.many sets.old }
-    ensures { Rows points.now heights.now sets.new
-        (line_set points.now (nest_in nest).deps) }
+    ensures { Rows chart.now.points.now chart.now.heights.now sets.new
+        (line_set chart.now.points.now (nest_in nest).deps) }
 {
     for i in (0..nest.many).rev() {
         let e = nest.deps[i];
-        number_line(points, own, ends, heights, reach, sets, e, (i + 2) as u16);
+        number_line(chart, reach, sets, e, (i + 2) as u16);
     }
 }
 
@@ -68,22 +63,13 @@ pub fn last_back(nest: Nest, d: usize, f: usize) -> Start
 }
 
 // One dependence, which takes its line's place if it ends where the reach does.
-fn number_line(
-    points: &[u8],
-    own: &[usize],
-    ends: &[usize],
-    heights: &[usize],
-    reach: &[u16],
-    sets: &mut [u16],
-    e: Dependence,
-    set: u16,
-)
-    requires points { Points points.now }
-    requires charted { Charted points.now own.now ends.now heights.now }
-    requires chart_room { ChartRoom own.now ends.now heights.now }
+fn number_line(chart: &Chart, reach: &[u16], sets: &mut [u16], e: Dependence, set: u16)
+    requires points { Points chart.now.points.now }
+    requires charted { Charted chart.now.points.now chart.now.own.now chart.now.ends.now chart.now.heights.now }
+    requires chart_room { ChartRoom chart.now.own.now chart.now.ends.now chart.now.heights.now }
     requires in_bounds { (TABLE ≤ length reach.now) × (TABLE ≤ length sets.old) }
-    requires fits { Fits points.now (dep_in e) }
-    ensures { NumberSays points.now heights.now reach.now (dep_in e) set
+    requires fits { Fits chart.now.points.now (dep_in e) }
+    ensures { NumberSays chart.now.points.now chart.now.heights.now reach.now (dep_in e) set
         sets.old sets.new }
 {
     if e.kind != paper_nests::INDEPENDENT {
@@ -91,8 +77,8 @@ fn number_line(
     }
     let s = e.s as usize;
     let t = e.t as usize;
-    let home = plan_tables::home_of(points, own, ends, s, t);
-    let place = heights[home] * ROW + (s + 1);
+    let home = plan_tables::home_of(chart, s, t);
+    let place = chart.heights[home] * ROW + (s + 1);
     if reach[place] as usize == t {
         sets[place] = set;
     }

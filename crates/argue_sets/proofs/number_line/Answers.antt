@@ -29,15 +29,15 @@ returns-then-e-ne-INDEPENDENT c = other_passed c.if-e-ne-INDEPENDENT.true
 
 pub home_of-home-requires : goal.home_of-home-requires
 home_of-home-requires c =
-    let f = is-line c.args.points.now (dep_in c.args.e) c.requires.fits c.if-e-ne-INDEPENDENT.false in record { points = c.requires.points; own_is = c.requires.charted.own_is; ends_are = c.requires.charted.ends_are; in_bounds = c.requires.chart_room.own_room; in_bounds_2 = c.requires.chart_room.ends_room; s_lt_t = f.forward; t_in_bounds = f.target_there }
+    let f = is-line c.args.chart.now.points.now (dep_in c.args.e) c.requires.fits c.if-e-ne-INDEPENDENT.false in record { points = c.requires.points; own_is = c.requires.charted.own_is; ends_are = c.requires.charted.ends_are; in_bounds = c.requires.chart_room.own_room; in_bounds_2 = c.requires.chart_room.ends_room; s_lt_t = f.forward; t_in_bounds = f.target_there }
 
-pub offset_bounds-heights-home : goal.offset_bounds-heights-home
-offset_bounds-heights-home c =
+pub offset_bounds-chart-home : goal.offset_bounds-chart-home
+offset_bounds-chart-home c =
     let z = homed c.requires.points c.requires.charted c.requires.fits c.if-e-ne-INDEPENDENT.false c.home_of-home.ensures in
     omega arith
 
-pub bounds-heights-home : goal.bounds-heights-home
-bounds-heights-home c =
+pub bounds-chart-home : goal.bounds-chart-home
+bounds-chart-home c =
     let z = homed c.requires.points c.requires.charted c.requires.fits c.if-e-ne-INDEPENDENT.false c.home_of-home.ensures in
     omega (arith, c.requires.chart_room.heights_room)
 
@@ -63,7 +63,7 @@ bounds-reach-place c =
 
 pub returns-else-reach-place : goal.returns-else-reach-place
 returns-else-reach-place c =
-    let line = is-line c.args.points.now (dep_in c.args.e) c.requires.fits c.if-e-ne-INDEPENDENT.false in
+    let line = is-line c.args.chart.now.points.now (dep_in c.args.e) c.requires.fits c.if-e-ne-INDEPENDENT.false in
     line_passed (tall c.requires.points c.requires.charted) line c.home_of-home.ensures c.if-reach-place.false
 
 pub offset_bounds-sets-place : goal.offset_bounds-sets-place
@@ -78,6 +78,6 @@ bounds-sets-place c =
 
 pub returns-then-reach-place : goal.returns-then-reach-place
 returns-then-reach-place c =
-    let line = is-line c.args.points.now (dep_in c.args.e) c.requires.fits c.if-e-ne-INDEPENDENT.false in
+    let line = is-line c.args.chart.now.points.now (dep_in c.args.e) c.requires.fits c.if-e-ne-INDEPENDENT.false in
     line_put (tall c.requires.points c.requires.charted) line c.home_of-home.ensures c.if-reach-place.true
     c.requires.in_bounds.1

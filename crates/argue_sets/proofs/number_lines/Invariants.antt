@@ -4,4 +4,5 @@ use Rattle.argue_sets.proofs.Numbering.{Numbering}
 use Rattle.argue_sets.proofs.number_lines.Given as goal
 
 abbrev pub invariant-loop-i : goal.invariant-loop-i
-invariant-loop-i l = Numbering l.points (nest_in l.nest).deps l.heights l.initial.sets l.i l.sets
+invariant-loop-i l =
+    Numbering l.chart.points.now (nest_in l.nest).deps l.chart.heights.now l.initial.sets l.i l.sets
