@@ -9,17 +9,22 @@ ghost use Rattle.plan_lay.specs.Laid.{LayRoom, Choices, PutSays, LaySays};
 
 use paper_placements::Placement;
 use plan_rows::ROW;
+use plan_tables::Chart;
+
+// The rows of all loops, a table of each kind: the reaches and the limits, and the fronts and the choices made of them.
+#[derive(Clone, Copy)]
+pub struct Rows<'a> {
+    pub reach: &'a [u16],
+    pub limit: &'a [u16],
+    pub left: &'a [u16],
+    pub choice: &'a [u16],
+}
 
 // What the loop d lays for the suffix that starts at q, added to a placement. The loops inside write to their own part
 // of the row that is swept, which the sweep has passed by then.
 pub fn lay(
-    points: &[u8],
-    own: &[usize],
-    ends: &[usize],
-    reach: &[u16],
-    limit: &[u16],
-    left: &[u16],
-    choice: &[u16],
+    chart: &Chart,
+    rows: &Rows,
     need: &mut [usize],
     d: usize,
     q: usize,
@@ -27,24 +32,25 @@ pub fn lay(
     key: Placement,
 ) -> Placement
     requires in_bounds { 256 ≤ length need.old }
-    requires charts { Charts points.now own.now ends.now }
-    requires lay_room { LayRoom reach.now limit.now left.now choice.now }
-    requires d_value { is_do points.now d ≡ true }
-    requires has_height { HasHeight points.now d h }
+    requires charts { Charts chart.now.points.now chart.now.own.now chart.now.ends.now }
+    requires lay_room { LayRoom rows.now.reach.now rows.now.limit.now rows.now.left.now rows.now.choice.now }
+    requires d_value { is_do chart.now.points.now d ≡ true }
+    requires has_height { HasHeight chart.now.points.now d h }
     requires d_lt_q { d < q }
-    requires q_bound { q ≤ end_of points.now d }
-    requires choices { Choices points.now left.now choice.now d (end_of points.now d) }
-    ensures lay_says { LaySays points.now reach.now limit.now
-        left.now choice.now d q key.words result.words }
-    ensures kept { Kept need.old need.new d (end_of points.now d) }
+    requires q_bound { q ≤ end_of chart.now.points.now d }
+    requires choices { Choices chart.now.points.now rows.now.left.now rows.now.choice.now d
+        (end_of chart.now.points.now d) }
+    ensures lay_says { LaySays chart.now.points.now rows.now.reach.now rows.now.limit.now
+        rows.now.left.now rows.now.choice.now d q key.words result.words }
+    ensures kept { Kept need.old need.new d (end_of chart.now.points.now d) }
 {
     let base = h * ROW;
-    if left[base + q] == 0 {
+    if rows.left[base + q] == 0 {
         return key;
     }
-    let e = ends[d];
-    let last = choice[base + q] as usize;
-    plan_rows::copy_row(reach, base, d, e, need);
+    let e = chart.ends[d];
+    let last = rows.choice[base + q] as usize;
+    plan_rows::copy_row(rows.reach, base, d, e, need);
     need[last] = need[last].min(e);
     let mut k = key;
     let mut c = 0;
@@ -52,24 +58,11 @@ pub fn lay(
     let mut p = e;
     while d < p {
         let before = p - 1;
-        if points[before] == paper_nests::ENDDO {
-            let l = own[before];
-            let s = plan_sweeps::step_child(need, left, base - ROW, l, before, c, f);
+        if chart.points[before] == paper_nests::ENDDO {
+            let l = chart.own[before];
+            let s = plan_sweeps::step_child(need, rows.left, base - ROW, l, before, c, f);
             let more = put_where(k, c, s.c, p);
-            k = lay(
-                points,
-                own,
-                ends,
-                reach,
-                limit,
-                left,
-                choice,
-                need,
-                l,
-                s.ask,
-                h - 1,
-                more,
-            );
+            k = lay(chart, rows, need, l, s.ask, h - 1, more);
             c = s.c;
             f = s.f;
             p = l;
@@ -82,7 +75,7 @@ pub fn lay(
             p = before;
         }
     }
-    put_where(k, limit[base + last] as usize, f, d + 1)
+    put_where(k, rows.limit[base + last] as usize, f, d + 1)
 }
 
 // The placement with gap g as well where a is below b.

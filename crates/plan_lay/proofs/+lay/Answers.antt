@@ -43,31 +43,31 @@ overflow_add-base t c =
     let a = called r.charts r.lay_room r.d_value r.has_height r.d_lt_q r.q_bound r.choices in
     omega arith
 
-pub offset_bounds-left-base : goal.offset_bounds-left-base
-offset_bounds-left-base t c =
+pub offset_bounds-rows-base : goal.offset_bounds-rows-base
+offset_bounds-rows-base t c =
     let r = c.requires in
     let a = called r.charts r.lay_room r.d_value r.has_height r.d_lt_q r.q_bound r.choices in
     omega arith
 
-pub bounds-left-base : goal.bounds-left-base
-bounds-left-base t c =
+pub bounds-rows-base : goal.bounds-rows-base
+bounds-rows-base t c =
     let r = c.requires in
     let a = called r.charts r.lay_room r.d_value r.has_height r.d_lt_q r.q_bound r.choices in
     omega arith
 
-pub returns-then-left-base-eq0 : goal.returns-then-left-base-eq0
-returns-then-left-base-eq0 t c =
+pub returns-then-rows-base-eq0 : goal.returns-then-rows-base-eq0
+returns-then-rows-base-eq0 t c =
     let r = c.requires in
-    let a = called r.charts r.lay_room r.d_value r.has_height r.d_lt_q r.q_bound r.choices in record { lay_says = blank a c.args.key.words c.if-left-base-eq0.true; kept = λ i h. refl }
+    let a = called r.charts r.lay_room r.d_value r.has_height r.d_lt_q r.q_bound r.choices in record { lay_says = blank a c.args.key.words c.if-rows-base-eq0.true; kept = λ i h. refl }
 
-pub offset_bounds-ends-d : goal.offset_bounds-ends-d
-offset_bounds-ends-d t c =
+pub offset_bounds-chart-d : goal.offset_bounds-chart-d
+offset_bounds-chart-d t c =
     let r = c.requires in
     let a = called r.charts r.lay_room r.d_value r.has_height r.d_lt_q r.q_bound r.choices in
     omega arith
 
-pub bounds-ends-d : goal.bounds-ends-d
-bounds-ends-d t c =
+pub bounds-chart-d : goal.bounds-chart-d
+bounds-chart-d t c =
     let r = c.requires in
     let a = called r.charts r.lay_room r.d_value r.has_height r.d_lt_q r.q_bound r.choices in
     omega arith
@@ -78,14 +78,14 @@ overflow_add-last t c =
     let a = called r.charts r.lay_room r.d_value r.has_height r.d_lt_q r.q_bound r.choices in
     omega arith
 
-pub offset_bounds-choice-base : goal.offset_bounds-choice-base
-offset_bounds-choice-base t c =
+pub offset_bounds-rows-base-2 : goal.offset_bounds-rows-base-2
+offset_bounds-rows-base-2 t c =
     let r = c.requires in
     let a = called r.charts r.lay_room r.d_value r.has_height r.d_lt_q r.q_bound r.choices in
     omega arith
 
-pub bounds-choice-base : goal.bounds-choice-base
-bounds-choice-base t c =
+pub bounds-rows-base-2 : goal.bounds-rows-base-2
+bounds-rows-base-2 t c =
     let r = c.requires in
     let a = called r.charts r.lay_room r.d_value r.has_height r.d_lt_q r.q_bound r.choices in
     omega arith
@@ -100,28 +100,28 @@ pub offset_bounds-need-last : goal.offset_bounds-need-last
 offset_bounds-need-last t c =
     let r = c.requires in
     let a = called r.charts r.lay_room r.d_value r.has_height r.d_lt_q r.q_bound r.choices in
-    let x = picked a c.if-left-base-eq0.false in
+    let x = picked a c.if-rows-base-eq0.false in
     omega arith
 
 pub bounds-need-last : goal.bounds-need-last
 bounds-need-last t c =
     let r = c.requires in
     let a = called r.charts r.lay_room r.d_value r.has_height r.d_lt_q r.q_bound r.choices in
-    let x = picked a c.if-left-base-eq0.false in
+    let x = picked a c.if-rows-base-eq0.false in
     omega (arith, c.requires.in_bounds, a.short, a.charts.few, c.copy_row.auto.xs)
 
 pub offset_bounds-need-last-2 : goal.offset_bounds-need-last-2
 offset_bounds-need-last-2 t c =
     let r = c.requires in
     let a = called r.charts r.lay_room r.d_value r.has_height r.d_lt_q r.q_bound r.choices in
-    let x = picked a c.if-left-base-eq0.false in
+    let x = picked a c.if-rows-base-eq0.false in
     omega arith
 
 pub bounds-need-last-2 : goal.bounds-need-last-2
 bounds-need-last-2 t c =
     let r = c.requires in
     let a = called r.charts r.lay_room r.d_value r.has_height r.d_lt_q r.q_bound r.choices in
-    let x = picked a c.if-left-base-eq0.false in
+    let x = picked a c.if-rows-base-eq0.false in
     omega (arith, c.requires.in_bounds, a.short, a.charts.few, c.copy_row.auto.xs)
 
 pub overflow_add-f : goal.overflow_add-f
@@ -136,20 +136,20 @@ loop-p-init t c =
     let a = called r.charts r.lay_room r.d_value r.has_height r.d_lt_q r.q_bound r.choices in
     begin a
 
-pub bounds-points-before : goal.bounds-points-before
-bounds-points-before t c =
+pub bounds-chart-before : goal.bounds-chart-before
+bounds-chart-before t c =
     let r = c.requires in
     let a = called r.charts r.lay_room r.d_value r.has_height r.d_lt_q r.q_bound r.choices in
     omega arith
 
-pub offset_bounds-own-before : goal.offset_bounds-own-before
-offset_bounds-own-before t c =
+pub offset_bounds-chart-before : goal.offset_bounds-chart-before
+offset_bounds-chart-before t c =
     let r = c.requires in
     let a = called r.charts r.lay_room r.d_value r.has_height r.d_lt_q r.q_bound r.choices in
     omega arith
 
-pub bounds-own-before : goal.bounds-own-before
-bounds-own-before t c =
+pub bounds-chart-before-then-chart-before-eq-ENDDO : goal.bounds-chart-before-then-chart-before-eq-ENDDO
+bounds-chart-before-then-chart-before-eq-ENDDO t c =
     let r = c.requires in
     let a = called r.charts r.lay_room r.d_value r.has_height r.d_lt_q r.q_bound r.choices in
     omega arith
@@ -187,22 +187,22 @@ lay-k-requires t c =
       omega (arith),
       (
         room,
-        child_asked a c.loop-p.invariant c.loop-p-test.true c.if-points-before-eq-ENDDO.true
+        child_asked a c.loop-p.invariant c.loop-p-test.true c.if-chart-before-eq-ENDDO.true
             c.step_child-s.ensures,
       ),
     )
 
-pub loop-p-smaller-then-points-before-eq-ENDDO : goal.loop-p-smaller-then-points-before-eq-ENDDO
-loop-p-smaller-then-points-before-eq-ENDDO t c =
+pub loop-p-smaller-then-chart-before-eq-ENDDO : goal.loop-p-smaller-then-chart-before-eq-ENDDO
+loop-p-smaller-then-chart-before-eq-ENDDO t c =
     let r = c.requires in
     let a = called r.charts r.lay_room r.d_value r.has_height r.d_lt_q r.q_bound r.choices in
-    omega (arith, child_long a c.loop-p.invariant c.loop-p-test.true c.if-points-before-eq-ENDDO.true)
+    omega (arith, child_long a c.loop-p.invariant c.loop-p-test.true c.if-chart-before-eq-ENDDO.true)
 
-pub loop-p-preserved-then-points-before-eq-ENDDO : goal.loop-p-preserved-then-points-before-eq-ENDDO
-loop-p-preserved-then-points-before-eq-ENDDO t c =
+pub loop-p-preserved-then-chart-before-eq-ENDDO : goal.loop-p-preserved-then-chart-before-eq-ENDDO
+loop-p-preserved-then-chart-before-eq-ENDDO t c =
     let r = c.requires in
     let a = called r.charts r.lay_room r.d_value r.has_height r.d_lt_q r.q_bound r.choices in
-    on_child a c.loop-p.invariant c.loop-p-test.true c.if-points-before-eq-ENDDO.true
+    on_child a c.loop-p.invariant c.loop-p-test.true c.if-chart-before-eq-ENDDO.true
     c.step_child-s.ensures c.put_where-more.result.words c.put_where-more.ensures c.lay-k.ensures.lay_says c.lay-k.auto.need
     c.lay-k.ensures.kept
 
@@ -235,34 +235,34 @@ pub loop-p-preserved-then-need-p : goal.loop-p-preserved-then-need-p
 loop-p-preserved-then-need-p t c =
     let r = c.requires in
     let a = called r.charts r.lay_room r.d_value r.has_height r.d_lt_q r.q_bound r.choices in
-    on_put a c.loop-p.invariant c.loop-p-test.true c.if-points-before-eq-ENDDO.false c.if-need-p.true
+    on_put a c.loop-p.invariant c.loop-p-test.true c.if-chart-before-eq-ENDDO.false c.if-need-p.true
     c.put-k.ensures
 
 pub loop-p-preserved : goal.loop-p-preserved
 loop-p-preserved t c =
     let r = c.requires in
     let a = called r.charts r.lay_room r.d_value r.has_height r.d_lt_q r.q_bound r.choices in
-    on_skip a c.loop-p.invariant c.loop-p-test.true c.if-points-before-eq-ENDDO.false c.if-need-p.false
+    on_skip a c.loop-p.invariant c.loop-p-test.true c.if-chart-before-eq-ENDDO.false c.if-need-p.false
 
 pub overflow_add-base-2 : goal.overflow_add-base-2
 overflow_add-base-2 t c =
     let r = c.requires in
     let a = called r.charts r.lay_room r.d_value r.has_height r.d_lt_q r.q_bound r.choices in
-    let x = picked a c.if-left-base-eq0.false in
+    let x = picked a c.if-rows-base-eq0.false in
     omega arith
 
-pub offset_bounds-limit-base : goal.offset_bounds-limit-base
-offset_bounds-limit-base t c =
+pub offset_bounds-rows-base-3 : goal.offset_bounds-rows-base-3
+offset_bounds-rows-base-3 t c =
     let r = c.requires in
     let a = called r.charts r.lay_room r.d_value r.has_height r.d_lt_q r.q_bound r.choices in
-    let x = picked a c.if-left-base-eq0.false in
+    let x = picked a c.if-rows-base-eq0.false in
     omega arith
 
-pub bounds-limit-base : goal.bounds-limit-base
-bounds-limit-base t c =
+pub bounds-rows-base-3 : goal.bounds-rows-base-3
+bounds-rows-base-3 t c =
     let r = c.requires in
     let a = called r.charts r.lay_room r.d_value r.has_height r.d_lt_q r.q_bound r.choices in
-    let x = picked a c.if-left-base-eq0.false in
+    let x = picked a c.if-rows-base-eq0.false in
     omega arith
 
 pub overflow_add-d : goal.overflow_add-d
@@ -284,14 +284,14 @@ pub returns : goal.returns
 returns t c =
     let r = c.requires in
     let a = called r.charts r.lay_room r.d_value r.has_height r.d_lt_q r.q_bound r.choices in
-    let x = picked a c.if-left-base-eq0.false in
+    let x = picked a c.if-rows-base-eq0.false in
     let copy = c.copy_row.new.xs in
     record {
-      lay_says = done a c.put_where.result.words c.if-left-base-eq0.false
+      lay_says = done a c.put_where.result.words c.if-rows-base-eq0.false
           (lowered _ copy r.in_bounds c.copy_row.auto.xs c.copy_row.ensures.copied c.min.ensures) c.loop-p.invariant
           (omega (arith, c.loop-p-test)) c.put_where.ensures;
       kept = λ i h.
-          lowered_kept c.args.need.now copy c.loop-p.need c.args.d (at c.args.ends.now c.args.d)
-          (row c.args.choice.now (c.args.h * 256) c.args.q) c.min.result x.0 x.1 c.copy_row.ensures.kept
+          lowered_kept c.args.need.now copy c.loop-p.need c.args.d (at c.args.chart.now.ends.now c.args.d)
+          (row c.args.rows.now.choice.now (c.args.h * 256) c.args.q) c.min.result x.0 x.1 c.copy_row.ensures.kept
           c.loop-p.invariant.shared.kept i (λ j. omega (arith, h j, a.e_is));
     }

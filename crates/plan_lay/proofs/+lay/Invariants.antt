@@ -5,7 +5,8 @@ use Rattle.plan_lay.proofs.+lay.Given as goal
 
 abbrev pub invariant-loop-p : goal.invariant-loop-p
 invariant-loop-p l =
-    Laying l.points l.own l.ends l.reach l.limit l.left l.choice l.d l.h l.initial.need l.need l.initial.k.words l.k.words l.c l.f l.p
+    Laying l.chart.points.now l.chart.own.now l.chart.ends.now l.rows.reach.now l.rows.limit.now l.rows.left.now
+    l.rows.choice.now l.d l.h l.initial.need l.need l.initial.k.words l.k.words l.c l.f l.p
 
 abbrev pub decreases-loop-p : goal.decreases-loop-p
 decreases-loop-p l = l.p
