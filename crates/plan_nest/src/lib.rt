@@ -8,7 +8,9 @@ ghost use Rattle.plan_nest.specs.Planned.{PlanSays};
 
 use paper_nests::Nest;
 use paper_placements::Placement;
+use plan_lay::Rows;
 use plan_rows::ROW;
+use plan_tables::Chart;
 
 // A table has a row for each height, and one that is spare.
 pub const TABLE: usize = 2304;
@@ -37,7 +39,12 @@ pub fn plan(nest: Nest) -> Placement
         &mut limit,
         &mut has,
     );
-    let points = nest.points();
+    let chart = Chart {
+        points: nest.points(),
+        own: &own,
+        ends: &ends,
+        heights: &heights,
+    };
     // Of a loop with nothing to cut these are 0, as far as the points go.
     let mut left = [high; TABLE];
     let mut choice = [high; TABLE];
@@ -49,9 +56,9 @@ pub fn plan(nest: Nest) -> Placement
     let mut fs = [0; ROW];
     let mut link = [0; ROW];
     plan_settle::settle(
-        points,
-        &own,
-        &ends,
+        chart.points,
+        chart.own,
+        chart.ends,
         &reach,
         &limit,
         &has,
@@ -65,18 +72,11 @@ pub fn plan(nest: Nest) -> Placement
         Nest::DEPTH,
     );
     let none = Placement::empty();
-    plan_lay::lay(
-        points,
-        &own,
-        &ends,
-        &reach,
-        &limit,
-        &left,
-        &choice,
-        &mut need,
-        0,
-        1,
-        Nest::DEPTH,
-        none,
-    )
+    let rows = Rows {
+        reach: &reach,
+        limit: &limit,
+        left: &left,
+        choice: &choice,
+    };
+    plan_lay::lay(&chart, &rows, &mut need, 0, 1, Nest::DEPTH, none)
 }

@@ -64,7 +64,7 @@ settle-requires c =
     let reach = c.prepare.new.reach in
     let limit = c.prepare.new.limit in
     let has = c.prepare.new.has in
-    rw c.points-points.ensures record {
+    rw c.points.ensures record {
       lists_room = record { need_room = omega arith; cs_room = omega arith; fs_room = omega arith; link_room = omega arith };
       charts = charts ps ds own ends heights reach limit has w c.prepare.ensures (omega (arith, c.prepare.auto.own))
           (omega (arith, c.prepare.auto.ends));
@@ -95,7 +95,7 @@ lay-requires c =
     let has = c.prepare.new.has in
     let left = c.settle.new.left in
     let choice = c.settle.new.choice in
-    rw c.points-points.ensures record {
+    rw c.points.ensures record {
       in_bounds = omega (arith, c.settle.auto.need);
       charts = charts ps ds own ends heights reach limit has w c.prepare.ensures (omega (arith, c.prepare.auto.own))
           (omega (arith, c.prepare.auto.ends));
@@ -109,7 +109,7 @@ lay-requires c =
       has_height = top_height ps;
       d_lt_q = omega arith;
       q_bound = end-after ps w.shape 0 (starts_with_do ps w.shape);
-      choices = choices ps ds own ends heights reach limit has w c.prepare.ensures left choice (rw c.points-points.ensures at c.settle.ensures.rows);
+      choices = choices ps ds own ends heights reach limit has w c.prepare.ensures left choice (rw c.points.ensures at c.settle.ensures.rows);
     }
 
 pub returns : goal.returns
@@ -127,5 +127,5 @@ returns c =
     let left = c.settle.new.left in
     let choice = c.settle.new.choice in
     key ps ds own ends heights reach limit has w c.prepare.ensures left choice
-    (rw c.points-points.ensures at c.settle.ensures.rows) c.empty-none.result.words c.lay.result.words
-    c.empty-none.ensures (rw c.points-points.ensures at c.lay.ensures.lay_says)
+    (rw c.points.ensures at c.settle.ensures.rows) c.empty-none.result.words c.lay.result.words
+    c.empty-none.ensures (rw c.points.ensures at c.lay.ensures.lay_says)
