@@ -8,17 +8,25 @@ ghost use Rattle.plan_rows.specs.Made.{Copied, Cleared, RowsCleared, BetterSays,
 ghost use Rattle.plan_rows.specs.Made.{RowRoom, ListsRoom, RowMade};
 
 use plan_starts::Front;
+use plan_sweeps::Inside;
+use plan_tables::Chart;
 
 // The places of a row, one for each point.
 pub const ROW: usize = 256;
 
+// The lines of all loops: a row for each height of where they end and of their limits, and which loops have any.
+#[derive(Clone, Copy)]
+pub struct Lines<'a> {
+    pub reach: &'a [u16],
+    pub limit: &'a [u16],
+    pub has: &'a [usize],
+}
+
 // The row of the loop d with its ENDDO e, from the row of the loops directly inside it, which is the one before; four
 // lists are lent for what is made on the way.
 pub fn make_row(
-    points: &[u8],
-    own: &[usize],
-    reach: &[u16],
-    limit: &[u16],
+    chart: &Chart,
+    lines: &Lines,
     left: &mut [u16],
     choice: &mut [u16],
     need: &mut [usize],
@@ -30,9 +38,10 @@ pub fn make_row(
     e: usize,
     some: usize,
 )
-    requires row_room { RowRoom points.now own.now reach.now limit.now left.old choice.old base d e }
+    requires row_room { RowRoom chart.now.points.now chart.now.own.now lines.now.reach.now lines.now.limit.now
+        left.old choice.old base d e }
     requires lists_room { ListsRoom need.old cs.old fs.old link.old }
-    ensures { RowMade points.now own.now reach.now limit.now
+    ensures { RowMade chart.now.points.now chart.now.own.now lines.now.reach.now lines.now.limit.now
         left.old choice.old left.new choice.new base d e some }
 {
     if some == 0 {
@@ -40,10 +49,15 @@ pub fn make_row(
         clear(choice, base, d, e);
         return;
     }
-    let kids = base - ROW;
-    plan_starts::mark(points, own, reach, base, left, kids, d, e, need);
-    let first = plan_starts::follow_all(points, own, need, left, kids, d, e, cs, fs, link);
-    let m = values(limit, base, d, e, first, cs, fs);
+    let inside = Inside {
+        points: chart.points,
+        own: chart.own,
+        left,
+        kids: base - ROW,
+    };
+    plan_starts::mark(&inside, lines.reach, base, d, e, need);
+    let first = plan_starts::follow_all(&inside, need, d, e, cs, fs, link);
+    let m = values(lines.limit, base, d, e, first, cs, fs);
     choose(cs, fs, m, left, choice, base, d, e);
 }
 
