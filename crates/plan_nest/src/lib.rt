@@ -9,7 +9,7 @@ ghost use Rattle.plan_nest.specs.Planned.{PlanSays};
 use paper_nests::Nest;
 use paper_placements::Placement;
 use plan_lay::Rows;
-use plan_rows::ROW;
+use plan_rows::{Lines, ROW};
 use plan_tables::Chart;
 
 // A table has a row for each height, and one that is spare.
@@ -45,6 +45,11 @@ pub fn plan(nest: Nest) -> Placement
         ends: &ends,
         heights: &heights,
     };
+    let lines = Lines {
+        reach: &reach,
+        limit: &limit,
+        has: &has,
+    };
     // Of a loop with nothing to cut these are 0, as far as the points go.
     let mut left = [high; TABLE];
     let mut choice = [high; TABLE];
@@ -56,12 +61,8 @@ pub fn plan(nest: Nest) -> Placement
     let mut fs = [0; ROW];
     let mut link = [0; ROW];
     plan_settle::settle(
-        chart.points,
-        chart.own,
-        chart.ends,
-        &reach,
-        &limit,
-        &has,
+        &chart,
+        &lines,
         &mut left,
         &mut choice,
         &mut need,

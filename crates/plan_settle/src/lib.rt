@@ -6,15 +6,15 @@ ghost use Rattle.paper_nests.specs.Loops.{is_do, end_of};
 ghost use Rattle.plan_rows.specs.Made.{ListsRoom};
 ghost use Rattle.plan_settle.specs.Settled.{HasHeight, Charts, Room, Unset, QuietSays, SettleSays};
 
+use plan_rows::Lines;
+use plan_tables::Chart;
+
 // A loop's row is made after the rows of the loops directly inside it; all rows are made in the same four lists. Where
-// nothing is to be cut in a loop nor inside it, all its rows stay 0.
+// nothing is to be cut in a loop nor inside it, all its rows stay 0. The lists that are written stay beside each other: a
+// struct of them would need a clause for each field that it keeps its reference, which is no plainer.
 pub fn settle(
-    points: &[u8],
-    own: &[usize],
-    ends: &[usize],
-    reach: &[u16],
-    limit: &[u16],
-    has: &[usize],
+    chart: &Chart,
+    lines: &Lines,
     left: &mut [u16],
     choice: &mut [u16],
     need: &mut [usize],
@@ -25,50 +25,35 @@ pub fn settle(
     h: usize,
 )
     requires lists_room { ListsRoom need.old cs.old fs.old link.old }
-    requires charts { Charts points.now own.now ends.now }
-    requires room { Room reach.now limit.now has.now left.old choice.old }
-    requires d_value { is_do points.now d ≡ true }
-    requires has_height { HasHeight points.now d h }
-    requires unset { Unset left.old d (end_of points.now d) }
-    requires unset_2 { Unset choice.old d (end_of points.now d) }
-    ensures { SettleSays points.now reach.now limit.now has.now
+    requires charts { Charts chart.now.points.now chart.now.own.now chart.now.ends.now }
+    requires room { Room lines.now.reach.now lines.now.limit.now lines.now.has.now left.old choice.old }
+    requires d_value { is_do chart.now.points.now d ≡ true }
+    requires has_height { HasHeight chart.now.points.now d h }
+    requires unset { Unset left.old d (end_of chart.now.points.now d) }
+    requires unset_2 { Unset choice.old d (end_of chart.now.points.now d) }
+    ensures { SettleSays chart.now.points.now lines.now.reach.now lines.now.limit.now lines.now.has.now
         left.old choice.old left.new choice.new d }
 {
-    let e = ends[d];
-    if is_quiet(has, d, e) {
+    let e = chart.ends[d];
+    if is_quiet(lines.has, d, e) {
         return;
     }
     let base = h * plan_rows::ROW;
     let kids = base - plan_rows::ROW;
-    let mut some = has[d];
+    let mut some = lines.has[d];
     let mut i = d + 1;
     while i < e {
-        if points[i] == paper_nests::DO {
-            settle(
-                points,
-                own,
-                ends,
-                reach,
-                limit,
-                has,
-                left,
-                choice,
-                need,
-                cs,
-                fs,
-                link,
-                i,
-                h - 1,
-            );
+        if chart.points[i] == paper_nests::DO {
+            settle(chart, lines, left, choice, need, cs, fs, link, i, h - 1);
             let first = left[kids + (i + 1)] as usize;
             some = plan_sweeps::first_or(first, some);
-            i = ends[i] + 1;
+            i = chart.ends[i] + 1;
         } else {
             i += 1;
         }
     }
     plan_rows::make_row(
-        points, own, reach, limit, left, choice, need, cs, fs, link, base, d, e, some,
+        chart, lines, left, choice, need, cs, fs, link, base, d, e, some,
     );
 }
 

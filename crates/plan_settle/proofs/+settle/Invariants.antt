@@ -8,7 +8,9 @@ use Rattle.plan_settle.proofs.+settle.Given as goal
 
 abbrev pub invariant-loop-i : goal.invariant-loop-i
 invariant-loop-i l =
-    Settling l.points l.reach l.limit l.has l.initial.left l.initial.choice l.d l.left l.choice l.some l.i ×
+    let n = l.lines in
+    Settling l.chart.points.now n.reach.now n.limit.now n.has.now l.initial.left l.initial.choice l.d
+    l.left l.choice l.some l.i ×
     Lent l.initial.need l.initial.cs l.initial.fs l.initial.link l.need l.cs l.fs l.link
 
 abbrev pub decreases-loop-i : goal.decreases-loop-i
