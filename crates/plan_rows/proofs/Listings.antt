@@ -1,5 +1,5 @@
 -- The values of all suffixes, one after the other, and the least number of barriers among them.
--- Main statements: `listing_none`, `listing_more`.
+-- Main statement: `listing_more`.
 use mathlib.Core.Path.{◌≡◌, refl, ◌∙◌}
 use mathlib.Core.Bool.{◌||◌}
 use mathlib.Core.List.{List}
@@ -15,14 +15,6 @@ use Rattle.laws.proofs.Tests.{le_or}
 use Rattle.laws.proofs.Stores.{stored}
 use Rattle.plan_method.specs.Sweep.{State, least}
 use Rattle.plan_rows.specs.Valued.{Valued, Listing}
-
-pub listing_none : (v : ℕ → State) (cs fs : List ℕ) (d m : ℕ) → Listing v cs fs d d m
-listing_none v cs fs d m =
-    record {
-      c_at = λ q a b. absurd (omega arith);
-      f_at = λ q a b. absurd (omega arith);
-      least_is = λ h. absurd (omega arith);
-    }
 
 Least-more
     : (v : ℕ → State) (d p m c m' : ℕ) → (d < p → m ≡ least (λ q. (v q).c) d p) → c ≡ (v (p + 1)).c → m' ≡

@@ -1,12 +1,12 @@
 -- The row of a loop: the fronts chosen from its values where there is something to cut, 0 where there is nothing.
--- Main definition: `Values`. Main statements: `starts_room`, `values_room`, `values_are`, `made_Some`, `made_none`.
+-- Main definition: `Values`. Main statements: `values_are`, `made_Some`, `made_none`.
 use mathlib.Core.Path.{◌≡◌, refl, sym, ◌∙◌, ap, fun_ext}
 use mathlib.Core.Bool.{Bool, true, false, ◌&&◌, ◌||◌}
 use mathlib.Core.List.{List}
 use Prim.Native.Nat.{ℕ, zero, suc, ◌+◌, ◌-◌, ◌≤◌, ◌<◌}
 use native.Mathlib.Omega.{arith}
 use lib.Dec.{eqb, ltb, leb}
-use lib.ListN.{length, drop}
+use lib.ListN.{drop}
 use lib.Seq.{get_or-drop}
 use borrow.Author.Tests.{lt-ltb, le-ltb, ltb-false}
 use Rattle.laws.specs.Choice.{pick}
@@ -15,8 +15,8 @@ use Rattle.plan_method.specs.Sweep.{Loops, Lines, Tables, State, Front, bare, fr
 use Rattle.plan_method.specs.Sweep.{least, some_of, cost_of}
 use Rattle.plan_method.specs.Sweep.{front_of, left_of, choice_of}
 use Rattle.plan_sweeps.specs.Listed.{row, listed, tabled}
-use Rattle.plan_starts.specs.Started.{Marked, Ranged, StartsSay, StartsRoom}
-use Rattle.plan_rows.specs.Valued.{lined, value_of, ValuesSay, ClosedSays, FrontsIn, ValuesRoom}
+use Rattle.plan_starts.specs.Started.{Marked, StartsSay}
+use Rattle.plan_rows.specs.Valued.{lined, value_of, ValuesSay, ClosedSays, FrontsIn}
 use Rattle.plan_starts.specs.Grounds.{Within, Kept}
 use Rattle.plan_rows.specs.Made.{Cleared, ChooseSays, Chosen, RowRoom, RowMade}
 
@@ -73,49 +73,6 @@ pub record Values (ps own reach limit left : List ℕ) (base d e : ℕ) (cs fs :
 module _
     {ps own reach limit left choice : List ℕ} {base d e : ℕ} (room : RowRoom ps own reach limit left choice base d e)
   where
-    -- what the starts and the values ask
-    pub starts_room
-        : {need cs fs link : List ℕ}
-        → e < length need
-        → e < length cs
-        → e < length fs
-        → e < length link
-        → StartsRoom ps own need left (base - 256) d e cs fs link
-    starts_room need_room cs_room fs_room link_room =
-        record {
-          sweep_room =
-              record {
-                points_room = room.points_room;
-                own_room = room.own_room;
-                own_low = room.own_low;
-                need_room = need_room;
-                left_room = omega (arith, room.left_room);
-              };
-          long = room.long;
-          short = room.short;
-          cs_room = cs_room;
-          fs_room = fs_room;
-          link_room = link_room;
-        }
-
-    pub values_room
-        : {cs fs : List ℕ} {first : ℕ}
-        → e < length cs
-        → e < length fs
-        → first ≤ e
-        → Ranged d e cs fs
-        → ValuesRoom limit base d e first cs fs
-    values_room cs_room fs_room first_high ranged =
-        record {
-          limit_room = room.limit_room;
-          cs_room = cs_room;
-          fs_room = fs_room;
-          long = room.long;
-          short = room.short;
-          first_high = first_high;
-          ranged = ranged;
-        }
-
     -- the values that stand in two lists are those of the loop
     pub values_are
         : {need cs₀ fs₀ cs fs : List ℕ} {first m : ℕ}

@@ -1,7 +1,7 @@
 -- The values of all suffixes, written in place of what is made from each start on: the value for q is read at the later
 -- of q and `first`, which is not written yet.
--- Main definitions: `Valuing`, `EarlyValuing`, `LateValuing`. Main statements: `first_small`, `early_none`,
--- `early_low`, `early_high`, `late_none`, `late_small`, `late_more`, `late_all`.
+-- Main definitions: `Valuing`, `EarlyValuing`, `LateValuing`. Main statements: `early_low`, `early_high`,
+-- `late_more`, `late_all`.
 use mathlib.Core.Path.{◌≡◌, refl, ◌∙◌, ap}
 use mathlib.Core.Bool.{Bool, true, false, ◌||◌}
 use mathlib.Core.List.{List}
@@ -21,7 +21,7 @@ use Rattle.plan_starts.specs.Started.{later}
 use Rattle.plan_starts.proofs.Suffixes.{later_low, later_high}
 use Rattle.plan_rows.specs.Valued.{CloseSays, CeilingSays, ClosedSays, FrontsIn, ValuesRoom}
 use Rattle.plan_rows.proofs.Suffix.{close_low, close_high}
-use Rattle.plan_rows.proofs.Listings.{listing_none, listing_more}
+use Rattle.plan_rows.proofs.Listings.{listing_more}
 
 pub record Valuing (limit : List ℕ) (base d e first : ℕ) (cs₀ fs₀ cs fs : List ℕ) (m p : ℕ) : Type 0 where
   pub low : d ≤ p
@@ -90,29 +90,6 @@ close_count d limit c f c' f' says = go (leb f limit) (says (st c f bare) refl r
     go false z = omega arith
 
 module _ {limit : List ℕ} {base d e first : ℕ} {cs₀ fs₀ : List ℕ} (room : ValuesRoom limit base d e first cs₀ fs₀) where
-  pub first_small : d + 1 < first → at cs₀ first < 256
-  first_small h =
-      omega (arith, room.ranged.small first (omega arith) room.first_high, room.first_high, room.short)
-
-  pub early_none
-      : {m : ℕ} → CeilingSays (at cs₀ first) d e first m → EarlyValuing limit base d e first cs₀ fs₀ cs₀ fs₀ m d
-  early_none {m} top =
-      record {
-        valuing =
-            record {
-              low = omega arith;
-              high = omega (arith, room.long);
-              cs_length = refl;
-              fs_length = refl;
-              c_rest = λ x h. refl;
-              f_rest = λ x h. refl;
-              closed = λ s c f. listing_none (λ q. close d (row limit base q) (s q)) cs₀ fs₀ d m;
-              fronts = record { low = λ q i j. absurd (omega arith); high = λ q i j. absurd (omega arith) };
-              most = λ h. top;
-            };
-        least = λ z. (omega (arith, top.early z), omega (arith, top.early z));
-      }
-
   module _ {cs fs : List ℕ} {m p : ℕ} (v : Valuing limit base d e first cs₀ fs₀ cs fs m p) (before : p < e) where
     -- where the value for p + 1 is read
     abbrev read : ℕ
@@ -226,14 +203,6 @@ module _ {limit : List ℕ} {base d e first : ℕ} {cs₀ fs₀ : List ℕ} (roo
           }
 
 -- from `first` on each gap's own entry is read
-pub late_none
-    : {limit : List ℕ} {base d e first : ℕ} {cs fs : List ℕ} {m p : ℕ}
-    → first ≤ p + 1
-    → p ≤ e
-    → LateValuing limit base d e first cs fs m p cs fs m p
-late_none late high =
-    record { late = late; high = high; cs_length = refl; fs_length = refl; valuing = λ xs ys r v. v }
-
 module _
     {limit : List ℕ} {base d e first : ℕ} {cs₀ fs₀ : List ℕ} {m₀ p₀ : ℕ} {cs fs : List ℕ} {m p : ℕ}
     (s : LateValuing limit base d e first cs₀ fs₀ m₀ p₀ cs fs m p)
@@ -257,20 +226,12 @@ module _
               (v.f_rest (p + 1) (omega arith) ∙ ap (at ys) here) says n;
         }
 
-    module _ {xs ys : List ℕ} (room : ValuesRoom limit base d e first xs ys)
-        (w : Valuing limit base d e first xs ys cs₀ fs₀ m₀ p₀) where
-      pub late_small : p < e → at cs (p + 1) < 256
-      late_small before =
-          let v = s.valuing xs ys room w in
-          omega (
-            arith,
-            v.c_rest (p + 1) (omega arith),
-            room.ranged.small (p + 1) (omega (arith, v.low)) (omega arith),
-            room.short,
-          )
-
-      pub late_all : e ≤ p → ClosedSays limit base d e first xs ys cs fs e m × FrontsIn d e fs e
-      late_all all =
-          let v = s.valuing xs ys room w in
-          let z : p ≡ e = omega (arith, s.high) in
-          (λ t tc tf. rw z at (v.closed t tc tf), rw z at v.fronts)
+    pub late_all
+        : {xs ys : List ℕ}
+        → ValuesRoom limit base d e first xs ys
+        → Valuing limit base d e first xs ys cs₀ fs₀ m₀ p₀
+        → e ≤ p
+        → ClosedSays limit base d e first xs ys cs fs e m
+    late_all {xs} {ys} room w all t tc tf =
+        let z : p ≡ e = omega (arith, s.high) in
+        rw z at ((s.valuing xs ys room w).closed t tc tf)

@@ -10,6 +10,5 @@ pub loop-q-preserved : goal.loop-q-preserved
 loop-q-preserved c =
     choosing_more c.loop-q.invariant (omega arith) (omega arith) (omega arith) c.better-best.ensures
 
-pub returns : goal.returns
-returns c =
-    let r = choosing_all c.loop-q.invariant (omega arith) in record { choose_says = r.chosen; kept = r.left_kept; kept_2 = r.choice_kept }
+pub returns-clause-choose_says : goal.returns-clause-choose_says
+returns-clause-choose_says c = (choosing_all c.loop-q.invariant (omega arith)).chosen
