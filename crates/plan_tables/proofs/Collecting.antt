@@ -1,6 +1,5 @@
 -- The pass over the dependences, from the last to the first: those passed are in the tables.
--- Main definition: `Collecting`, what a turn keeps. Main statements: `collect_start`, `fits_here`, `collect_on`,
--- `collect_done`.
+-- Main definition: `Collecting`, what a turn keeps. Main statements: `collect_start`, `fits_here`, `collect_on`.
 use mathlib.Core.Path.{◌≡◌, refl, ◌∙◌}
 use mathlib.Core.List.{List, [], ◌∷◌}
 use Prim.Native.Nat.{ℕ, zero, suc, ◌-◌, ◌≤◌, ◌<◌}
@@ -81,11 +80,6 @@ module _ {nest : DN.Nest} (counted : IsCounted nest) where
       {ps heights reach₀ back₀ has₀ : List ℕ} {i : ℕ} {reach back has : List ℕ}
       (p : Collecting ps ds heights reach₀ back₀ has₀ i reach back has)
     where
-      pub collect_done : i ≤ 0 → Collected ps ds heights reach back has
-      collect_done l =
-          let z : i ≡ 0 = omega arith in
-          rw z at p.rest
-
       module _ (l : 0 < i) where
         -- the dependence that is entered next
         abbrev e : Dep

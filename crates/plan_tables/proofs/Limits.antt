@@ -1,7 +1,7 @@
 -- The limits from what goes back: the limit at q is the lesser of what goes back at q and the limit at q + 1; at the
 -- ENDDO it is the ENDDO.
 -- Main definitions: `Ended`, `Limiting`, `LimitingAll`. Main statements: `least_end_split`, `limit_step`, `limit_last`,
--- `lowest_is_limit`; for all rows `row_there`, `limits_start`, `limits_on`, `limits_skip`, `limits_done`.
+-- `lowest_is_limit`; for all rows `row_there`, `limits_on`, `limits_skip`, `limits_done`.
 use mathlib.Core.Path.{◌≡◌, refl, sym, ap, ◌∙◌}
 use mathlib.Core.Bool.{Bool, true, false, ◌&&◌, ◌||◌, not}
 use mathlib.Core.List.{List, [], ◌∷◌}
@@ -151,13 +151,6 @@ pub record LimitingAll (ps heights limit₀ : List ℕ) (i : ℕ) (limit : List 
   pub same : length limit ≡ length limit₀
   pub each :
       (ds : List Dep) → AllFit ps ds → Rows ps heights limit₀ (back_of ps ds) → Limiting ps ds heights i limit
-
-pub limits_start : {ps heights limit : List ℕ} → LimitingAll ps heights limit 0 limit
-limits_start =
-    record {
-      same = refl;
-      each = λ ds f r. record { done = λ d q h l. absurd (omega arith); todo = λ d q h l. r d q h };
-    }
 
 module _
     {ps ends heights : List ℕ} (w : Ended ps ends heights) {ds : List Dep} {i : ℕ} {limit : List ℕ}

@@ -1,5 +1,5 @@
 -- One row narrowed from right to left: the least so far goes into each place that holds more.
--- Main definition: `Narrowing`, what a turn keeps. Main statements: `narrow_start`, `narrow_on`, `narrow_done`.
+-- Main definition: `Narrowing`, what a turn keeps. Main statements: `narrow_start`, `narrow_on`.
 use mathlib.Core.Path.{◌≡◌, refl, ◌∙◌}
 use mathlib.Core.List.{List}
 use mathlib.Core.Logic.{◌⊎◌, inl, inr, ⊎_elim}
@@ -8,7 +8,7 @@ use native.Mathlib.Omega.{arith}
 use lib.ListN.{length, set, length-set}
 use Rattle.laws.specs.Entries.{at}
 use Rattle.laws.proofs.Tests.{eq_or}
-use Rattle.plan_tables.specs.Collected.{lowest_from, Narrowed}
+use Rattle.plan_tables.specs.Collected.{lowest_from}
 use Rattle.plan_tables.proofs.Entries.{entry_here, entry_elsewhere}
 
 -- the places above q are done, and m is the least of them and e
@@ -33,11 +33,6 @@ narrow_start l =
     }
 
 module _ {xs : List ℕ} {base d e m q : ℕ} {ys : List ℕ} (p : Narrowing xs base d e m q ys) where
-  pub narrow_done : q ≤ d → Narrowed xs base d e ys
-  narrow_done l =
-      let z : q ≡ d = omega (arith, p.low) in
-      record { inside = λ j k h. p.done j k (omega arith); outside = rw z at p.rest }
-
   -- a turn: the least with one more place, and that place holds it
   pub narrow_on :
       {v : ℕ} → d < q → base + e < length xs → v ≡ min m (at ys (base + q)) →

@@ -11,7 +11,7 @@ use Rattle.paper_nests.proofs.Deps.{Fits, is-line}
 use Rattle.plan_tables.specs.Charts.{TABLE, cell, Points, Charted}
 use Rattle.plan_tables.proofs.Cells.{Tall}
 use Rattle.plan_tables.proofs.Entering.{line_there}
-use Rattle.argue_sets.proofs.Numbering.{other_passed, line_passed, line_put}
+use Rattle.argue_sets.proofs.Numbering.{line_passed, line_put}
 use Rattle.argue_sets.proofs.number_line.Goals as goal
 
 module _ {ps own ends heights : List ℕ} (points : Points ps) (charted : Charted ps own ends heights) where
@@ -23,13 +23,6 @@ module _ {ps own ends heights : List ℕ} (points : Points ps) (charted : Charte
       {e : Dep} {x : ℕ} → Fits ps e → e.kind ≡ INDEPENDENT → x ≡ owner_from (suc e.s) e.t ps →
       (x < POINTS) × (cell heights x (e.s + 1) < TABLE)
   homed {e} f k x_is = line_there tall (is-line ps e f k) x_is
-
-pub returns-then-e-ne-INDEPENDENT : goal.returns-then-e-ne-INDEPENDENT
-returns-then-e-ne-INDEPENDENT c = other_passed c.if-e-ne-INDEPENDENT.true
-
-pub home_of-home-requires : goal.home_of-home-requires
-home_of-home-requires c =
-    let f = is-line c.args.chart.now.points.now (dep_in c.args.e) c.requires.fits c.if-e-ne-INDEPENDENT.false in record { points = c.requires.points; own_is = c.requires.charted.own_is; ends_are = c.requires.charted.ends_are; in_bounds = c.requires.chart_room.own_room; in_bounds_2 = c.requires.chart_room.ends_room; s_lt_t = f.forward; t_in_bounds = f.target_there }
 
 pub offset_bounds-chart-home : goal.offset_bounds-chart-home
 offset_bounds-chart-home c =
@@ -65,11 +58,6 @@ pub returns-else-reach-place : goal.returns-else-reach-place
 returns-else-reach-place c =
     let line = is-line c.args.chart.now.points.now (dep_in c.args.e) c.requires.fits c.if-e-ne-INDEPENDENT.false in
     line_passed (tall c.requires.points c.requires.charted) line c.home_of-home.ensures c.if-reach-place.false
-
-pub offset_bounds-sets-place : goal.offset_bounds-sets-place
-offset_bounds-sets-place c =
-    let z = homed c.requires.points c.requires.charted c.requires.fits c.if-e-ne-INDEPENDENT.false c.home_of-home.ensures in
-    omega arith
 
 pub bounds-sets-place : goal.bounds-sets-place
 bounds-sets-place c =

@@ -1,5 +1,5 @@
 use native.Mathlib.Omega.{arith}
-use Rattle.plan_tables.proofs.Collecting.{collect_start, fits_here, collect_on, collect_done}
+use Rattle.plan_tables.proofs.Collecting.{collect_start, fits_here, collect_on}
 use Rattle.plan_tables.proofs.collect.Goals as goal
 
 pub loop-i-init : goal.loop-i-init
@@ -7,14 +7,10 @@ loop-i-init c =
     collect_start c.requires.counted (record { points = c.requires.points; heights_are = c.requires.charted.heights_are }) c.requires.lines_room
     c.requires.blank
 
-pub enter-requires : goal.enter-requires
-enter-requires c =
-    let p = c.loop-i.invariant in record { points = c.requires.points; charted = c.requires.charted; chart_room = c.requires.chart_room; lines_room = p.room; fits = fits_here c.requires.counted p (omega arith) c.requires.all_fit }
+pub enter-requires-clause-fits : goal.enter-requires-clause-fits
+enter-requires-clause-fits c = fits_here c.requires.counted c.loop-i.invariant (omega arith) c.requires.all_fit
 
 pub loop-i-preserved : goal.loop-i-preserved
 loop-i-preserved c =
     collect_on c.requires.counted c.loop-i.invariant (omega arith) c.enter.auto.reach c.enter.auto.back c.enter.auto.has
     c.enter.ensures
-
-pub returns : goal.returns
-returns c = collect_done c.requires.counted c.loop-i.invariant (omega arith)

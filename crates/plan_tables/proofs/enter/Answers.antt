@@ -27,19 +27,6 @@ module _ {ps own ends heights : List ℕ} (points : Points ps) (charted : Charte
   backed : {e : Dep} → Fits ps e → (e.kind ≡ INDEPENDENT → ⊥) → (e.d < POINTS) × (cell heights e.d e.s < TABLE)
   backed {e} f k = back_there tall (is-back ps e f k)
 
-pub home_of-home-requires : goal.home_of-home-requires
-home_of-home-requires c =
-    let f = is-line c.args.chart.now.points.now (dep_in c.args.e) c.requires.fits c.if-e-eq-INDEPENDENT.true in
-    record {
-      points = c.requires.points;
-      own_is = c.requires.charted.own_is;
-      ends_are = c.requires.charted.ends_are;
-      in_bounds = c.requires.chart_room.own_room;
-      in_bounds_2 = c.requires.chart_room.ends_room;
-      s_lt_t = f.forward;
-      t_in_bounds = f.target_there;
-    }
-
 pub offset_bounds-chart-home : goal.offset_bounds-chart-home
 offset_bounds-chart-home c =
     let z = homed c.requires.points c.requires.charted c.requires.fits c.if-e-eq-INDEPENDENT.true c.home_of-home.ensures in

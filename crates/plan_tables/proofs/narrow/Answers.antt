@@ -2,7 +2,7 @@ use mathlib.Core.List.{List}
 use Prim.Native.Nat.{ℕ}
 use Rattle.plan_tables.specs.Charts.{Points, HeightsAre, EndsAre}
 use native.Mathlib.Omega.{arith}
-use Rattle.plan_tables.proofs.Limits.{Ended, row_there, limits_start, limits_on, limits_skip}
+use Rattle.plan_tables.proofs.Limits.{Ended, row_there, limits_on, limits_skip}
 use Rattle.plan_tables.proofs.Limits.{limits_done}
 use Rattle.plan_tables.proofs.narrow.Goals as goal
 use Rattle.plan_tables.proofs.narrow.Goals.{then-kind-eq-DO, else-kind-eq-DO}
@@ -10,9 +10,6 @@ use Rattle.plan_tables.proofs.narrow.Goals.{then-kind-eq-DO, else-kind-eq-DO}
 -- the points, the heights and the ENDDOs
 ended : {ps ends heights : List ℕ} → Points ps → HeightsAre ps heights → EndsAre ps ends → Ended ps ends heights
 ended p h e = record { tall = record { points = p; heights_are = h }; stops = e }
-
-pub loop-d-init : goal.loop-d-init
-loop-d-init _ = limits_start
 
 pub overflow_mul-chart : goal.overflow_mul-chart
 overflow_mul-chart c =
