@@ -1,13 +1,11 @@
 -- The row that is swept is one list for all loops: a loop inside writes only to its own range, and the sweep that
 -- stands before that range reads no gap of it any more.
--- Main definition: `Shared`. Main statements: `shared_all`, `shared_less`, `shared_child`, `stepped_shared`,
--- `lowered_kept`.
+-- Main definition: `Shared`. Main statements: `shared_all`, `shared_less`, `shared_child`, `stepped_shared`.
 use mathlib.Core.Path.{◌≡◌, refl, ◌∙◌}
 use mathlib.Core.List.{List}
 use Prim.Native.Nat.{ℕ, suc, ◌≤◌, ◌<◌}
 use native.Mathlib.Omega.{arith}
-use lib.ListN.{length, set}
-use lib.Seq.{get_or-set_other}
+use lib.ListN.{length}
 use Rattle.laws.specs.Entries.{at}
 use Rattle.plan_method.specs.Sweep.{seek, step_child}
 use Rattle.plan_sweeps.specs.Listed.{Stepped}
@@ -62,16 +60,3 @@ stepped_shared {swept} {need} {left} {kids} {l = l} {p = p} {c = c} {f = f} s t 
     found = seek_alike (at need) (at swept) f l (suc p)
         (λ y i j h. omega (arith, s.same y j))
         (λ y i j h. omega (arith, s.same y j))
-
--- the row as it was made: a copy, lowered at one gap of the loop's range
-pub lowered_kept
-    : (xs copy need : List ℕ) (d e last v : ℕ)
-    → d < last
-    → last ≤ e
-    → Kept xs copy d e
-    → Kept (set copy last v) need d e
-    → Kept xs need d e
-lowered_kept xs copy need d e last v low high copied kept i h =
-    kept i h ∙
-    get_or-set_other copy last i v 0 (λ (z : i ≡ last). absurd (omega (arith, h (omega arith)))) ∙
-    copied i h

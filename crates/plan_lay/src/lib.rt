@@ -8,14 +8,12 @@ ghost use Rattle.plan_settle.specs.Settled.{HasHeight, Charts};
 ghost use Rattle.plan_lay.specs.Laid.{LayRoom, Choices, PutSays, LaySays};
 
 use paper_placements::Placement;
-use plan_rows::ROW;
+use plan_rows::{Lines, ROW};
 use plan_tables::Chart;
 
-// The rows of all loops, a table of each kind: the reaches and the limits, and the fronts and the choices made of them.
+// The rows of all loops: their fronts and their choices.
 #[derive(Clone, Copy)]
 pub struct Rows<'a> {
-    pub reach: &'a [u16],
-    pub limit: &'a [u16],
     pub left: &'a [u16],
     pub choice: &'a [u16],
 }
@@ -24,6 +22,7 @@ pub struct Rows<'a> {
 // of the row that is swept, which the sweep has passed by then.
 pub fn lay(
     chart: &Chart,
+    lines: &Lines,
     rows: &Rows,
     need: &mut [usize],
     d: usize,
@@ -33,14 +32,14 @@ pub fn lay(
 ) -> Placement
     requires in_bounds { 256 ≤ length need.old }
     requires charts { Charts chart.now.points.now chart.now.own.now chart.now.ends.now }
-    requires lay_room { LayRoom rows.now.reach.now rows.now.limit.now rows.now.left.now rows.now.choice.now }
+    requires lay_room { LayRoom lines.now.reach.now lines.now.limit.now rows.now.left.now rows.now.choice.now }
     requires d_value { is_do chart.now.points.now d ≡ true }
     requires has_height { HasHeight chart.now.points.now d h }
     requires d_lt_q { d < q }
     requires q_bound { q ≤ end_of chart.now.points.now d }
     requires choices { Choices chart.now.points.now rows.now.left.now rows.now.choice.now d
         (end_of chart.now.points.now d) }
-    ensures lay_says { LaySays chart.now.points.now rows.now.reach.now rows.now.limit.now
+    ensures lay_says { LaySays chart.now.points.now lines.now.reach.now lines.now.limit.now
         rows.now.left.now rows.now.choice.now d q key.words result.words }
     ensures kept { Kept need.old need.new d (end_of chart.now.points.now d) }
 {
@@ -50,7 +49,7 @@ pub fn lay(
     }
     let e = chart.ends[d];
     let last = rows.choice[base + q] as usize;
-    plan_rows::copy_row(rows.reach, base, d, e, need);
+    plan_rows::copy_row(lines.reach, base, d, e, need);
     need[last] = need[last].min(e);
     let mut k = key;
     let mut c = 0;
@@ -62,7 +61,7 @@ pub fn lay(
             let l = chart.own[before];
             let s = plan_sweeps::step_child(need, rows.left, base - ROW, l, before, c, f);
             let more = put_where(k, c, s.c, p);
-            k = lay(chart, rows, need, l, s.ask, h - 1, more);
+            k = lay(chart, lines, rows, need, l, s.ask, h - 1, more);
             c = s.c;
             f = s.f;
             p = l;
@@ -75,7 +74,7 @@ pub fn lay(
             p = before;
         }
     }
-    put_where(k, rows.limit[base + last] as usize, f, d + 1)
+    put_where(k, lines.limit[base + last] as usize, f, d + 1)
 }
 
 // The placement with gap g as well where a is below b.

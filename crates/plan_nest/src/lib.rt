@@ -74,10 +74,8 @@ pub fn plan(nest: Nest) -> Placement
     );
     let none = Placement::empty();
     let rows = Rows {
-        reach: &reach,
-        limit: &limit,
         left: &left,
         choice: &choice,
     };
-    plan_lay::lay(&chart, &rows, &mut need, 0, 1, Nest::DEPTH, none)
+    plan_lay::lay(&chart, &lines, &rows, &mut need, 0, 1, Nest::DEPTH, none)
 }

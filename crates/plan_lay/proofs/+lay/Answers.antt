@@ -1,14 +1,12 @@
-use mathlib.Core.Path.{◌≡◌, refl, ◌∙◌, ap}
+use mathlib.Core.Path.{◌≡◌, ap}
 use mathlib.Core.List.{List}
-use Prim.Native.Nat.{ℕ, min, ◌-◌, ◌*◌, ◌≤◌}
+use Prim.Native.Nat.{ℕ, min, ◌-◌, ◌≤◌}
 use native.Mathlib.Omega.{arith}
 use lib.ListN.{length, set, length-set}
 use Rattle.laws.specs.Entries.{at}
-use Rattle.plan_sweeps.specs.Listed.{row}
 use Rattle.plan_rows.specs.Made.{Copied}
 use Rattle.plan_lay.proofs.Calls.{called, picked}
-use Rattle.plan_lay.proofs.Sharing.{lowered_kept}
-use Rattle.plan_lay.proofs.Turns.{begin, on_put, on_skip, child_long, child_asked, on_child}
+use Rattle.plan_lay.proofs.Turns.{begin, on_put, on_skip, child_asked, on_child}
 use Rattle.plan_lay.proofs.Whole.{Lowered, blank, done}
 use Rattle.plan_lay.proofs.+lay.Goals as goal
 
@@ -31,12 +29,6 @@ still
     → 256 ≤ length now
 still need copy now last m room sized same = omega (arith, length-set copy last m)
 
-pub overflow_mul-base : goal.overflow_mul-base
-overflow_mul-base t c =
-    let r = c.requires in
-    let a = called r.charts r.lay_room r.d_value r.has_height r.d_lt_q r.q_bound r.choices in
-    omega arith
-
 pub overflow_add-base : goal.overflow_add-base
 overflow_add-base t c =
     let r = c.requires in
@@ -55,34 +47,11 @@ bounds-rows-base t c =
     let a = called r.charts r.lay_room r.d_value r.has_height r.d_lt_q r.q_bound r.choices in
     omega arith
 
-pub returns-then-rows-base-eq0 : goal.returns-then-rows-base-eq0
-returns-then-rows-base-eq0 t c =
-    let r = c.requires in
-    let a = called r.charts r.lay_room r.d_value r.has_height r.d_lt_q r.q_bound r.choices in record { lay_says = blank a c.args.key.words c.if-rows-base-eq0.true; kept = λ i h. refl }
-
-pub offset_bounds-chart-d : goal.offset_bounds-chart-d
-offset_bounds-chart-d t c =
+pub returns-then-rows-base-eq0-clause-lay_says : goal.returns-then-rows-base-eq0-clause-lay_says
+returns-then-rows-base-eq0-clause-lay_says t c =
     let r = c.requires in
     let a = called r.charts r.lay_room r.d_value r.has_height r.d_lt_q r.q_bound r.choices in
-    omega arith
-
-pub bounds-chart-d : goal.bounds-chart-d
-bounds-chart-d t c =
-    let r = c.requires in
-    let a = called r.charts r.lay_room r.d_value r.has_height r.d_lt_q r.q_bound r.choices in
-    omega arith
-
-pub overflow_add-last : goal.overflow_add-last
-overflow_add-last t c =
-    let r = c.requires in
-    let a = called r.charts r.lay_room r.d_value r.has_height r.d_lt_q r.q_bound r.choices in
-    omega arith
-
-pub offset_bounds-rows-base-2 : goal.offset_bounds-rows-base-2
-offset_bounds-rows-base-2 t c =
-    let r = c.requires in
-    let a = called r.charts r.lay_room r.d_value r.has_height r.d_lt_q r.q_bound r.choices in
-    omega arith
+    blank a c.args.key.words c.if-rows-base-eq0.true
 
 pub bounds-rows-base-2 : goal.bounds-rows-base-2
 bounds-rows-base-2 t c =
@@ -96,26 +65,12 @@ copy_row-requires t c =
     let a = called r.charts r.lay_room r.d_value r.has_height r.d_lt_q r.q_bound r.choices in
     record { e_in_bounds = omega arith; e_in_bounds_2 = omega (arith, c.requires.in_bounds, a.short, a.charts.few); d_lt_e = omega (arith, a.long) }
 
-pub offset_bounds-need-last : goal.offset_bounds-need-last
-offset_bounds-need-last t c =
-    let r = c.requires in
-    let a = called r.charts r.lay_room r.d_value r.has_height r.d_lt_q r.q_bound r.choices in
-    let x = picked a c.if-rows-base-eq0.false in
-    omega arith
-
 pub bounds-need-last : goal.bounds-need-last
 bounds-need-last t c =
     let r = c.requires in
     let a = called r.charts r.lay_room r.d_value r.has_height r.d_lt_q r.q_bound r.choices in
     let x = picked a c.if-rows-base-eq0.false in
     omega (arith, c.requires.in_bounds, a.short, a.charts.few, c.copy_row.auto.xs)
-
-pub offset_bounds-need-last-2 : goal.offset_bounds-need-last-2
-offset_bounds-need-last-2 t c =
-    let r = c.requires in
-    let a = called r.charts r.lay_room r.d_value r.has_height r.d_lt_q r.q_bound r.choices in
-    let x = picked a c.if-rows-base-eq0.false in
-    omega arith
 
 pub bounds-need-last-2 : goal.bounds-need-last-2
 bounds-need-last-2 t c =
@@ -138,18 +93,6 @@ loop-p-init t c =
 
 pub bounds-chart-before : goal.bounds-chart-before
 bounds-chart-before t c =
-    let r = c.requires in
-    let a = called r.charts r.lay_room r.d_value r.has_height r.d_lt_q r.q_bound r.choices in
-    omega arith
-
-pub offset_bounds-chart-before : goal.offset_bounds-chart-before
-offset_bounds-chart-before t c =
-    let r = c.requires in
-    let a = called r.charts r.lay_room r.d_value r.has_height r.d_lt_q r.q_bound r.choices in
-    omega arith
-
-pub bounds-chart-before-then-chart-before-eq-ENDDO : goal.bounds-chart-before-then-chart-before-eq-ENDDO
-bounds-chart-before-then-chart-before-eq-ENDDO t c =
     let r = c.requires in
     let a = called r.charts r.lay_room r.d_value r.has_height r.d_lt_q r.q_bound r.choices in
     omega arith
@@ -192,12 +135,6 @@ lay-k-requires t c =
       ),
     )
 
-pub loop-p-smaller-then-chart-before-eq-ENDDO : goal.loop-p-smaller-then-chart-before-eq-ENDDO
-loop-p-smaller-then-chart-before-eq-ENDDO t c =
-    let r = c.requires in
-    let a = called r.charts r.lay_room r.d_value r.has_height r.d_lt_q r.q_bound r.choices in
-    omega (arith, child_long a c.loop-p.invariant c.loop-p-test.true c.if-chart-before-eq-ENDDO.true)
-
 pub loop-p-preserved-then-chart-before-eq-ENDDO : goal.loop-p-preserved-then-chart-before-eq-ENDDO
 loop-p-preserved-then-chart-before-eq-ENDDO t c =
     let r = c.requires in
@@ -225,12 +162,6 @@ put-k-requires t c =
     let a = called r.charts r.lay_room r.d_value r.has_height r.d_lt_q r.q_bound r.choices in
     omega arith
 
-pub overflow_add-c : goal.overflow_add-c
-overflow_add-c t c =
-    let r = c.requires in
-    let a = called r.charts r.lay_room r.d_value r.has_height r.d_lt_q r.q_bound r.choices in
-    omega (arith, c.loop-p.invariant.small)
-
 pub loop-p-preserved-then-need-p : goal.loop-p-preserved-then-need-p
 loop-p-preserved-then-need-p t c =
     let r = c.requires in
@@ -244,31 +175,11 @@ loop-p-preserved t c =
     let a = called r.charts r.lay_room r.d_value r.has_height r.d_lt_q r.q_bound r.choices in
     on_skip a c.loop-p.invariant c.loop-p-test.true c.if-chart-before-eq-ENDDO.false c.if-need-p.false
 
-pub overflow_add-base-2 : goal.overflow_add-base-2
-overflow_add-base-2 t c =
+pub bounds-lines-base : goal.bounds-lines-base
+bounds-lines-base t c =
     let r = c.requires in
     let a = called r.charts r.lay_room r.d_value r.has_height r.d_lt_q r.q_bound r.choices in
     let x = picked a c.if-rows-base-eq0.false in
-    omega arith
-
-pub offset_bounds-rows-base-3 : goal.offset_bounds-rows-base-3
-offset_bounds-rows-base-3 t c =
-    let r = c.requires in
-    let a = called r.charts r.lay_room r.d_value r.has_height r.d_lt_q r.q_bound r.choices in
-    let x = picked a c.if-rows-base-eq0.false in
-    omega arith
-
-pub bounds-rows-base-3 : goal.bounds-rows-base-3
-bounds-rows-base-3 t c =
-    let r = c.requires in
-    let a = called r.charts r.lay_room r.d_value r.has_height r.d_lt_q r.q_bound r.choices in
-    let x = picked a c.if-rows-base-eq0.false in
-    omega arith
-
-pub overflow_add-d : goal.overflow_add-d
-overflow_add-d t c =
-    let r = c.requires in
-    let a = called r.charts r.lay_room r.d_value r.has_height r.d_lt_q r.q_bound r.choices in
     omega arith
 
 pub put_where-requires : goal.put_where-requires
@@ -277,21 +188,11 @@ put_where-requires t c =
     let a = called r.charts r.lay_room r.d_value r.has_height r.d_lt_q r.q_bound r.choices in
     omega arith
 
-pub shape_of-need : goal.shape_of-need
-shape_of-need t c = c.loop-p.invariant.shared.size ∙ simp length-set c.copy_row.auto.xs
-
-pub returns : goal.returns
-returns t c =
+pub returns-clause-lay_says : goal.returns-clause-lay_says
+returns-clause-lay_says t c =
     let r = c.requires in
     let a = called r.charts r.lay_room r.d_value r.has_height r.d_lt_q r.q_bound r.choices in
-    let x = picked a c.if-rows-base-eq0.false in
     let copy = c.copy_row.new.xs in
-    record {
-      lay_says = done a c.put_where.result.words c.if-rows-base-eq0.false
-          (lowered _ copy r.in_bounds c.copy_row.auto.xs c.copy_row.ensures.copied c.min.ensures) c.loop-p.invariant
-          (omega (arith, c.loop-p-test)) c.put_where.ensures;
-      kept = λ i h.
-          lowered_kept c.args.need.now copy c.loop-p.need c.args.d (at c.args.chart.now.ends.now c.args.d)
-          (row c.args.rows.now.choice.now (c.args.h * 256) c.args.q) c.min.result x.0 x.1 c.copy_row.ensures.kept
-          c.loop-p.invariant.shared.kept i (λ j. omega (arith, h j, a.e_is));
-    }
+    done a c.put_where.result.words c.if-rows-base-eq0.false
+    (lowered _ copy r.in_bounds c.copy_row.auto.xs c.copy_row.ensures.copied c.min.ensures) c.loop-p.invariant
+    (omega (arith, c.loop-p-test)) c.put_where.ensures

@@ -5,7 +5,7 @@ use Rattle.plan_lay.proofs.+lay.Given as goal
 
 abbrev pub invariant-loop-p : goal.invariant-loop-p
 invariant-loop-p l =
-    Laying l.chart.points.now l.chart.own.now l.chart.ends.now l.rows.reach.now l.rows.limit.now l.rows.left.now
+    Laying l.chart.points.now l.chart.own.now l.chart.ends.now l.lines.reach.now l.lines.limit.now l.rows.left.now
     l.rows.choice.now l.d l.h l.initial.need l.need l.initial.k.words l.k.words l.c l.f l.p
 
 abbrev pub decreases-loop-p : goal.decreases-loop-p
