@@ -15,8 +15,9 @@ use Rattle.plan_method.specs.Sweep.{State, st, bare, only, also, put, seek, step
 use Rattle.plan_method.specs.Sweep.{sweep}
 use Rattle.plan_sweeps.specs.Listed.{row, listed, tabled, laid, Stepped, sweep_of}
 use Rattle.argue_claims.specs.Arguments.{Step}
-use Rattle.argue_claims.specs.Arguments as claims
+use Rattle.argue_claims.specs.Arguments as arguments
 use Rattle.argue_texts.specs.ArgumentTexts.{steps_text}
+use Rattle.argue_texts.specs.declared.Claimed.{Claimed}
 use Rattle.argue_key.specs.Laps.{event_plain, event_at, event_child, event, trace}
 use Rattle.argue_spell.specs.Added.{step_text, Added}
 use Rattle.argue_spell.proofs.Adding.{added_none, added_then, added_as}
@@ -101,7 +102,7 @@ module _ (ps own left : List ℕ) (kids : ℕ) (need sets : List ℕ) (lead : �
             (rw (lt-ltb p d (omega arith)) at r, sym (append-nil made) ∙ rw (lt-ltb p d (omega arith)) at q)
 
     turn_put : (p c f : ℕ) (w : ℕ → Bool) (made : List Step) → d < p → (get_or ps (p - 1) 0 ≡ 2 → ⊥) → at need p < f →
-        Turn p c f w made → Turn (p - 1) (c + 1) p (also (only p) w) (made ++ (claims.st (at sets p) 0 ∷ []))
+        Turn p c f w made → Turn (p - 1) (c + 1) p (also (only p) w) (made ++ (arguments.st (at sets p) 0 ∷ []))
     unfolding put next step step_plain event event_plain
     turn_put zero c f w made h n m t = absurd (omega arith)
     turn_put (suc p) c f w made h n m t =
@@ -109,7 +110,7 @@ module _ (ps own left : List ℕ) (kids : ℕ) (need sets : List ℕ) (lead : �
         let y : eqb (get_or ps p 0) 2 ≡ false = ne_eqb (get_or ps p 0) 2 (rw z at n) in
         let u = lt-ltb (at need (suc p)) f m in
         rw (z, add-one c)
-        (turn_on p p c f (suc c) (suc p) w (also (only (suc p)) w) made (claims.st (at sets (suc p)) 0 ∷ [])
+        (turn_on p p c f (suc c) (suc p) w (also (only (suc p)) w) made (arguments.st (at sets (suc p)) 0 ∷ [])
         (omega arith) (omega arith) (rw y) (rw (y, u)) (rw (y, u)) t)
 
     turn_skip : (p c f : ℕ) (w : ℕ → Bool) (made : List Step) → d < p → (get_or ps (p - 1) 0 ≡ 2 → ⊥) → f ≤ at need p →
@@ -153,8 +154,9 @@ entry xs i = entries.at xs i
 pub record Tracing
     (ps own left : List ℕ)
     (kids : ℕ)
-    (need sets loops froms uptos : List ℕ)
-    (many d e : ℕ)
+    (need sets : List ℕ)
+    (claims : List Claimed)
+    (d e : ℕ)
     (out₀ : List ℕ)
     (start : ℕ)
     (out : List ℕ)
@@ -167,11 +169,11 @@ pub record Tracing
   pub added : Added (steps_text made) start out₀ out at
   pub held
       : (lay : ℕ → ℕ → ℕ → Bool)
-      → Held ps own left kids need sets (lead_at left kids loops froms uptos many) d e lay p c f made
+      → Held ps own left kids need sets (lead_at left kids claims) d e lay p c f made
 
-module _ {ps own left : List ℕ} {kids : ℕ} {need sets loops froms uptos : List ℕ} {many d e : ℕ} {out₀ : List ℕ}
+module _ {ps own left : List ℕ} {kids : ℕ} {need sets : List ℕ} {claims : List Claimed} {d e : ℕ} {out₀ : List ℕ}
     {start : ℕ} where
-  pub begin : Tracing ps own left kids need sets loops froms uptos many d e out₀ start out₀ 0 (e + 1) start e
+  pub begin : Tracing ps own left kids need sets claims d e out₀ start out₀ 0 (e + 1) start e
   unfolding steps_text
   begin =
       record {
@@ -183,12 +185,12 @@ module _ {ps own left : List ℕ} {kids : ℕ} {need sets loops froms uptos : Li
         held = λ lay.
             record {
               w = bare;
-              turn = turn_begin ps own left kids need sets (lead_at left kids loops froms uptos many) d e lay;
+              turn = turn_begin ps own left kids need sets (lead_at left kids claims) d e lay;
             };
       }
 
   module _ {out : List ℕ} {c f at p : ℕ}
-      (s : Tracing ps own left kids need sets loops froms uptos many d e out₀ start out c f at p) where
+      (s : Tracing ps own left kids need sets claims d e out₀ start out c f at p) where
     -- the steps of one turn more
     more : (ev : List Step) {out' : List ℕ} {at' : ℕ} → Added (steps_text ev) at out out' at' →
         Added (steps_text (s.made ++ ev)) start out₀ out' at'
@@ -196,26 +198,26 @@ module _ {ps own left : List ℕ} {kids : ℕ} {need sets loops froms uptos : Li
 
     module _ (inside : d < p) where
       pub on_put : {out' : List ℕ} {at' : ℕ} → (get_or ps (p - 1) 0 ≡ 2 → ⊥) → entry need p < f →
-          Added (step_text (claims.st (entry sets p) 0)) at out out' at' → at' ≤ at + 14 →
-          Tracing ps own left kids need sets loops froms uptos many d e out₀ start out' (c + 1) p at' (p - 1)
+          Added (step_text (arguments.st (entry sets p) 0)) at out out' at' → at' ≤ at + 14 →
+          Tracing ps own left kids need sets claims d e out₀ start out' (c + 1) p at' (p - 1)
       on_put n m a k =
           record {
             high = omega (arith, s.high);
             small = omega (arith, s.small);
             near = omega (arith, s.near);
-            made = s.made ++ (claims.st (entry sets p) 0 ∷ []);
-            added = more (claims.st (entry sets p) 0 ∷ []) (adds_one refl a);
+            made = s.made ++ (arguments.st (entry sets p) 0 ∷ []);
+            added = more (arguments.st (entry sets p) 0 ∷ []) (adds_one refl a);
             held = λ lay.
                 let h = s.held lay in
                 record {
                   w = also (only p) h.w;
-                  turn = turn_put ps own left kids need sets (lead_at left kids loops froms uptos many) d e lay p c f
+                  turn = turn_put ps own left kids need sets (lead_at left kids claims) d e lay p c f
                       h.w s.made inside n m h.turn;
                 };
           }
 
       pub on_skip : (get_or ps (p - 1) 0 ≡ 2 → ⊥) → f ≤ entry need p →
-          Tracing ps own left kids need sets loops froms uptos many d e out₀ start out c f at (p - 1)
+          Tracing ps own left kids need sets claims d e out₀ start out c f at (p - 1)
       on_skip n m =
           record {
             high = omega (arith, s.high);
@@ -227,7 +229,7 @@ module _ {ps own left : List ℕ} {kids : ℕ} {need sets loops froms uptos : Li
                 let h = s.held lay in
                 record {
                   w = h.w;
-                  turn = turn_skip ps own left kids need sets (lead_at left kids loops froms uptos many) d e lay p c f
+                  turn = turn_skip ps own left kids need sets (lead_at left kids claims) d e lay p c f
                       h.w s.made inside n m h.turn;
                 };
           }
@@ -236,31 +238,31 @@ module _ {ps own left : List ℕ} {kids : ℕ} {need sets loops froms uptos : Li
           b ≡ seek (entry need) f (entry own (p - 1)) p →
           Stepped need left kids (entry own (p - 1)) (p - 1) c f c' f' ask →
           Added
-          (steps_text (event_at (row left kids) (entry sets) (lead_at left kids loops froms uptos many (entry own (p - 1)))
+          (steps_text (event_at (row left kids) (entry sets) (lead_at left kids claims (entry own (p - 1)))
           (entry own (p - 1)) (p - 1) b)) at out out' at' →
           at' ≤ at + 14 →
-          Tracing ps own left kids need sets loops froms uptos many d e out₀ start out' c' f' at' (entry own (p - 1))
+          Tracing ps own left kids need sets claims d e out₀ start out' c' f' at' (entry own (p - 1))
       on_child {c' = c'} {f'} {ask} {b} n m x t a k =
           record {
             high = omega (arith, s.high);
             small = omega (arith, s.small, t.grows);
             near = omega (arith, s.near);
             made = s.made ++
-                event_at (row left kids) (entry sets) (lead_at left kids loops froms uptos many (entry own (p - 1)))
+                event_at (row left kids) (entry sets) (lead_at left kids claims (entry own (p - 1)))
                 (entry own (p - 1)) (p - 1) b;
             added = more
-                (event_at (row left kids) (entry sets) (lead_at left kids loops froms uptos many (entry own (p - 1)))
+                (event_at (row left kids) (entry sets) (lead_at left kids claims (entry own (p - 1)))
                 (entry own (p - 1)) (p - 1) b) a;
             held = λ lay.
                 let h = s.held lay in
                 record {
                   w = laid (ltb c c') (p - 1) (lay (entry own (p - 1)) ask) h.w;
-                  turn = turn_child ps own left kids need sets (lead_at left kids loops froms uptos many) d e lay p c f
+                  turn = turn_child ps own left kids need sets (lead_at left kids claims) d e lay p c f
                       c' f' ask b h.w s.made inside n m x t h.turn;
                 };
           }
 
-    pub done : p ≤ d → TraceSays ps own left kids need sets loops froms uptos many d e out₀ start out c f at
+    pub done : p ≤ d → TraceSays ps own left kids need sets claims d e out₀ start out c f at
     done l =
         record {
           c_is = λ lay. ap (λ (x : State). x.c) (whole lay).0;
@@ -272,7 +274,7 @@ module _ {ps own left : List ℕ} {kids : ℕ} {need sets loops froms uptos : Li
       where
         whole : (lay : ℕ → ℕ → ℕ → Bool) →
             (st c f (s.held lay).w ≡ sweep_of ps own need left kids lay d e) ×
-            (s.made ≡ trace_of ps own left kids need sets (lead_at left kids loops froms uptos many) lay d e)
+            (s.made ≡ trace_of ps own left kids need sets (lead_at left kids claims) lay d e)
         whole lay =
-            turn_done ps own left kids need sets (lead_at left kids loops froms uptos many) d e lay p c f
+            turn_done ps own left kids need sets (lead_at left kids claims) d e lay p c f
             (s.held lay).w s.made l (s.held lay).turn

@@ -1,30 +1,26 @@
--- The claims so far as three lists, and one sweep of a lap with its steps, read off the code's arrays.
--- Main definitions: `claims_at`, `lead_at`, `trace_of`, `TraceSays`.
-use Rattle.std.specs.Prelude.{◌≡◌, Bool, List, [], ◌∷◌, ℕ, zero, suc, ◌+◌, ◌*◌, ◌≤◌, ◌<◌, length}
+-- The claims so far, and one sweep of a lap with its steps, read off the code's lists.
+-- Main definitions: `claims_in`, `lead_at`, `trace_of`, `TraceSays`.
+use Rattle.std.specs.Prelude.{◌≡◌, Bool, List, [], map, ℕ, ◌+◌, ◌*◌, ◌≤◌, ◌<◌, length}
 use Rattle.laws.specs.Entries.{at}
 use Rattle.plan_method.specs.Sweep.{start}
 use Rattle.plan_sweeps.specs.Listed.{listed, row, tabled, sweep_of}
 use Rattle.argue_claims.specs.Arguments.{Step, Claim, claim}
-use Rattle.argue_texts.specs.ArgumentTexts.{CLAIMS, steps_text}
+use Rattle.argue_texts.specs.ArgumentTexts.{steps_text}
+use Rattle.argue_texts.specs.declared.Claimed.{Claimed}
 use Rattle.argue_key.specs.Laps.{find_claim, trace}
 use Rattle.argue_spell.specs.Added.{WORD, Added}
 
--- the k claims from the i-th on, without their steps
-unfoldable pub claims_at : List ℕ → List ℕ → List ℕ → ℕ → ℕ → List Claim
-claims_at loops froms uptos zero i = []
-claims_at loops froms uptos (suc k) i =
-    claim (at loops i) (at froms i) (at uptos i) [] ∷ claims_at loops froms uptos k (suc i)
+-- a claim of the code's list, without its steps
+abbrev pub claim_in : Claimed → Claim
+claim_in k = claim k.d k.a k.b []
+
+-- all of the list
+abbrev pub claims_in : List Claimed → List Claim
+claims_in ks = map claim_in ks
 
 -- the claim that a step at gap b of the child l leads to
-abbrev pub lead_at : List ℕ → ℕ → List ℕ → List ℕ → List ℕ → ℕ → ℕ → ℕ → ℕ
-lead_at left kids loops froms uptos many l b = find_claim (claims_at loops froms uptos many 0) l b (row left kids b)
-
--- room for the claims so far
-pub record HeadsRoom (loops froms uptos : List ℕ) (many : ℕ) : Type 0 where
-  pub few : many ≤ CLAIMS
-  pub loops_room : many ≤ length loops
-  pub froms_room : many ≤ length froms
-  pub uptos_room : many ≤ length uptos
+abbrev pub lead_at : List ℕ → ℕ → List Claimed → ℕ → ℕ → ℕ
+lead_at left kids claims l b = find_claim (claims_in claims) l b (row left kids b)
 
 -- an entry for each gap up to e, and none too great to be spelled
 pub record SetsRoom (sets : List ℕ) (e : ℕ) : Type 0 where
@@ -41,8 +37,9 @@ trace_of ps own left kids need sets lead lay d e =
 pub record TraceSays
     (ps own left : List ℕ)
     (kids : ℕ)
-    (need sets loops froms uptos : List ℕ)
-    (many d e : ℕ)
+    (need sets : List ℕ)
+    (claims : List Claimed)
+    (d e : ℕ)
     (out : List ℕ)
     (at : ℕ)
     (out' : List ℕ)
@@ -53,6 +50,6 @@ pub record TraceSays
   pub steps_are
       : (lay : ℕ → ℕ → ℕ → Bool)
       → Added
-      (steps_text (trace_of ps own left kids need sets (lead_at left kids loops froms uptos many) lay d e)) at out out' next
+      (steps_text (trace_of ps own left kids need sets (lead_at left kids claims) lay d e)) at out out' next
   pub few : c ≤ e
   pub near : next ≤ at + 14 * e

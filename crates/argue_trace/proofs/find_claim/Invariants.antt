@@ -3,4 +3,4 @@ use Rattle.argue_trace.proofs.Finding.{Searching}
 use Rattle.argue_trace.proofs.find_claim.Given as goal
 
 abbrev pub invariant-loop-i : goal.invariant-loop-i
-invariant-loop-i l = Searching l.loops l.froms l.uptos l.many l.l l.a l.t l.i
+invariant-loop-i l = Searching l.claims l.l l.a l.t l.i

@@ -11,27 +11,27 @@ use Rattle.argue_trace.proofs.put_child.Goals as goal
 
 pub returns-then-b-eq0 : goal.returns-then-b-eq0
 returns-then-b-eq0 c =
-    let left = row c.args.left.now c.args.kids in
+    let left = row c.args.inside.now.left.now c.args.inside.now.kids in
     let set = at c.args.sets.now in
-    let lead = lead_at c.args.left.now c.args.kids c.args.loops.now c.args.froms.now c.args.uptos.now c.args.many c.args.l in record { added = adds_none (event_none left set lead c.args.l c.args.p c.args.b c.if-b-eq0.true); upper_bound = omega arith }
+    let lead = lead_at c.args.inside.now.left.now c.args.inside.now.kids c.args.claims.now c.args.l in record { added = adds_none (event_none left set lead c.args.l c.args.p c.args.b c.if-b-eq0.true); upper_bound = omega arith }
 
 pub put_step-requires : goal.put_step-requires
 put_step-requires c =
-    record { at_bound = c.requires.start_bound; set_bound = (c.requires.sets_room.small c.args.b, omega (arith, c.find_claim-m.ensures.upper_bound, c.requires.heads_room.few)) }
+    record { at_bound = c.requires.start_bound; set_bound = (c.requires.sets_room.small c.args.b, omega (arith, c.find_claim-m.ensures.upper_bound, c.requires.few_claims)) }
 
 pub returns-then-l-g : goal.returns-then-l-g
 returns-then-l-g c =
-    let left = row c.args.left.now c.args.kids in
+    let left = row c.args.inside.now.left.now c.args.inside.now.kids in
     let set = at c.args.sets.now in
-    let lead = lead_at c.args.left.now c.args.kids c.args.loops.now c.args.froms.now c.args.uptos.now c.args.many c.args.l in
+    let lead = lead_at c.args.inside.now.left.now c.args.inside.now.kids c.args.claims.now c.args.l in
     let e = event_led left set lead c.args.l c.args.p c.args.b c.if-b-eq0.false c.if-b-p.true (omega (arith, c.if-l-g.true)) in
     let z : c.find_claim-m.result + 1 ≡ suc (lead c.args.b) = omega (arith, c.find_claim-m.ensures.value) in record { added = adds_one e (rw z at c.put_step.ensures.added); upper_bound = c.put_step.ensures.upper_bound }
 
 pub returns-then-g-gt0 : goal.returns-then-g-gt0
 returns-then-g-gt0 c =
-    let left = row c.args.left.now c.args.kids in
+    let left = row c.args.inside.now.left.now c.args.inside.now.kids in
     let set = at c.args.sets.now in
-    let lead = lead_at c.args.left.now c.args.kids c.args.loops.now c.args.froms.now c.args.uptos.now c.args.many c.args.l in record {
+    let lead = lead_at c.args.inside.now.left.now c.args.inside.now.kids c.args.claims.now c.args.l in record {
       added = adds_none (event_passed left set lead c.args.l c.args.p c.args.b c.if-b-eq0.false c.if-b-p.true
           c.if-g-gt0.true (omega (arith, c.if-l-g.false)));
       upper_bound = omega arith;
@@ -44,8 +44,8 @@ put_step-requires-2 c =
 pub returns : goal.returns
 returns c =
     let i = c.args in
-    let left = row i.left.now i.kids in
-    let lead = lead_at i.left.now i.kids i.loops.now i.froms.now i.uptos.now i.many i.l in
+    let left = row i.inside.now.left.now i.inside.now.kids in
+    let lead = lead_at i.inside.now.left.now i.inside.now.kids i.claims.now i.l in
     let s = c.put_step-2.ensures in
     elim c.if-b-p.branch [
       | then-b-p+else-g-gt0 w ↦ record {

@@ -15,14 +15,14 @@ loop-p-init _ = begin
 pub overflow_sub-before : goal.overflow_sub-before
 overflow_sub-before c = omega (arith, c.loop-p-test.true)
 
-pub bounds-points-before : goal.bounds-points-before
-bounds-points-before c = omega (arith, c.loop-p.invariant.high, c.requires.sweep_room.points_room)
+pub bounds-inside-before : goal.bounds-inside-before
+bounds-inside-before c = omega (arith, c.loop-p.invariant.high, c.requires.sweep_room.points_room)
 
-pub offset_bounds-own-before : goal.offset_bounds-own-before
-offset_bounds-own-before c = omega (arith, c.loop-p.invariant.high, c.requires.e_bound.0)
+pub offset_bounds-inside-before : goal.offset_bounds-inside-before
+offset_bounds-inside-before c = omega (arith, c.loop-p.invariant.high, c.requires.e_bound.0)
 
-pub bounds-own-before : goal.bounds-own-before
-bounds-own-before c = omega (arith, c.loop-p.invariant.high, c.requires.sweep_room.own_room)
+pub bounds-inside-before-then-inside-before-eq-ENDDO : goal.bounds-inside-before-then-inside-before-eq-ENDDO
+bounds-inside-before-then-inside-before-eq-ENDDO c = omega (arith, c.loop-p.invariant.high, c.requires.sweep_room.own_room)
 
 pub last_need-b-requires : goal.last_need-b-requires
 last_need-b-requires c = omega (arith, c.loop-p.invariant.high, c.requires.sweep_room.need_room)
@@ -32,7 +32,7 @@ put_child-at-requires c =
     let p = c.loop-p.invariant in
     let u = c.loop-p-test.true in
     let k = c.last_need-b.ensures in
-    let z : c.loop-p.p - 1 + 1 ≡ c.loop-p.p = omega (arith, u) in record { l_le_p = (c.requires.sweep_room.own_low (c.loop-p.p - 1), omega (arith, p.high, c.requires.e_bound.0)); b_bound = (rw (z, k) (seek_is (at c.args.need.now) c.loop-p.f (at c.args.own.now (c.loop-p.p - 1)) c.loop-p.p).high, omega (arith, p.high, c.requires.sweep_room.left_room, u)); sets_room = record { room = omega (arith, p.high, c.requires.sets_room.room, u); small = c.requires.sets_room.small }; heads_room = c.requires.heads_room; start_bound = omega (arith, p.near, p.high, c.requires.e_bound.1) }
+    let z : c.loop-p.p - 1 + 1 ≡ c.loop-p.p = omega (arith, u) in record { l_le_p = (c.requires.sweep_room.own_low (c.loop-p.p - 1), omega (arith, p.high, c.requires.e_bound.0)); b_bound = (rw (z, k) (seek_is (at c.args.need.now) c.loop-p.f (at c.args.inside.now.own.now (c.loop-p.p - 1)) c.loop-p.p).high, omega (arith, p.high, c.requires.sweep_room.left_room, u)); sets_room = record { room = omega (arith, p.high, c.requires.sets_room.room, u); small = c.requires.sets_room.small }; few_claims = c.requires.few_claims; start_bound = omega (arith, p.near, p.high, c.requires.e_bound.1) }
 
 pub step_child-s-requires : goal.step_child-s-requires
 step_child-s-requires c =
@@ -40,12 +40,12 @@ step_child-s-requires c =
     let w = c.requires.sweep_room in
     let u = c.loop-p-test.true in record { p_in_bounds = omega (arith, p.high, w.need_room, u); p_in_bounds_2 = omega (arith, p.high, w.left_room, u); l_le_p = w.own_low (c.loop-p.p - 1); c_in_bounds = omega (arith, p.small, w.need_room, u) }
 
-pub loop-p-smaller-then-points-before-eq-ENDDO : goal.loop-p-smaller-then-points-before-eq-ENDDO
-loop-p-smaller-then-points-before-eq-ENDDO c = omega (arith, c.requires.sweep_room.own_low (c.loop-p.p - 1), c.loop-p-test.true)
+pub loop-p-smaller-then-inside-before-eq-ENDDO : goal.loop-p-smaller-then-inside-before-eq-ENDDO
+loop-p-smaller-then-inside-before-eq-ENDDO c = omega (arith, c.requires.sweep_room.own_low (c.loop-p.p - 1), c.loop-p-test.true)
 
-pub loop-p-preserved-then-points-before-eq-ENDDO : goal.loop-p-preserved-then-points-before-eq-ENDDO
-loop-p-preserved-then-points-before-eq-ENDDO c =
-    on_child c.loop-p.invariant c.loop-p-test.true c.if-points-before-eq-ENDDO.true (c.requires.sweep_room.own_low (c.loop-p.p - 1))
+pub loop-p-preserved-then-inside-before-eq-ENDDO : goal.loop-p-preserved-then-inside-before-eq-ENDDO
+loop-p-preserved-then-inside-before-eq-ENDDO c =
+    on_child c.loop-p.invariant c.loop-p-test.true c.if-inside-before-eq-ENDDO.true (c.requires.sweep_room.own_low (c.loop-p.p - 1))
     c.last_need-b.ensures c.step_child-s.ensures c.put_child-at.ensures.added c.put_child-at.ensures.upper_bound
 
 pub offset_bounds-need-p : goal.offset_bounds-need-p
@@ -72,13 +72,13 @@ loop-p-smaller-then-need-p c = omega (arith, c.loop-p-test.true)
 
 pub loop-p-preserved-then-need-p : goal.loop-p-preserved-then-need-p
 loop-p-preserved-then-need-p c =
-    on_put c.loop-p.invariant c.loop-p-test.true c.if-points-before-eq-ENDDO.false c.if-need-p.true c.put_step-at.ensures.added c.put_step-at.ensures.upper_bound
+    on_put c.loop-p.invariant c.loop-p-test.true c.if-inside-before-eq-ENDDO.false c.if-need-p.true c.put_step-at.ensures.added c.put_step-at.ensures.upper_bound
 
 pub loop-p-smaller : goal.loop-p-smaller
 loop-p-smaller c = omega (arith, c.loop-p-test.true)
 
 pub loop-p-preserved : goal.loop-p-preserved
-loop-p-preserved c = on_skip c.loop-p.invariant c.loop-p-test.true c.if-points-before-eq-ENDDO.false c.if-need-p.false
+loop-p-preserved c = on_skip c.loop-p.invariant c.loop-p-test.true c.if-inside-before-eq-ENDDO.false c.if-need-p.false
 
 pub shape_of-out : goal.shape_of-out
 shape_of-out c = c.loop-p.invariant.added.size
