@@ -17,6 +17,7 @@ use Rattle.paper_nests.specs.Stored.{nest_in}
 use Rattle.plan_method.specs.Sweep.{Tables}
 use Rattle.argue_claims.specs.Arguments.{Step, Claim}
 use Rattle.argue_texts.specs.ArgumentTexts.{steps_text}
+use Rattle.argue_texts.specs.declared.Claimed.{Claimed}
 use Rattle.argue_key.specs.Laps.{lead_in, lap_end, lap_steps, laps}
 use Rattle.argue_spell.specs.Added.{Added}
 use Rattle.argue_spell.proofs.Adding.{added_none, added_then, added_as}
@@ -45,8 +46,9 @@ pub record Lapping
     (nest : DN.Nest)
     (ps own left : List ℕ)
     (kids : ℕ)
-    (need₀ sets₀ loops froms uptos : List ℕ)
-    (many d e from upto few : ℕ)
+    (need₀ sets₀ : List ℕ)
+    (claims : List Claimed)
+    (d e from upto few : ℕ)
     (out₀ : List ℕ)
     (start : ℕ)
     (need sets out : List ℕ)
@@ -58,16 +60,16 @@ pub record Lapping
   pub near : at + LAP * j ≤ start + LAP * (e + 2)
   pub held
       : (T : Tables) (cs : List Claim)
-      → LapGround nest ps own left kids need₀ sets₀ loops froms uptos many d e T cs
+      → LapGround nest ps own left kids need₀ sets₀ claims d e T cs
       → Made ps (nest_in nest).deps T cs d from upto few out₀ start out f at j
 
 module _
-    {nest : DN.Nest} {ps own left : List ℕ} {kids : ℕ} {need₀ sets₀ loops froms uptos : List ℕ}
-    {many d e from upto few : ℕ} {out₀ : List ℕ} {start : ℕ}
-    (w : LapRoom nest ps own left kids need₀ sets₀ loops froms uptos many d e from)
+    {nest : DN.Nest} {ps own left : List ℕ} {kids : ℕ} {need₀ sets₀ : List ℕ} {claims : List Claimed}
+    {d e from upto few : ℕ} {out₀ : List ℕ} {start : ℕ}
+    (w : LapRoom nest ps own left kids need₀ sets₀ claims d e from)
   where
     pub lap_begin :
-        Lapping nest ps own left kids need₀ sets₀ loops froms uptos many d e from upto few out₀ start need₀ sets₀ out₀
+        Lapping nest ps own left kids need₀ sets₀ claims d e from upto few out₀ start need₀ sets₀ out₀
         (d + 1) start (e + 2)
     unfolding steps_text
     lap_begin =
@@ -81,14 +83,14 @@ module _
         }
 
     module _ {need sets out : List ℕ} {f at j : ℕ}
-        (p : Lapping nest ps own left kids need₀ sets₀ loops froms uptos many d e from upto few out₀ start need sets out
+        (p : Lapping nest ps own left kids need₀ sets₀ claims d e from upto few out₀ start need sets out
         f at j) where
       -- the next lap may be made
-      pub lap_room : LapRoom nest ps own left kids need sets loops froms uptos many d e from
+      pub lap_room : LapRoom nest ps own left kids need sets claims d e from
       lap_room = rw (p.need_is, p.sets_is) w
 
       pub lap_done : j ≤ 0 →
-          LapsSay nest ps own left kids need₀ sets₀ loops froms uptos many d e from upto few out₀ start out at
+          LapsSay nest ps own left kids need₀ sets₀ claims d e from upto few out₀ start out at
       unfolding laps
       lap_done l =
           record {
@@ -108,12 +110,12 @@ module _
               added_as (ap steps_text (sym (append-nil h.made) ∙ z)) h.added
 
       module _ (more : 0 < j) {out' : List ℕ} {c' f' at' : ℕ}
-          (s : LapSays nest ps own left kids need sets loops froms uptos many d e from upto f out at out' c' f' at') where
-        says : LapSays nest ps own left kids need₀ sets₀ loops froms uptos many d e from upto f out at out' c' f' at'
+          (s : LapSays nest ps own left kids need sets claims d e from upto f out at out' c' f' at') where
+        says : LapSays nest ps own left kids need₀ sets₀ claims d e from upto f out at out' c' f' at'
         says = rw (p.need_is, p.sets_is) at s
 
         module _ (T : Tables) (cs : List Claim)
-            (g : LapGround nest ps own left kids need₀ sets₀ loops froms uptos many d e T cs) where
+            (g : LapGround nest ps own left kids need₀ sets₀ claims d e T cs) where
           abbrev here : Made ps (nest_in nest).deps T cs d from upto few out₀ start out f at j
           here = p.held T cs g
 
@@ -166,7 +168,7 @@ module _
                   rw (z, says.f_is T cs g few) (rw t at r)
 
         pub lap_found : few < c' →
-            LapsSay nest ps own left kids need₀ sets₀ loops froms uptos many d e from upto few out₀ start out' at'
+            LapsSay nest ps own left kids need₀ sets₀ claims d e from upto few out₀ start out' at'
         lap_found l =
             record {
               steps_are = λ T cs g. added_as (ap steps_text (enough T cs g l)) (added T cs g);
@@ -174,7 +176,7 @@ module _
             }
 
         pub lap_on : {need' sets' : List ℕ} → need' ≡ need → sets' ≡ sets → length out' ≡ length out → c' ≤ few →
-            Lapping nest ps own left kids need₀ sets₀ loops froms uptos many d e from upto few out₀ start need' sets' out'
+            Lapping nest ps own left kids need₀ sets₀ claims d e from upto few out₀ start need' sets' out'
             f' at' (j - 1)
         lap_on a b z l =
             record {

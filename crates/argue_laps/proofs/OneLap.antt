@@ -22,8 +22,9 @@ use Rattle.plan_method.proofs.Instance.{loop_laws}
 use Rattle.plan_method.proofs.Alike.{Same, Alike, sweep_alike}
 use Rattle.plan_sweeps.specs.Listed.{listed, tabled, sweep_of}
 use Rattle.argue_claims.specs.Arguments.{Claim}
-use Rattle.argue_claims.specs.Arguments as claims
+use Rattle.argue_claims.specs.Arguments as arguments
 use Rattle.argue_texts.specs.ArgumentTexts.{steps_text}
+use Rattle.argue_texts.specs.declared.Claimed.{Claimed}
 use Rattle.argue_key.specs.Laps.{close_up, close_step, lead_in, lap_need, lap_set, lap_swept, lap_end, lap_steps, trace}
 use Rattle.argue_spell.specs.Added.{step_text, Added}
 use Rattle.argue_spell.proofs.Adding.{added_then, added_as}
@@ -53,7 +54,7 @@ module _ (d upto c f at : ℕ) (out : List ℕ) where
   close_in l = kept (rw (le-ltb upto f l) (and_off (ltb 0 upto)))
 
   pub close_put : (out' : List ℕ) (next : ℕ) → (upto ≡ 0 → ⊥) → upto < f →
-      Added (step_text (claims.st 1 0)) at out out' next → next ≤ at + 14 →
+      Added (step_text (arguments.st 1 0)) at out out' next → next ≤ at + 14 →
       CloseSays d upto c f at out out' (c + 1) (d + 1) next
   unfolding close_up close_step put
   close_put out' next n l a k =
@@ -61,26 +62,26 @@ module _ (d upto c f at : ℕ) (out : List ℕ) where
       record {
         c_is = λ s x y. rw (← y, z) (omega arith);
         f_is = λ s x y. rw (← y, z) (omega arith);
-        step_is = adds_one {s = claims.st 1 0} (rw z) a;
+        step_is = adds_one {s = arguments.st 1 0} (rw z) a;
         near = k;
       }
 
 -- ---- the lap
 
 module _
-    {nest : DN.Nest} {ps own left : List ℕ} {kids : ℕ} {need sets loops froms uptos : List ℕ} {many d e from : ℕ}
-    (w : LapRoom nest ps own left kids need sets loops froms uptos many d e from)
+    {nest : DN.Nest} {ps own left : List ℕ} {kids : ℕ} {need sets : List ℕ} {claims : List Claimed} {d e from : ℕ}
+    (w : LapRoom nest ps own left kids need sets claims d e from)
     {f q num low v : ℕ} (s : Suffixed nest ps d e from f q num)
     (low_is : low ≡ min (at need q) e) (v_is : v ≡ pick (ltb e (at need q)) num (at sets q))
     {upto c m a c' f' next first : ℕ} {out mid out' : List ℕ}
-    (t : TraceSays ps own left kids (set need q low) (set sets q v) loops froms uptos many d e out first mid c m a)
+    (t : TraceSays ps own left kids (set need q low) (set sets q v) claims d e out first mid c m a)
     (k : CloseSays d upto c m a mid out' c' f' next)
   where
     abbrev ds : List Dep
     ds = (nest_in nest).deps
 
     module _ {T : Tables} {cs : List Claim}
-        (g : LapGround nest ps own left kids need sets loops froms uptos many d e T cs) where
+        (g : LapGround nest ps own left kids need sets claims d e T cs) where
       alike : Alike (loops_in ps) (listed ps own e) (lines_in ps ds) (lines_in ps ds) T (tabled left kids T.lay) d
       alike =
           record {
@@ -114,16 +115,16 @@ module _
       traced :
           trace (loops_in ps) T (lap_need ps ds d from f) (lap_set ps ds d from f) (lead_in T cs) d (end_of ps d)
           (end_of ps d) (start (end_of ps d)) ≡
-          trace_of ps own left kids (set need q low) (set sets q v) (lead_at left kids loops froms uptos many) T.lay
+          trace_of ps own left kids (set need q low) (set sets q v) (lead_at left kids claims) T.lay
           d e
       traced =
           trace_alike (loops_in ps) (listed ps own e) (loop_laws ps w.shape) (lines_in ps ds) (lines_in ps ds) T
           (tabled left kids T.lay) d w.is-do alike (lap_need ps ds d from f) (at (set need q low)) needs
           (lap_set ps ds d from f) (at (set sets q v)) (λ a i j. set_lapped w s g v_is a i j) (lead_in T cs)
-          (lead_at left kids loops froms uptos many)
+          (lead_at left kids claims)
           (λ l b x y i j. rw (g.left_is l b x y i j) (sym (g.claims_are l b (T.left l b)))) ∙
           ap (λ (y : ℕ). trace (listed ps own e) (tabled left kids T.lay) (at (set need q low)) (at (set sets q v))
-          (lead_at left kids loops froms uptos many) d y y (start y)) (sym w.e_is)
+          (lead_at left kids claims) d y y (start y)) (sym w.e_is)
 
       steps : (few : ℕ) →
           Added (steps_text (lap_steps ps ds T (lead_in T cs) d from upto few f)) first out out' next
@@ -135,11 +136,11 @@ module _
           added_as
           (rw traced
           (sym (steps_append
-          (trace_of ps own left kids (set need q low) (set sets q v) (lead_at left kids loops froms uptos many) T.lay
+          (trace_of ps own left kids (set need q low) (set sets q v) (lead_at left kids claims) T.lay
           d e) (close_step upto (lap_swept ps ds T (lead_in T cs) d from upto few f).f)))) y
 
     pub lapped :
-        LapSays nest ps own left kids need sets loops froms uptos many d e from upto f out first out' c' f' next
+        LapSays nest ps own left kids need sets claims d e from upto f out first out' c' f' next
     unfolding lap_end
     lapped =
         record {

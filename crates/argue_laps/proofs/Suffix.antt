@@ -1,5 +1,5 @@
 -- The suffix of a lap: it starts in the loop's range or at 0, and the two rows with it are what the lap's sweep reads.
--- Main definition: `Suffixed`. Main statements: `suffixed`, `sets_there`, `need_lapped`, `set_lapped`.
+-- Main definition: `Suffixed`. Main statements: `suffixed`, `placed`, `sets_there`, `need_lapped`, `set_lapped`.
 use mathlib.Core.Path.{◌≡◌, refl, sym, ◌∙◌, ap}
 use mathlib.Core.Bool.{Bool, true, false, ◌&&◌, not}
 use mathlib.Core.List.{List, [], ◌∷◌}
@@ -24,6 +24,7 @@ use Rattle.plan_method.specs.Home.{home_of, reach_of}
 use Rattle.plan_method.proofs.Instance.{AllFit}
 use Rattle.plan_rows.proofs.Suffix.{lowered}
 use Rattle.argue_claims.specs.Arguments.{Claim}
+use Rattle.argue_texts.specs.declared.Claimed.{Claimed}
 use Rattle.argue_key.specs.Laps.{Start, starting, is_back, starts_later, last_back, suffix_of, lap_need, lap_set}
 use Rattle.argue_sets.specs.Numbered.{line_set}
 use Rattle.argue_spell.specs.Added.{WORD}
@@ -84,8 +85,8 @@ pub record Suffixed (nest : DN.Nest) (ps : List ℕ) (d e from f q num : ℕ) : 
   pub small : num ≤ WORD
 
 module _
-    {nest : DN.Nest} {ps own left : List ℕ} {kids : ℕ} {need sets loops froms uptos : List ℕ} {many d e from : ℕ}
-    (w : LapRoom nest ps own left kids need sets loops froms uptos many d e from)
+    {nest : DN.Nest} {ps own left : List ℕ} {kids : ℕ} {need sets : List ℕ} {claims : List Claimed} {d e from : ℕ}
+    (w : LapRoom nest ps own left kids need sets claims d e from)
   where
     abbrev ds : List Dep
     ds = (nest_in nest).deps
@@ -121,6 +122,13 @@ module _
         small true c = omega arith
         small false c = omega arith
 
+    -- where it starts, both rows have an entry
+    pub placed : (f : ℕ) {at num q m : ℕ} → starting at num ≡ last_back (nest_in nest).points d f ds →
+        starting q m ≡ suffix_for (starting at num) from → (q < 256) × (q < length need) × (q < length sets)
+    placed f l s =
+        let high = (suffixed l s).high in
+        (omega (arith, high, w.short), omega (arith, high, w.sweeps.need_room), omega (arith, high, w.sets_room.room))
+
     module _ {f q num : ℕ} (s : Suffixed nest ps d e from f q num) where
       -- the row of sets with the suffix in it
       pub sets_there : {v : ℕ} → v ≡ pick (ltb e (at need q)) num (at sets q) → SetsRoom (set sets q v) e
@@ -140,7 +148,7 @@ module _
           few false = w.sets_room.small q
 
       module _ {T : Tables} {cs : List Claim}
-          (g : LapGround nest ps own left kids need sets loops froms uptos many d e T cs) where
+          (g : LapGround nest ps own left kids need sets claims d e T cs) where
         -- what the sweep needs
         pub need_lapped : (a : ℕ) → d < a → a ≤ end_of ps d →
             lap_need ps ds d from f a ≡ at (set need q (min (at need q) e)) a

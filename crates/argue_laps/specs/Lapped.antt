@@ -13,11 +13,12 @@ use Rattle.plan_method.proofs.World.{Child}
 use Rattle.plan_method.proofs.Instance.{AllFit}
 use Rattle.plan_sweeps.specs.Listed.{row, SweepRoom}
 use Rattle.argue_claims.specs.Arguments.{Claim}
-use Rattle.argue_texts.specs.ArgumentTexts.{steps_text}
+use Rattle.argue_texts.specs.ArgumentTexts.{CLAIMS, steps_text}
+use Rattle.argue_texts.specs.declared.Claimed.{Claimed}
 use Rattle.argue_key.specs.Laps.{Start, starting, find_claim, lead_in, close_up, close_step, lap_end, lap_steps, laps}
 use Rattle.argue_sets.specs.Numbered.{line_set}
 use Rattle.argue_spell.specs.Added.{Added}
-use Rattle.argue_trace.specs.Traced.{claims_at, HeadsRoom, SetsRoom}
+use Rattle.argue_trace.specs.Traced.{claims_in, SetsRoom}
 
 -- no lap has more bytes
 abbrev pub LAP : ℕ
@@ -28,8 +29,9 @@ pub record LapRoom
     (nest : DN.Nest)
     (ps own left : List ℕ)
     (kids : ℕ)
-    (need sets loops froms uptos : List ℕ)
-    (many d e from : ℕ)
+    (need sets : List ℕ)
+    (claims : List Claimed)
+    (d e from : ℕ)
     : Type 0 where
   pub counted : IsCounted nest
   pub points_are : ps ≡ (nest_in nest).points
@@ -41,15 +43,16 @@ pub record LapRoom
   pub from_in : from ≤ e
   pub sweeps : SweepRoom ps own need left kids e
   pub sets_room : SetsRoom sets e
-  pub heads : HeadsRoom loops froms uptos many
+  pub few_claims : length claims ≤ CLAIMS
 
 -- the lists hold the tables T and the claims cs
 pub record LapGround
     (nest : DN.Nest)
     (ps own left : List ℕ)
     (kids : ℕ)
-    (need sets loops froms uptos : List ℕ)
-    (many d e : ℕ)
+    (need sets : List ℕ)
+    (claims : List Claimed)
+    (d e : ℕ)
     (T : Tables)
     (cs : List Claim)
     : Type 0 where
@@ -60,7 +63,7 @@ pub record LapGround
   pub need_is : (a : ℕ) → d < a → a ≤ e → at need a ≡ reach_of ps (nest_in nest).deps d a
   pub sets_is : (a : ℕ) → d < a → a ≤ e → at sets a ≡ line_set ps (nest_in nest).deps d a
   pub claims_are
-      : (l a t : ℕ) → find_claim (claims_at loops froms uptos many 0) l a t ≡ find_claim cs l a t
+      : (l a t : ℕ) → find_claim (claims_in claims) l a t ≡ find_claim cs l a t
 
 -- the suffix that is left: of the last that goes back, or the one supposed
 abbrev pub suffix_for : Start → ℕ → Start
@@ -78,8 +81,9 @@ pub record LapSays
     (nest : DN.Nest)
     (ps own left : List ℕ)
     (kids : ℕ)
-    (need sets loops froms uptos : List ℕ)
-    (many d e from upto f : ℕ)
+    (need sets : List ℕ)
+    (claims : List Claimed)
+    (d e from upto f : ℕ)
     (out : List ℕ)
     (at : ℕ)
     (out' : List ℕ)
@@ -87,17 +91,17 @@ pub record LapSays
     : Type 0 where
   pub c_is
       : (T : Tables) (cs : List Claim)
-      → LapGround nest ps own left kids need sets loops froms uptos many d e T cs
+      → LapGround nest ps own left kids need sets claims d e T cs
       → (few : ℕ)
       → c' ≡ (lap_end ps (nest_in nest).deps T (lead_in T cs) d from upto few f).c
   pub f_is
       : (T : Tables) (cs : List Claim)
-      → LapGround nest ps own left kids need sets loops froms uptos many d e T cs
+      → LapGround nest ps own left kids need sets claims d e T cs
       → (few : ℕ)
       → f' ≡ (lap_end ps (nest_in nest).deps T (lead_in T cs) d from upto few f).f
   pub steps_are
       : (T : Tables) (cs : List Claim)
-      → LapGround nest ps own left kids need sets loops froms uptos many d e T cs
+      → LapGround nest ps own left kids need sets claims d e T cs
       → (few : ℕ)
       → Added (steps_text (lap_steps ps (nest_in nest).deps T (lead_in T cs) d from upto few f)) at out out' next
   pub near : next ≤ at + LAP
@@ -107,8 +111,9 @@ pub record LapsSay
     (nest : DN.Nest)
     (ps own left : List ℕ)
     (kids : ℕ)
-    (need sets loops froms uptos : List ℕ)
-    (many d e from upto few : ℕ)
+    (need sets : List ℕ)
+    (claims : List Claimed)
+    (d e from upto few : ℕ)
     (out : List ℕ)
     (at : ℕ)
     (out' : List ℕ)
@@ -116,7 +121,7 @@ pub record LapsSay
     : Type 0 where
   pub steps_are
       : (T : Tables) (cs : List Claim)
-      → LapGround nest ps own left kids need sets loops froms uptos many d e T cs
+      → LapGround nest ps own left kids need sets claims d e T cs
       → Added
       (steps_text (laps ps (nest_in nest).deps T (lead_in T cs) d from upto few (suc (suc (end_of ps d))) (suc d)))
       at out out' next

@@ -10,47 +10,47 @@ ghost use Rattle.argue_laps.specs.Lapped.{LAP, LapRoom, suffix_for, CloseSays, L
 
 use argue_sets::Start;
 use argue_spell::put_step;
+use argue_texts::Claimed;
 use argue_trace::Swept;
 use paper_nests::Nest;
+use plan_sweeps::Inside;
 
-// All laps, with their steps spelled from a place on; gives the place behind them.
+// A claim to be given: of the loop d with its ENDDO e, with a gap supposed from `from` on and one up to `upto`, 0 for
+// none; its laps end with the first that counts more than `few`.
+#[derive(Clone, Copy)]
+pub struct Head {
+    pub d: usize,
+    pub e: usize,
+    pub from: usize,
+    pub upto: usize,
+    pub few: usize,
+}
+
+// All laps, with their steps spelled from a place on; gives the place behind them. The needs and the sets of the gaps
+// stay two lists: plan_sweeps reads the needs alone, and a list of pairs would have to be copied for it.
 pub fn laps(
     nest: Nest,
-    points: &[u8],
-    own: &[usize],
-    left: &[u16],
-    kids: usize,
+    inside: &Inside,
     need: &mut [usize],
     sets: &mut [usize],
-    loops: &[u8],
-    froms: &[u8],
-    uptos: &[u8],
-    many: usize,
-    d: usize,
-    e: usize,
-    from: usize,
-    upto: usize,
-    few: usize,
+    claims: &[Claimed],
+    head: Head,
     out: &mut [u8],
     start: usize,
 ) -> usize
-    requires lap_room { LapRoom nest points.now own.now left.now kids need.old sets.old loops.now froms.now
-        uptos.now many d e from }
-    requires e_bound { start + LAP * (e + 2) ≤ FAR }
-    ensures laps_say { LapsSay nest points.now own.now left.now kids
-        need.old sets.old loops.now froms.now uptos.now many
-        d e from upto few out.old start out.new result }
+    requires lap_room { LapRoom nest inside.now.points.now inside.now.own.now inside.now.left.now inside.now.kids
+        need.old sets.old claims.now head.d head.e head.from }
+    requires e_bound { start + LAP * (head.e + 2) ≤ FAR }
+    ensures laps_say { LapsSay nest inside.now.points.now inside.now.own.now inside.now.left.now inside.now.kids
+        need.old sets.old claims.now head.d head.e head.from head.upto head.few out.old start out.new result }
     ensures need_unchanged { (need.new ≡ need.old) × (sets.new ≡ sets.old) }
 {
-    let mut f = d + 1;
+    let mut f = head.d + 1;
     let mut at = start;
-    for _ in 0..e + 2 {
-        let s = lap(
-            nest, points, own, left, kids, need, sets, loops, froms, uptos, many, d, e, from, upto,
-            f, out, at,
-        );
+    for _ in 0..head.e + 2 {
+        let s = lap(nest, inside, need, sets, claims, head, f, out, at);
         at = s.at;
-        if few < s.c {
+        if head.few < s.c {
             return at;
         }
         f = s.f;
@@ -62,45 +62,34 @@ pub fn laps(
 // taken out of them again.
 fn lap(
     nest: Nest,
-    points: &[u8],
-    own: &[usize],
-    left: &[u16],
-    kids: usize,
+    inside: &Inside,
     need: &mut [usize],
     sets: &mut [usize],
-    loops: &[u8],
-    froms: &[u8],
-    uptos: &[u8],
-    many: usize,
-    d: usize,
-    e: usize,
-    from: usize,
-    upto: usize,
+    claims: &[Claimed],
+    head: Head,
     f: usize,
     out: &mut [u8],
     start: usize,
 ) -> Swept
-    requires lap_room { LapRoom nest points.now own.now left.now kids need.old sets.old loops.now froms.now
-        uptos.now many d e from }
+    requires lap_room { LapRoom nest inside.now.points.now inside.now.own.now inside.now.left.now inside.now.kids
+        need.old sets.old claims.now head.d head.e head.from }
     requires start_bound { start + LAP ≤ FAR }
-    ensures lap_says { LapSays nest points.now own.now left.now kids
-        need.old sets.old loops.now froms.now uptos.now many
-        d e from upto f out.old start out.new result.c result.f result.at }
+    ensures lap_says { LapSays nest inside.now.points.now inside.now.own.now inside.now.left.now inside.now.kids
+        need.old sets.old claims.now head.d head.e head.from head.upto f out.old start
+        out.new result.c result.f result.at }
     ensures need_unchanged { (need.new ≡ need.old) × (sets.new ≡ sets.old) }
 {
-    let last = argue_sets::last_back(nest, d, f);
-    let suffix = suffix_of(last, from);
+    let last = argue_sets::last_back(nest, head.d, f);
+    let suffix = suffix_of(last, head.from);
     let q = suffix.at;
     let reach = need[q];
     let line = sets[q];
-    need[q] = reach.min(e);
-    sets[q] = where_less(e, reach, suffix.num, line);
-    let s = argue_trace::trace(
-        points, own, left, kids, need, sets, loops, froms, uptos, many, d, e, out, start,
-    );
+    need[q] = reach.min(head.e);
+    sets[q] = where_less(head.e, reach, suffix.num, line);
+    let s = argue_trace::trace(inside, need, sets, claims, head.d, head.e, out, start);
     need[q] = reach;
     sets[q] = line;
-    close_up(s, d, upto, out)
+    close_up(s, head.d, head.upto, out)
 }
 
 // The suffix that is left: of what goes back, or the one supposed.

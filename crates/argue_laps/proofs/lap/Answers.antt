@@ -2,7 +2,7 @@
 use native.Mathlib.Omega.{arith}
 use lib.ListN.{length-set}
 use Rattle.paper_nests.proofs.Loops.{end-after}
-use Rattle.argue_laps.proofs.Suffix.{few_back, suffixed, sets_there, set_again}
+use Rattle.argue_laps.proofs.Suffix.{few_back, suffixed, placed, sets_there, set_again}
 use Rattle.argue_laps.proofs.OneLap.{lapped}
 use Rattle.argue_laps.proofs.lap.Goals as goal
 
@@ -11,111 +11,102 @@ suffix_of-suffix-requires c = few_back c.requires.lap_room c.args.f c.last_back-
 
 pub offset_bounds-need-q : goal.offset_bounds-need-q
 offset_bounds-need-q c =
-    let room = c.requires.lap_room in
-    let suffix = suffixed room c.last_back-last.ensures c.suffix_of-suffix.ensures in
-    omega (arith, suffix.high, room.short)
+    let q = placed c.requires.lap_room c.args.f c.last_back-last.ensures c.suffix_of-suffix.ensures in
+    omega (arith, q.0)
 
 pub bounds-need-q : goal.bounds-need-q
 bounds-need-q c =
-    let room = c.requires.lap_room in
-    let suffix = suffixed room c.last_back-last.ensures c.suffix_of-suffix.ensures in
-    omega (arith, suffix.high, room.sweeps.need_room)
+    let q = placed c.requires.lap_room c.args.f c.last_back-last.ensures c.suffix_of-suffix.ensures in
+    omega (arith, q.1)
 
 pub offset_bounds-sets-q : goal.offset_bounds-sets-q
 offset_bounds-sets-q c =
-    let room = c.requires.lap_room in
-    let suffix = suffixed room c.last_back-last.ensures c.suffix_of-suffix.ensures in
-    omega (arith, suffix.high, room.short)
+    let q = placed c.requires.lap_room c.args.f c.last_back-last.ensures c.suffix_of-suffix.ensures in
+    omega (arith, q.0)
 
 pub bounds-sets-q : goal.bounds-sets-q
 bounds-sets-q c =
-    let room = c.requires.lap_room in
-    let suffix = suffixed room c.last_back-last.ensures c.suffix_of-suffix.ensures in
-    omega (arith, suffix.high, room.sets_room.room)
+    let q = placed c.requires.lap_room c.args.f c.last_back-last.ensures c.suffix_of-suffix.ensures in
+    omega (arith, q.2)
 
 pub offset_bounds-need-q-2 : goal.offset_bounds-need-q-2
 offset_bounds-need-q-2 c =
-    let room = c.requires.lap_room in
-    let suffix = suffixed room c.last_back-last.ensures c.suffix_of-suffix.ensures in
-    omega (arith, suffix.high, room.short)
+    let q = placed c.requires.lap_room c.args.f c.last_back-last.ensures c.suffix_of-suffix.ensures in
+    omega (arith, q.0)
 
 pub bounds-need-q-2 : goal.bounds-need-q-2
 bounds-need-q-2 c =
-    let room = c.requires.lap_room in
-    let suffix = suffixed room c.last_back-last.ensures c.suffix_of-suffix.ensures in
-    omega (arith, suffix.high, room.sweeps.need_room)
+    let q = placed c.requires.lap_room c.args.f c.last_back-last.ensures c.suffix_of-suffix.ensures in
+    omega (arith, q.1)
 
 pub offset_bounds-sets-q-2 : goal.offset_bounds-sets-q-2
 offset_bounds-sets-q-2 c =
-    let room = c.requires.lap_room in
-    let suffix = suffixed room c.last_back-last.ensures c.suffix_of-suffix.ensures in
-    omega (arith, suffix.high, room.short)
+    let q = placed c.requires.lap_room c.args.f c.last_back-last.ensures c.suffix_of-suffix.ensures in
+    omega (arith, q.0)
 
 pub bounds-sets-q-2 : goal.bounds-sets-q-2
 bounds-sets-q-2 c =
-    let room = c.requires.lap_room in
-    let suffix = suffixed room c.last_back-last.ensures c.suffix_of-suffix.ensures in
-    omega (arith, suffix.high, room.sets_room.room)
+    let q = placed c.requires.lap_room c.args.f c.last_back-last.ensures c.suffix_of-suffix.ensures in
+    omega (arith, q.2)
 
 pub trace-s-requires : goal.trace-s-requires
 trace-s-requires c =
-    let room = c.requires.lap_room in
-    let suffix = suffixed room c.last_back-last.ensures c.suffix_of-suffix.ensures in
-    let a = c.args in
-    let w = room in record {
+    let w = c.requires.lap_room in
+    let suffix = suffixed w c.last_back-last.ensures c.suffix_of-suffix.ensures in
+    record {
       sweep_room = record {
         points_room = w.sweeps.points_room;
         own_room = w.sweeps.own_room;
         own_low = w.sweeps.own_low;
-        need_room = rw (length-set a.need.now c.suffix_of-suffix.result.at c.min.result) w.sweeps.need_room;
+        need_room = rw length-set w.sweeps.need_room;
         left_room = w.sweeps.left_room;
       };
       sets_room = sets_there w suffix c.where_less.ensures;
-      heads_room = w.heads;
+      few_claims = w.few_claims;
       e_bound = (w.short, omega (arith, w.short, c.requires.start_bound));
     }
 
 pub offset_bounds-need-q-3 : goal.offset_bounds-need-q-3
 offset_bounds-need-q-3 c =
-    let room = c.requires.lap_room in
-    let suffix = suffixed room c.last_back-last.ensures c.suffix_of-suffix.ensures in
-    omega (arith, suffix.high, room.short)
+    let q = placed c.requires.lap_room c.args.f c.last_back-last.ensures c.suffix_of-suffix.ensures in
+    omega (arith, q.0)
 
 pub bounds-need-q-3 : goal.bounds-need-q-3
 bounds-need-q-3 c =
-    let room = c.requires.lap_room in
-    let suffix = suffixed room c.last_back-last.ensures c.suffix_of-suffix.ensures in
-    rw (length-set c.args.need.now c.suffix_of-suffix.result.at c.min.result)
-    (omega (arith, suffix.high, room.sweeps.need_room))
+    let q = placed c.requires.lap_room c.args.f c.last_back-last.ensures c.suffix_of-suffix.ensures in
+    rw length-set q.1
 
 pub offset_bounds-sets-q-3 : goal.offset_bounds-sets-q-3
 offset_bounds-sets-q-3 c =
-    let room = c.requires.lap_room in
-    let suffix = suffixed room c.last_back-last.ensures c.suffix_of-suffix.ensures in
-    omega (arith, suffix.high, room.short)
+    let q = placed c.requires.lap_room c.args.f c.last_back-last.ensures c.suffix_of-suffix.ensures in
+    omega (arith, q.0)
 
 pub bounds-sets-q-3 : goal.bounds-sets-q-3
 bounds-sets-q-3 c =
-    let room = c.requires.lap_room in
-    let suffix = suffixed room c.last_back-last.ensures c.suffix_of-suffix.ensures in
-    rw (length-set c.args.sets.now c.suffix_of-suffix.result.at c.where_less.result)
-    (omega (arith, suffix.high, room.sets_room.room))
+    let q = placed c.requires.lap_room c.args.f c.last_back-last.ensures c.suffix_of-suffix.ensures in
+    rw length-set q.2
 
 pub close_up-requires : goal.close_up-requires
 close_up-requires c =
-    let room = c.requires.lap_room in
     let a = c.args in
-    let w = room in
-    let t = c.trace-s.ensures in record { c_bound = (omega (arith, t.few, w.short), omega (arith, end-after a.points.now w.shape a.d w.is-do, w.e_is, w.short)); at_bound = omega (arith, t.near, w.short, c.requires.start_bound) }
+    let w = c.requires.lap_room in
+    let t = c.trace-s.ensures in
+    record {
+      c_bound = (
+        omega (arith, t.few, w.short),
+        omega (arith, end-after a.inside.now.points.now w.shape a.head.d w.is-do, w.e_is, w.short),
+      );
+      at_bound = omega (arith, t.near, w.short, c.requires.start_bound);
+    }
 
 pub returns : goal.returns
 returns c =
     let room = c.requires.lap_room in
     let suffix = suffixed room c.last_back-last.ensures c.suffix_of-suffix.ensures in
     let a = c.args in
-    let q = c.suffix_of-suffix.result.at in record {
-      lap_says = lapped room suffix c.min.ensures c.where_less.ensures c.trace-s.ensures
-          c.close_up.ensures;
+    let q = c.suffix_of-suffix.result.at in
+    record {
+      lap_says = lapped room suffix c.min.ensures c.where_less.ensures c.trace-s.ensures c.close_up.ensures;
       need_unchanged = (
         set_again a.need.now q c.min.result,
         set_again a.sets.now q c.where_less.result,

@@ -9,11 +9,11 @@ use Rattle.argue_laps.proofs.laps.Goals as goal
 pub overflow_add-f : goal.overflow_add-f
 overflow_add-f c =
     let w = c.requires.lap_room in
-    omega (arith, end-after c.args.points.now w.shape c.args.d w.is-do, w.e_is, w.short)
+    omega (arith, end-after c.args.inside.now.points.now w.shape c.args.head.d w.is-do, w.e_is, w.short)
 
 pub loop-init : goal.loop-init
 loop-init c =
-    let z : c.args.e + 2 - 0 ≡ c.args.e + 2 = omega arith in
+    let z : c.args.head.e + 2 - 0 ≡ c.args.head.e + 2 = omega arith in
     rw z (lap_begin c.requires.lap_room)
 
 pub lap-s-requires : goal.lap-s-requires
@@ -23,11 +23,11 @@ lap-s-requires c =
       start_bound = omega (arith, c.loop.invariant.near, c.requires.e_bound, c.loop-test.true);
     }
 
-pub returns-then-few-s : goal.returns-then-few-s
-returns-then-few-s c =
+pub returns-then-head-s : goal.returns-then-head-s
+returns-then-head-s c =
     let p = c.loop.invariant in
     record {
-      laps_say = lap_found c.requires.lap_room p (omega arith) c.lap-s.ensures.lap_says c.if-few-s.true;
+      laps_say = lap_found c.requires.lap_room p (omega arith) c.lap-s.ensures.lap_says c.if-head-s.true;
       need_unchanged =
           (c.lap-s.ensures.need_unchanged.0 ∙ p.need_is, c.lap-s.ensures.need_unchanged.1 ∙ p.sets_is);
     }
@@ -36,7 +36,7 @@ pub loop-preserved : goal.loop-preserved
 loop-preserved c =
     rw sub-add-eq
     (lap_on c.requires.lap_room c.loop.invariant (omega arith) c.lap-s.ensures.lap_says
-    c.lap-s.ensures.need_unchanged.0 c.lap-s.ensures.need_unchanged.1 c.lap-s.auto.out c.if-few-s.false)
+    c.lap-s.ensures.need_unchanged.0 c.lap-s.ensures.need_unchanged.1 c.lap-s.auto.out c.if-head-s.false)
 
 pub returns : goal.returns
 returns c =

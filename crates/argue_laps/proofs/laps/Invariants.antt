@@ -5,4 +5,4 @@ use Rattle.argue_laps.proofs.laps.Given as goal
 
 abbrev pub invariant-loop : goal.invariant-loop
 invariant-loop l =
-    Lapping l.nest l.points l.own l.left l.kids l.initial.need l.initial.sets l.loops l.froms l.uptos l.many l.d l.e l.from l.upto l.few l.initial.out l.start l.need l.sets l.out l.f l.at (l.e + 2 - l.counter)
+    Lapping l.nest l.inside.points.now l.inside.own.now l.inside.left.now l.inside.kids l.initial.need l.initial.sets l.claims l.head.d l.head.e l.head.from l.head.upto l.head.few l.initial.out l.start l.need l.sets l.out l.f l.at (l.head.e + 2 - l.counter)
