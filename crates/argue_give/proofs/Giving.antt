@@ -4,29 +4,26 @@ use mathlib.Core.Path.{◌≡◌, refl, sym, ◌∙◌, ap}
 use mathlib.Core.List.{List, [], ◌∷◌, ◌++◌, append-nil, append_assoc}
 use Prim.Native.Nat.{ℕ, zero, suc, ◌+◌, ◌-◌, ◌%◌, ◌≤◌, ◌<◌}
 use native.Mathlib.Omega.{arith}
-use lib.ListN.{length, set, length-append}
-use lib.Seq.{get_or-set_same, get_or-set_other}
-use Rattle.laws.specs.Entries.{at}
+use lib.ListN.{length, set, take, length-append}
+use Rattle.std.proofs.lemmas.List.{length-take}
 use Rattle.paper_nests.specs.Nests.{Dep}
 use Rattle.paper_nests.specs.declared.Nest as DN
 use Rattle.paper_nests.specs.Stored.{nest_in}
+use Rattle.paper_nests.proofs.Loops.{end-after}
 use Rattle.plan_method.specs.Sweep.{Tables}
 use Rattle.argue_claims.specs.Arguments.{Claim, claim}
 use Rattle.argue_texts.specs.ArgumentTexts.{CLAIMS, steps_text, argument_text}
+use Rattle.argue_texts.specs.declared.Claimed.{Claimed}
 use Rattle.argue_key.specs.Laps.{before, Head, head, few_for, find_claim, steps_for, claim_for, made}
 use Rattle.argue_spell.specs.Added.{head_text, Added}
 use Rattle.argue_spell.proofs.Adding.{added_then, added_as}
-use Rattle.argue_trace.specs.Traced.{claims_at}
+use Rattle.argue_trace.specs.Traced.{claim_in, claims_in}
 use Rattle.argue_laps.specs.Lapped.{LapRoom, LapGround, LapsSay}
 use Rattle.argue_give.specs.Given.{bare_all, Gives, GiveRoom, GiveGround}
 
-pub before_is : (x : ℕ) → (x ≡ 0 → ⊥) → x - 1 ≡ before x
-before_is zero n = absurd (n refl)
-before_is (suc x) n = omega arith
-
-pub before_low : (x : ℕ) → before x ≤ x
-before_low zero = omega arith
-before_low (suc x) = omega arith
+pub before_is : (x : ℕ) → x - 1 ≡ before x
+before_is zero = refl
+before_is (suc x) = omega arith
 
 -- ---- lists of claims
 
@@ -72,62 +69,20 @@ unfolding bare_all find_claim
 bare_found [] l a t = refl
 bare_found (k ∷ cs) l a t = rw (bare_found cs l a t)
 
--- ---- the three lists
+-- ---- the list
 
-claims_long : (loops froms uptos : List ℕ) (k i : ℕ) → length (claims_at loops froms uptos k i) ≡ k
-unfolding claims_at
-claims_long loops froms uptos zero i = refl
-claims_long loops froms uptos (suc k) i = ap suc (claims_long loops froms uptos k (suc i))
-
-claims_last : (loops froms uptos : List ℕ) (k i : ℕ) →
-    claims_at loops froms uptos (suc k) i ≡
-    claims_at loops froms uptos k i ++ (claim (at loops (i + k)) (at froms (i + k)) (at uptos (i + k)) [] ∷ [])
-unfolding claims_at
-claims_last loops froms uptos zero i = let z : i + 0 ≡ i = omega arith in rw z
-claims_last loops froms uptos (suc k) i =
-    let z : suc i + k ≡ i + suc k = omega arith in
-    ap (λ (x : List Claim). claim (at loops i) (at froms i) (at uptos i) [] ∷ x)
-    (rw z at (claims_last loops froms uptos k (suc i)))
-
-claims_kept : (loops froms uptos loops' froms' uptos' : List ℕ) (k i : ℕ) →
-    ((j : ℕ) → j < i + k → at loops' j ≡ at loops j) → ((j : ℕ) → j < i + k → at froms' j ≡ at froms j) →
-    ((j : ℕ) → j < i + k → at uptos' j ≡ at uptos j) →
-    claims_at loops' froms' uptos' k i ≡ claims_at loops froms uptos k i
-unfolding claims_at
-claims_kept loops froms uptos loops' froms' uptos' zero i a b c = refl
-claims_kept loops froms uptos loops' froms' uptos' (suc k) i a b c =
-    rw (
-      a i (omega arith),
-      b i (omega arith),
-      c i (omega arith),
-      claims_kept loops froms uptos loops' froms' uptos' k (suc i) (λ j h. a j (omega arith)) (λ j h. b j (omega arith))
-          (λ j h. c j (omega arith)),
-    )
-
--- one claim more in them
-noted : (loops froms uptos : List ℕ) (many d a b : ℕ) → many < length loops → many < length froms →
-    many < length uptos →
-    claims_at (set loops many d) (set froms many a) (set uptos many b) (suc many) 0 ≡
-    claims_at loops froms uptos many 0 ++ (claim d a b [] ∷ [])
-noted loops froms uptos many d a b x y z =
-    let m : 0 + many ≡ many = omega arith in
-    claims_last (set loops many d) (set froms many a) (set uptos many b) many 0 ∙
-    rw (
-      m,
-      get_or-set_same loops many d 0 x,
-      get_or-set_same froms many a 0 y,
-      get_or-set_same uptos many b 0 z,
-      claims_kept loops froms uptos (set loops many d) (set froms many a) (set uptos many b) many 0
-          (λ j h. get_or-set_other loops many j d 0 (λ (q : j ≡ many). omega arith))
-          (λ j h. get_or-set_other froms many j a 0 (λ (q : j ≡ many). omega arith))
-          (λ j h. get_or-set_other uptos many j b 0 (λ (q : j ≡ many). omega arith)),
-    )
+-- one claim more in it
+noted : (claims : List Claimed) (many : ℕ) (k : Claimed) → many < length claims →
+    claims_in (take (suc many) (set claims many k)) ≡ claims_in (take many claims) ++ (claim_in k ∷ [])
+noted [] many k h = absurd (omega arith)
+noted (x ∷ xs) zero k h = refl
+noted (x ∷ xs) (suc many) k h = ap (λ (ks : List Claim). claim_in x ∷ ks) (noted xs many k (omega arith))
 
 -- ---- giving
 
 module _ {ps : List ℕ} {ds : List Dep} {G : Tables → Type 0} where
-  pub gives_none : {out : List ℕ} {at : ℕ} {loops froms uptos : List ℕ} {many : ℕ} →
-      Gives ps ds G (λ T. []) out at loops froms uptos many out at loops froms uptos many
+  pub gives_none : {out : List ℕ} {at : ℕ} {claims : List Claimed} {many : ℕ} →
+      Gives ps ds G (λ T. []) out at claims many out at claims many
   unfolding made
   gives_none =
       record {
@@ -138,10 +93,10 @@ module _ {ps : List ℕ} {ds : List Dep} {G : Tables → Type 0} where
       }
 
   pub gives_then : {hs gs : Tables → List Head} {out out₁ out₂ : List ℕ} {at at₁ at₂ : ℕ}
-      {loops loops₁ loops₂ froms froms₁ froms₂ uptos uptos₁ uptos₂ : List ℕ} {many many₁ many₂ : ℕ} →
-      Gives ps ds G hs out at loops froms uptos many out₁ at₁ loops₁ froms₁ uptos₁ many₁ →
-      Gives ps ds G gs out₁ at₁ loops₁ froms₁ uptos₁ many₁ out₂ at₂ loops₂ froms₂ uptos₂ many₂ →
-      Gives ps ds G (λ T. hs T ++ gs T) out at loops froms uptos many out₂ at₂ loops₂ froms₂ uptos₂ many₂
+      {claims claims₁ claims₂ : List Claimed} {many many₁ many₂ : ℕ} →
+      Gives ps ds G hs out at claims many out₁ at₁ claims₁ many₁ →
+      Gives ps ds G gs out₁ at₁ claims₁ many₁ out₂ at₂ claims₂ many₂ →
+      Gives ps ds G (λ T. hs T ++ gs T) out at claims many out₂ at₂ claims₂ many₂
   gives_then {hs} {gs} a b =
       record {
         many_is = λ T g. omega (arith, a.many_is T g, b.many_is T g, length-append (hs T) (gs T));
@@ -155,9 +110,9 @@ module _ {ps : List ℕ} {ds : List Dep} {G : Tables → Type 0} where
 
   -- the same heads in other words
   pub gives_as : {hs gs : Tables → List Head} {out out' : List ℕ} {at at' : ℕ}
-      {loops loops' froms froms' uptos uptos' : List ℕ} {many many' : ℕ} → ((T : Tables) → G T → hs T ≡ gs T) →
-      Gives ps ds G hs out at loops froms uptos many out' at' loops' froms' uptos' many' →
-      Gives ps ds G gs out at loops froms uptos many out' at' loops' froms' uptos' many'
+      {claims claims' : List Claimed} {many many' : ℕ} → ((T : Tables) → G T → hs T ≡ gs T) →
+      Gives ps ds G hs out at claims many out' at' claims' many' →
+      Gives ps ds G gs out at claims many out' at' claims' many'
   gives_as e a =
       record {
         many_is = λ T g. rw (← e T g) (a.many_is T g);
@@ -168,10 +123,10 @@ module _ {ps : List ℕ} {ds : List Dep} {G : Tables → Type 0} where
 
 -- of fewer tables
 pub gives_under : {ps : List ℕ} {ds : List Dep} {G F : Tables → Type 0} {hs : Tables → List Head}
-    {out out' : List ℕ} {at at' : ℕ} {loops loops' froms froms' uptos uptos' : List ℕ} {many many' : ℕ} →
+    {out out' : List ℕ} {at at' : ℕ} {claims claims' : List Claimed} {many many' : ℕ} →
     ((T : Tables) → F T → G T) →
-    Gives ps ds G hs out at loops froms uptos many out' at' loops' froms' uptos' many' →
-    Gives ps ds F hs out at loops froms uptos many out' at' loops' froms' uptos' many'
+    Gives ps ds G hs out at claims many out' at' claims' many' →
+    Gives ps ds F hs out at claims many out' at' claims' many'
 gives_under e a =
     record {
       many_is = λ T g. a.many_is T (e T g);
@@ -183,12 +138,19 @@ gives_under e a =
 -- ---- one claim
 
 module _
-    {nest : DN.Nest} {ps own left : List ℕ} {kids : ℕ} {need sets loops froms uptos : List ℕ} {d e : ℕ}
-    (w : GiveRoom nest ps own left kids need sets loops froms uptos d e)
+    {nest : DN.Nest} {ps own left : List ℕ} {kids : ℕ} {need sets : List ℕ} {claims : List Claimed} {d e : ℕ}
+    (w : GiveRoom nest ps own left kids need sets claims d e)
   where
+    pub long : d < e
+    long = omega (arith, end-after ps w.shape d w.is-do, w.e_is)
+
+    -- its DO is a byte, as its ENDDO is
+    pub claim_small : d < 256
+    claim_small = omega (arith, long, w.short)
+
     pub laps_room : {many from : ℕ} → many < CLAIMS → from ≤ e →
-        LapRoom nest ps own left kids need sets loops froms uptos many d e from
-    laps_room h k =
+        LapRoom nest ps own left kids need sets (take many claims) d e from
+    laps_room {many} h k =
         record {
           counted = w.counted;
           points_are = w.points_are;
@@ -200,18 +162,12 @@ module _
           from_in = k;
           sweeps = w.sweeps;
           sets_room = w.sets_room;
-          heads =
-              record {
-                few = omega arith;
-                loops_room = omega (arith, w.loops_room);
-                froms_room = omega (arith, w.froms_room);
-                uptos_room = omega (arith, w.uptos_room);
-              };
+          few_claims = omega (arith, length-take many claims, w.claims_room);
         }
 
     -- too many were given
     pub gives_many : {G : Tables → Type 0} (h : Head) {out : List ℕ} {at many : ℕ} → CLAIMS ≤ many →
-        Gives ps (nest_in nest).deps G (λ T. h ∷ []) out at loops froms uptos many out at loops froms uptos (many + 1)
+        Gives ps (nest_in nest).deps G (λ T. h ∷ []) out at claims many out at claims (many + 1)
     gives_many h l =
         record {
           many_is = λ T g. refl;
@@ -221,13 +177,13 @@ module _
         }
 
     module _ {from upto few many : ℕ} (fewer : many < CLAIMS) (from_in : from ≤ e) (upto_small : upto < 256)
-        (d_small : d < 256) {out mid out' : List ℕ} {at body next : ℕ}
+        {out mid out' : List ℕ} {at body next : ℕ}
         (line : Added (head_text d from upto) at out mid body) (short : body ≤ at + 9)
-        (steps : LapsSay nest ps own left kids need sets loops froms uptos many d e from upto few mid body out' next)
+        (steps : LapsSay nest ps own left kids need sets (take many claims) d e from upto few mid body out' next)
       where
         ground : {T : Tables} {cs : List Claim} → GiveGround nest ps own left kids need sets d e T →
-            bare_all cs ≡ claims_at loops froms uptos many 0 →
-            LapGround nest ps own left kids need sets loops froms uptos many d e T cs
+            bare_all cs ≡ claims_in (take many claims) →
+            LapGround nest ps own left kids need sets (take many claims) d e T cs
         ground {cs = cs} g b =
             record {
               own_is = g.own_is;
@@ -239,7 +195,7 @@ module _
 
         -- the claim's text
         text : (T : Tables) (cs : List Claim) → GiveGround nest ps own left kids need sets d e T →
-            few ≡ few_for T (head d from upto) → bare_all cs ≡ claims_at loops froms uptos many 0 →
+            few ≡ few_for T (head d from upto) → bare_all cs ≡ claims_in (take many claims) →
             Added (argument_text (claim_for ps (nest_in nest).deps T cs (head d from upto) ∷ [])) at out out' next
         unfolding steps_for
         text T cs g f b =
@@ -249,8 +205,8 @@ module _
         pub gives_one :
             Gives ps (nest_in nest).deps
             (λ T. GiveGround nest ps own left kids need sets d e T × (few ≡ few_for T (head d from upto)))
-            (λ T. head d from upto ∷ []) out at loops froms uptos many out' next
-            (set loops many (d % 256)) (set froms many (from % 256)) (set uptos many (upto % 256)) (many + 1)
+            (λ T. head d from upto ∷ []) out at claims many out' next
+            (set claims many record { d = d % 256; a = from % 256; b = upto % 256 }) (many + 1)
         unfolding made bare_all
         gives_one =
             record {
@@ -267,13 +223,11 @@ module _
             }
           where
             heads :
-                claims_at (set loops many (d % 256)) (set froms many (from % 256)) (set uptos many (upto % 256))
-                (many + 1) 0 ≡ claims_at loops froms uptos many 0 ++ (claim d from upto [] ∷ [])
+                claims_in (take (many + 1) (set claims many record { d = d % 256; a = from % 256; b = upto % 256 })) ≡
+                claims_in (take many claims) ++ (claim d from upto [] ∷ [])
             heads =
                 let m : many + 1 ≡ suc many = omega arith in
-                let x : d % 256 ≡ d = omega arith in
+                let x : d % 256 ≡ d = omega (arith, claim_small) in
                 let y : from % 256 ≡ from = omega (arith, w.short) in
                 let z : upto % 256 ≡ upto = omega arith in
-                rw (m, x, y, z)
-                (noted loops froms uptos many d from upto (omega (arith, w.loops_room)) (omega (arith, w.froms_room))
-                (omega (arith, w.uptos_room)))
+                rw (m, x, y, z) (noted claims many record { d = d; a = from; b = upto } (omega (arith, w.claims_room)))

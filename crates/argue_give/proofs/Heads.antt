@@ -1,74 +1,53 @@
 -- The claims of a loop: the low one, and those that say where it has no gap.
--- Main statements: `room_again`, `low-ground`, `side-ground`, `sides_are`, `heads-are`, `heads-outermost`.
-use mathlib.Core.Path.{◌≡◌, refl, sym, ◌∙◌, ap}
-use mathlib.Core.Bool.{true}
+-- Main statements: `low_few`, `low_put`, `low_none`, `side_few`, `side_put`, `side_none`, `outermost`.
+use mathlib.Core.Path.{◌≡◌, refl, sym}
 use mathlib.Core.List.{List, [], ◌∷◌, ◌++◌, append-nil}
-use Prim.Native.Nat.{ℕ, zero, suc, ◌+◌, ◌<◌}
+use Prim.Native.Nat.{ℕ, suc, ◌+◌, ◌-◌, ◌≤◌, ◌<◌}
 use native.Mathlib.Omega.{arith}
-use lib.Dec.{ltb}
-use lib.ListN.{length}
-use borrow.Author.Tests.{ne_eqb, lt-ltb, ltb-true}
-use Rattle.laws.specs.Choice.{pick}
+use borrow.Author.Tests.{ne_eqb, lt-ltb, le-ltb}
 use Rattle.paper_nests.specs.declared.Nest as DN
 use Rattle.plan_method.specs.Sweep.{Tables}
 use Rattle.plan_sweeps.specs.Listed.{row}
-use Rattle.argue_key.specs.Laps.{before, head, few_for, low_heads, side_heads, row_heads}
-use Rattle.argue_give.specs.Given.{GiveRoom, RowGround}
-
--- room, as before
-pub room_again : {nest : DN.Nest} {ps own left : List ℕ} {kids : ℕ}
-    {need sets loops froms uptos need' sets' loops' froms' uptos' : List ℕ} {d e : ℕ} →
-    GiveRoom nest ps own left kids need sets loops froms uptos d e → need' ≡ need → sets' ≡ sets →
-    length loops' ≡ length loops → length froms' ≡ length froms → length uptos' ≡ length uptos →
-    GiveRoom nest ps own left kids need' sets' loops' froms' uptos' d e
-room_again w a b l f u =
-    rw (a, b)
-    record {
-      counted = w.counted;
-      points_are = w.points_are;
-      shape = w.shape;
-      fit = w.fit;
-      is-do = w.is-do;
-      e_is = w.e_is;
-      short = w.short;
-      sweeps = w.sweeps;
-      sets_room = w.sets_room;
-      loops_room = omega (arith, w.loops_room, l);
-      froms_room = omega (arith, w.froms_room, f);
-      uptos_room = omega (arith, w.uptos_room, u);
-    }
+use Rattle.argue_key.specs.Laps.{head, few_for, low_heads, side_heads, row_heads}
+use Rattle.argue_give.specs.Given.{RowGround}
+use Rattle.argue_give.proofs.Giving.{before_is}
 
 module _ {nest : DN.Nest} {ps own left : List ℕ} {kids base : ℕ} {need sets : List ℕ} {d e cost : ℕ} (T : Tables)
     (r : RowGround nest ps own left kids base need sets d e cost T) where
-  -- the low claim
-  pub low_few : (fewer : ℕ) → fewer ≡ before cost → fewer ≡ few_for T (head d 0 0)
-  low_few fewer z = z ∙ ap before r.cost_is
+  -- the low claim, or none
+  pub low_few : cost - 1 ≡ few_for T (head d 0 0)
+  low_few = rw (← r.cost_is) (before_is cost)
 
-  pub low_is : pick (ltb 0 cost) (head d 0 0 ∷ []) [] ≡ low_heads T d
-  low_is = rw r.cost_is refl
+  pub low_put : 0 < cost → head d 0 0 ∷ [] ≡ low_heads T d
+  low_put h = rw (← r.cost_is, lt-ltb 0 cost h) refl
 
-  -- none up to the first front
-  module _ (long : d < e) (upto : ℕ) (upto_is : upto ≡ before (row left base (d + 1))) where
+  pub low_none : cost ≤ 0 → [] ≡ low_heads T d
+  low_none h = rw (← r.cost_is, le-ltb 0 cost h) refl
+
+  -- none up to the first front, or no such claim
+  pub side_few : d + 1 < row left base (d + 1) → cost ≡ few_for T (head d 0 (row left base (d + 1) - 1))
+  side_few h =
+      let z : (row left base (d + 1) - 1 ≡ 0 → ⊥) = λ y. omega arith in
+      rw (ne_eqb (row left base (d + 1) - 1) 0 z) r.cost_is
+
+  module _ (inside : d < e) (inner : 0 < d) where
     first : row left base (d + 1) ≡ T.left d (suc d)
     first =
         let z : d + 1 ≡ suc d = omega arith in
         rw z (r.row_is (suc d) (omega arith) (omega arith))
 
-    pub side_few : ltb (d + 1) (row left base (d + 1)) ≡ true → cost ≡ few_for T (head d 0 upto)
-    side_few h =
-        let z : (upto ≡ 0 → ⊥) = λ (y : upto ≡ 0). positive (row left base (d + 1))
-        (ltb-true (d + 1) (row left base (d + 1)) h) (sym upto_is ∙ y) in
-        rw (ne_eqb upto 0 z) r.cost_is
-      where
-        positive : (x : ℕ) → d + 1 < x → before x ≡ 0 → ⊥
-        positive zero k y = omega arith
-        positive (suc x) k y = omega arith
-
-    pub sides_are : 0 < d →
-        pick (ltb (d + 1) (row left base (d + 1))) (head d 0 upto ∷ []) [] ++ row_heads T d e ≡ side_heads T d e
-    sides_are h =
+    pub side_put : d + 1 < row left base (d + 1) →
+        head d 0 (row left base (d + 1) - 1) ∷ row_heads T d e ≡ side_heads T d e
+    side_put h =
         let z : d + 1 ≡ suc d = omega arith in
-        rw (upto_is, first, z, lt-ltb 0 d h) refl
+        let y = lt-ltb (d + 1) (row left base (d + 1)) h in
+        rw (lt-ltb 0 d inner, before_is (row left base (d + 1)), ← first, ← z, y) refl
+
+    pub side_none : row left base (d + 1) ≤ d + 1 → row_heads T d e ≡ side_heads T d e
+    side_none h =
+        let z : d + 1 ≡ suc d = omega arith in
+        let y = le-ltb (d + 1) (row left base (d + 1)) h in
+        rw (lt-ltb 0 d inner, ← first, ← z, y) refl
 
 -- the outermost loop has no others
 pub outermost : (T : Tables) (d e : ℕ) → d ≡ 0 → low_heads T d ≡ low_heads T d ++ side_heads T d e

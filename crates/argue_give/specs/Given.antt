@@ -1,7 +1,7 @@
--- Claims given one after the other: their text in a buffer, and what they say in three lists.
--- Main definitions: `Given`, `Gives`, `GiveRoom`, `GiveGround`, `RowGround`,
--- `RowRoom`, `run_at`.
-use Rattle.std.specs.Prelude.{◌≡◌, Bool, true, ◌&&◌, ◌||◌, not, List, [], ◌∷◌, ◌++◌, ℕ, suc, ◌+◌, ◌*◌, ◌≤◌, ◌<◌, eqb, length}
+-- Claims given one after the other: their text in a buffer, and what they say in a list.
+-- Main definitions: `Given`, `Gives`, `GiveRoom`, `GiveGround`, `RowGround`, `RowRoom`, `run_at`.
+use Rattle.std.specs.Prelude.{◌≡◌, Bool, true, ◌&&◌, ◌||◌, not, List, [], ◌∷◌, ◌++◌, length, take}
+use Rattle.std.specs.Prelude.{ℕ, suc, ◌+◌, ◌*◌, ◌≤◌, ◌<◌, eqb}
 use Rattle.laws.specs.Entries.{at}
 use Rattle.paper_nests.specs.Loops.{is_do, end_of, owner_of}
 use Rattle.paper_nests.specs.Valid.{is_shape}
@@ -15,10 +15,11 @@ use Rattle.plan_method.proofs.Instance.{AllFit}
 use Rattle.plan_sweeps.specs.Listed.{row, SweepRoom}
 use Rattle.argue_claims.specs.Arguments.{Claim, claim}
 use Rattle.argue_texts.specs.ArgumentTexts.{CLAIMS, argument_text}
+use Rattle.argue_texts.specs.declared.Claimed.{Claimed}
 use Rattle.argue_key.specs.Laps.{Head, made}
 use Rattle.argue_sets.specs.Numbered.{line_set}
 use Rattle.argue_spell.specs.Added.{Added}
-use Rattle.argue_trace.specs.Traced.{claims_at, SetsRoom}
+use Rattle.argue_trace.specs.Traced.{claims_in, SetsRoom}
 
 -- no claim has more bytes
 abbrev pub BYTES : ℕ
@@ -29,10 +30,10 @@ unfoldable pub bare_all : List Claim → List Claim
 bare_all [] = []
 bare_all (k ∷ ks) = claim k.loop k.from k.upto [] ∷ bare_all ks
 
--- the claims cs: their text stands over what the buffer held first, and three lists hold what they say
-pub record Given (cs : List Claim) (first out : List ℕ) (at : ℕ) (loops froms uptos : List ℕ) (many : ℕ) : Type 0 where
+-- the claims cs: their text stands over what the buffer held first, and the first entries of a list hold what they say
+pub record Given (cs : List Claim) (first out : List ℕ) (at : ℕ) (claims : List Claimed) (many : ℕ) : Type 0 where
   pub added : Added (argument_text cs) 0 first out at
-  pub bare : bare_all cs ≡ claims_at loops froms uptos many 0
+  pub bare : bare_all cs ≡ claims_in (take many claims)
 
 -- the claims with the heads hs come to those given, of any tables that G is true of; where there are too many their
 -- number alone is counted
@@ -43,11 +44,11 @@ pub record Gives
     (hs : Tables → List Head)
     (out : List ℕ)
     (at : ℕ)
-    (loops froms uptos : List ℕ)
+    (claims : List Claimed)
     (many : ℕ)
     (out' : List ℕ)
     (at' : ℕ)
-    (loops' froms' uptos' : List ℕ)
+    (claims' : List Claimed)
     (many' : ℕ)
     : Type 0 where
   pub many_is : (T : Tables) → G T → many' ≡ many + length (hs T)
@@ -56,8 +57,8 @@ pub record Gives
       → G T
       → (cs : List Claim) (first : List ℕ)
       → many' ≤ CLAIMS
-      → Given cs first out at loops froms uptos many
-      → Given (cs ++ made ps ds T cs (hs T)) first out' at' loops' froms' uptos' many'
+      → Given cs first out at claims many
+      → Given (cs ++ made ps ds T cs (hs T)) first out' at' claims' many'
   pub grows : many ≤ many'
   pub near : at ≤ BYTES * many → at' ≤ BYTES * many'
 
@@ -66,7 +67,8 @@ pub record GiveRoom
     (nest : DN.Nest)
     (ps own left : List ℕ)
     (kids : ℕ)
-    (need sets loops froms uptos : List ℕ)
+    (need sets : List ℕ)
+    (claims : List Claimed)
     (d e : ℕ)
     : Type 0 where
   pub counted : IsCounted nest
@@ -78,9 +80,7 @@ pub record GiveRoom
   pub short : e < 256
   pub sweeps : SweepRoom ps own need left kids e
   pub sets_room : SetsRoom sets e
-  pub loops_room : CLAIMS ≤ length loops
-  pub froms_room : CLAIMS ≤ length froms
-  pub uptos_room : CLAIMS ≤ length uptos
+  pub claims_room : CLAIMS ≤ length claims
 
 -- the lists hold what the laps of d read of the tables T
 pub record GiveGround

@@ -5,4 +5,8 @@ use Rattle.argue_give.proofs.give_row.Given as goal
 
 abbrev pub invariant-loop-b : goal.invariant-loop-b
 invariant-loop-b l =
-    Rowing l.nest l.points l.own l.left l.kids l.base l.initial.need l.initial.sets l.initial.loops l.initial.froms l.initial.uptos l.d l.e l.cost l.initial.out l.initial.s.at l.initial.s.many l.need l.sets l.loops l.froms l.uptos l.out l.s.at l.s.many (l.b - 1)
+    let i = l.inside in
+    let r = l.row in
+    Rowing l.nest i.points.now i.own.now i.left.now i.kids r.base l.initial.need l.initial.sets l.initial.claims
+    r.d r.e r.cost l.initial.out l.initial.s.at l.initial.s.many l.need l.sets l.claims l.out l.s.at l.s.many
+    (l.b - 1)
