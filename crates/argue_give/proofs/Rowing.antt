@@ -94,8 +94,8 @@ module _
         (p : Rowing nest ps own left kids base need₀ sets₀ claims₀ d e cost out₀ at₀ many₀ need sets claims
         out at many b) where
       pub row_done : b ≤ d →
-          Gives ps (nest_in nest).deps (RowGround nest ps own left kids base need₀ sets₀ d e cost) (λ T. row_heads T d e)
-          out₀ at₀ claims₀ many₀ out at claims many
+          Gives ps (nest_in nest).deps (RowGround nest ps own left kids base need₀ sets₀ d e cost)
+          (λ T. row_heads T d e) out₀ at₀ claims₀ many₀ out at claims many
       row_done l =
           gives_as
           (λ T g.
@@ -179,5 +179,6 @@ module _
                   gives_then p.gives (gives_under (λ T r. (rw (p.need_is, p.sets_is) r.ground, few T r upto)) g);
               rest = λ T r.
                   append_assoc (p.done T) (head d b upto ∷ []) (row_heads T d (b - 1)) ∙
-                  ap (λ (x : List Head). p.done T ++ x) (rw (y, before_is (row left base b)) (heads T r true z)) ∙ p.rest T r;
+                  ap (λ (x : List Head). p.done T ++ x) (rw (y, before_is (row left base b)) (heads T r true z)) ∙
+                  p.rest T r;
             }
