@@ -7,11 +7,11 @@ use mathlib.Core.Logic.{◌⊎◌, inl, inr, ⊎_elim}
 use Prim.Native.Nat.{ℕ, zero, suc, ◌+◌, ◌≤◌, ◌<◌}
 use native.Mathlib.Omega.{arith}
 use lib.Dec.{eqb, ltb, leb}
-use lib.ListN.{length, set, length-append}
+use lib.ListN.{length, take, set, length-append, length-take, length-set}
+use lib.Seq.{get_or-take, get_or-set_same, get_or-set_other}
 use borrow.Author.Tests.{lt-leb, eq-eqb, ne_eqb}
 use Rattle.laws.specs.Choice.{pick, when}
 use Rattle.laws.specs.Entries.{at}
-use Rattle.laws.proofs.Stores.{stored}
 use Rattle.laws.proofs.Tests.{eq_or}
 use Rattle.paper_nests.specs.Kinds.{POINTS}
 use Rattle.paper_nests.specs.Nests.{Nest}
@@ -30,7 +30,7 @@ use Rattle.argue_texts.specs.ArgumentTexts.{STEPS}
 use Rattle.argue_texts.specs.Judged.{Judging, closes, known_now}
 use Rattle.argue_weigh.specs.Striking.{excludes_at, Struck}
 use Rattle.argue_weigh.specs.Excluding.{Excludes}
-use Rattle.argue_weigh.specs.Taking.{KnownTables, OpenTables, CountTables}
+use Rattle.argue_weigh.specs.Taking.{claim_at, KnownTables, OpenTables, CountTables}
 use Rattle.argue_weigh.proofs.Excluding.{strike_excludes, excludes_says}
 use Rattle.argue_judge.specs.Ends.{low_by, shown_by, exact_by, Closed, all_low_in}
 use Rattle.argue_judge.specs.Opened.{open_of}
@@ -60,20 +60,41 @@ known_last [] k m e = rw e refl
 known_last (j ∷ ks) k zero e = absurd (omega (arith, e))
 known_last (j ∷ ks) k (suc m) e = known_last ks k m (omega (arith, e))
 
--- a list of numbers of the claims, with the last claim's stored
-listed
-    : (xs : List ℕ) (v : ℕ) (f : Known → ℕ) (ks : List Known) (k : Known) (known : ℕ)
-    → known ≡ length ks
-    → known < length xs
-    → ((m : ℕ) → m < known → at xs m ≡ f (known_at ks m))
-    → v ≡ f k
-    → (m : ℕ)
-    → m < known + 1
-    → at (set xs known v) m ≡ f (known_at (ks ++ (k ∷ [])) m)
-listed xs v f ks k known e fits old new m h =
-    stored xs known v m (f (known_at (ks ++ (k ∷ [])) m)) fits
-    (λ z. new ∙ sym (ap f (known_last ks k m (z ∙ e))))
-    (λ z. old m (omega (arith, z, h)) ∙ sym (ap f (known_old ks k m (omega (arith, z, h, e)))))
+-- the claims so far with one more stored behind them
+module _ (cs : List Claimed) (v : Claimed) (known : ℕ) (fits : known < length cs) where
+  listed_long : length (take (known + 1) (set cs known v)) ≡ known + 1
+  listed_long = omega (arith, length-take (known + 1) (set cs known v), length-set cs known v, fits)
+
+  listed_before : length (take known cs) ≡ known
+  listed_before = omega (arith, length-take known cs, fits)
+
+  -- each of them, as the list of the definition has it
+  listed
+      : (f : Claimed → ℕ) (h : Known → ℕ) (ks : List Known) (k : Known)
+      → known ≡ length ks
+      → ((m : ℕ) → m < length (take known cs) → f (claim_at (take known cs) m) ≡ h (known_at ks m))
+      → f v ≡ h k
+      → (m : ℕ)
+      → m < length (take (known + 1) (set cs known v))
+      → f (claim_at (take (known + 1) (set cs known v)) m) ≡ h (known_at (ks ++ (k ∷ [])) m)
+  listed f h ks k e old new m p =
+      ap f (get_or-take (known + 1) (set cs known v) m none inside) ∙
+      ⊎_elim
+      (λ (z : m ≡ known). rw z (ap f (get_or-set_same cs known v none fits) ∙ new) ∙
+      sym (ap h (known_last ks k m (z ∙ e))))
+      (λ (z : m ≡ known → ⊥). ap f (get_or-set_other cs known m v none z ∙
+      sym (get_or-take known cs m none (before z))) ∙
+      old m (omega (arith, before z, listed_before)) ∙ sym (ap h (known_old ks k m (omega (arith, before z, e)))))
+      (eq_or m known)
+    where
+      none : Claimed
+      none = record { d = 0; a = 0; b = 0 }
+
+      inside : m < known + 1
+      inside = omega (arith, p, listed_long)
+
+      before : (m ≡ known → ⊥) → m < known
+      before z = omega (arith, z, inside)
 
 low_more
     : (ks : List Known) (k : Known) (d : ℕ)
@@ -100,13 +121,14 @@ eqb_turned i j =
 
 -- the tables say what the definition has before a line: the open claim, its steps, the claims before it
 pub record Standing (n : Nest) (key : List ℕ) (last : ℕ) (ends : List ℕ) (x : Judging) (head : Claimed)
-    (opened steps c known : ℕ) (low gone loops froms uptos struck times : List ℕ) : Type 0 where
+    (opened steps c known : ℕ) (low gone : List ℕ) (claims : List Claimed) (struck times : List ℕ) : Type 0 where
   pub opened_is : opened ≡ x.line
   pub opens : OpenTables n key x.open_is (open_of ends head)
   pub counts : CountTables n key x.count last steps c times gone
   pub few_sets : c ≤ steps
   pub few_steps : steps ≤ STEPS
-  pub knows : KnownTables n key x.known known loops froms uptos struck
+  pub count_is : known ≡ length x.known
+  pub knows : KnownTables n key x.known (take known claims) struck
   pub lows : (d : ℕ) → d < POINTS → holds low d ≡ has_low x.known d
   pub fresh : opened ≡ 0 → x.known ≡ []
 
@@ -133,8 +155,8 @@ module _ {n : Nest} {key : List ℕ} {last : ℕ} {ends owners counts : List ℕ
       greatest_alike (at times) x.times last h.times_are ∙ sym past ∙ sym all
 
   module _ {x : Judging} {head : Claimed} {opened steps c known : ℕ}
-      {low gone loops froms uptos struck times : List ℕ}
-      (s : Standing n key last ends x head opened steps c known low gone loops froms uptos struck times) where
+      {low gone : List ℕ} {claims : List Claimed} {struck times : List ℕ}
+      (s : Standing n key last ends x head opened steps c known low gone claims struck times) where
     -- the open claim's loop is one
     pub head_do : is_do n.points head.d ≡ true
     head_do = ap (is_do n.points) s.opens.loop_is ∙ s.opens.loop_do
@@ -257,24 +279,24 @@ module _ {n : Nest} {key : List ℕ} {last : ℕ} {ends owners counts : List ℕ
 
       more
           : (opened ≡ 0 → ⊥)
-          → known < length loops
-          → known < length froms
-          → known < length uptos
-          → KnownTables n key (x.known ++ (known_of n key x.open_is x.count ∷ [])) (known + 1)
-          (set loops known head.d) (set froms known head.a) (set uptos known head.b) new
-      more z lf ff uf =
+          → known < length claims
+          → KnownTables n key (x.known ++ (known_of n key x.open_is x.count ∷ []))
+          (take (known + 1) (set claims known head)) new
+      more z fits =
           let ks = x.known in
           let k = known_of n key x.open_is x.count in
-          let e : known ≡ length ks = s.knows.count_is in
           record {
-            count_is = omega (arith, e, length-append ks (k ∷ []));
+            count_is = omega (arith, listed_long claims head known fits, s.count_is, length-append ks (k ∷ []));
             loops_are =
-                listed loops head.d (λ (j : Known). j.loop) ks k known e lf s.knows.loops_are s.opens.loop_is;
+                listed claims head known fits (λ (c : Claimed). c.d) (λ (j : Known). j.loop) ks k s.count_is
+                s.knows.loops_are s.opens.loop_is;
             froms_are =
-                listed froms head.a (λ (j : Known). j.from) ks k known e ff s.knows.froms_are s.opens.from_is;
+                listed claims head known fits (λ (c : Claimed). c.a) (λ (j : Known). j.from) ks k s.count_is
+                s.knows.froms_are s.opens.from_is;
             uptos_are =
-                listed uptos head.b (λ (j : Known). j.upto) ks k known e uf s.knows.uptos_are s.opens.upto_is;
-            loops_do = λ m p. does m p (eq_or m known);
+                listed claims head known fits (λ (c : Claimed). c.b) (λ (j : Known). j.upto) ks k s.count_is
+                s.knows.uptos_are s.opens.upto_is;
+            loops_do = λ m p. does m (omega (arith, p, listed_long claims head known fits)) (eq_or m known);
             excluded = strike_excludes n key ks k struck new s.knows.excluded (struck_says z);
           }
         where
@@ -285,46 +307,45 @@ module _ {n : Nest} {key : List ℕ} {last : ℕ} {ends owners counts : List ℕ
               → is_do n.points (known_at (x.known ++ (known_of n key x.open_is x.count ∷ [])) m).loop ≡ true
           does m p (inl q) =
               ap (λ (j : Known). is_do n.points j.loop)
-              (known_last x.known (known_of n key x.open_is x.count) m (q ∙ s.knows.count_is)) ∙
+              (known_last x.known (known_of n key x.open_is x.count) m (q ∙ s.count_is)) ∙
               s.opens.loop_do
           does m p (inr q) =
               let below : m < known = omega (arith, p, q) in
               ap (λ (j : Known). is_do n.points j.loop)
-              (known_old x.known (known_of n key x.open_is x.count) m
-              (omega (arith, below, s.knows.count_is))) ∙
-              s.knows.loops_do m below
+              (known_old x.known (known_of n key x.open_is x.count) m (omega (arith, below, s.count_is))) ∙
+              s.knows.loops_do m (omega (arith, below, listed_before claims head known fits))
 
-      -- the claims up to the one that was open, in the lists; where there was none, nothing is known as before
+      -- the claims up to the one that was open, in the list; where there was none, nothing is known as before
       pub known-now
-          : known < length loops
-          → known < length froms
-          → known < length uptos
-          → KnownTables n key (known_now n key x) (pick (eqb opened 0) known (known + 1)) (set loops known head.d)
-          (set froms known head.a) (set uptos known head.b) new
-      known-now lf ff uf = go (eq_or opened 0)
+          : known < length claims
+          → KnownTables n key (known_now n key x)
+          (take (pick (eqb opened 0) known (known + 1)) (set claims known head)) new
+      known-now fits = go (eq_or opened 0)
         where
           go
               : (opened ≡ 0) ⊎ ((opened ≡ 0) → ⊥)
-              → KnownTables n key (known_now n key x) (pick (eqb opened 0) known (known + 1)) (set loops known head.d)
-              (set froms known head.a) (set uptos known head.b) new
+              → KnownTables n key (known_now n key x)
+              (take (pick (eqb opened 0) known (known + 1)) (set claims known head)) new
           go (inl z) =
               let l : x.line ≡ 0 = sym s.opened_is ∙ z in
               let none : x.known ≡ [] = s.fresh z in
-              let zero_known : known ≡ 0 = s.knows.count_is ∙ ap length none in
+              let zero_known : known ≡ 0 = s.count_is ∙ ap length none in
+              let zero_long : length (take known (set claims known head)) ≡ 0 =
+              omega (arith, length-take known (set claims known head), zero_known) in
               let same : Excludes n key [] new =
               rw (cl.none z) (rw none at s.knows.excluded) in
               rw (eq-eqb opened 0 z, eq-eqb x.line 0 l)
               (record {
-                count_is = zero_known;
-                loops_are = λ m p. absurd (omega (arith, p, zero_known));
-                froms_are = λ m p. absurd (omega (arith, p, zero_known));
-                uptos_are = λ m p. absurd (omega (arith, p, zero_known));
-                loops_do = λ m p. absurd (omega (arith, p, zero_known));
+                count_is = zero_long;
+                loops_are = λ m p. absurd (omega (arith, p, zero_long));
+                froms_are = λ m p. absurd (omega (arith, p, zero_long));
+                uptos_are = λ m p. absurd (omega (arith, p, zero_long));
+                loops_do = λ m p. absurd (omega (arith, p, zero_long));
                 excluded = same;
               })
           go (inr z) =
               let l : x.line ≡ 0 → ⊥ = λ (e : x.line ≡ 0). z (s.opened_is ∙ e) in
-              rw (ne_eqb opened 0 z, ne_eqb x.line 0 l) (more z lf ff uf)
+              rw (ne_eqb opened 0 z, ne_eqb x.line 0 l) (more z fits)
 
     -- the loops with a low claim, as a set
     pub low_now

@@ -2,14 +2,16 @@
 -- Main statements: `points_some`, `first_room`, `lines_begun`; `open_small`, `closing_room`, `striking_room`;
 -- `asked_tables`, `step_room`, `stepped_as`; `end_holds`, `end_lacks`; `tables-of`, `judgeable`.
 use mathlib.Core.Path.{◌≡◌, refl, sym, ap, ◌∙◌, subst}
-use Rattle.std.proofs.Common.{Option, None, Ok}
+use Rattle.std.proofs.Common.{Option, None, Some, Ok}
 use Rattle.std.specs.Option.{is_some, IfSome}
 use mathlib.Core.Bool.{Bool, true, false, ◌&&◌, ◌||◌, not}
 use mathlib.Core.List.{List, [], ◌∷◌}
 use Prim.Native.Nat.{ℕ, zero, suc, ◌-◌, ◌≤◌, ◌<◌}
 use native.Mathlib.Omega.{arith}
-use lib.Dec.{eqb}
-use lib.ListN.{length, drop}
+use lib.Dec.{eqb, ltb}
+use lib.ListN.{length, take, drop, length-take}
+use lib.Seq.{get_or-take}
+use borrow.Author.Tests.{ltb-true}
 use Rattle.laws.specs.Choice.{pick, is_in}
 use Rattle.laws.specs.Entries.{at}
 use Rattle.paper_nests.specs.declared.Nest as DN
@@ -20,6 +22,7 @@ use Rattle.paper_nests.specs.Loops.{is_do, end_of, HasEnds}
 use Rattle.paper_nests.specs.Valid.{is_shape, is_valid}
 use Rattle.paper_nests.specs.Stored.{nest_in, dep_in, IsCounted}
 use Rattle.paper_nests.proofs.Deps.{valid_is}
+use Rattle.paper_nests.proofs.Stored.{counted_many}
 use Rattle.paper_nests.proofs.Levels.{point_in, starts_with_do}
 use Rattle.paper_lines.specs.Lines.{lines_of}
 use Rattle.paper_lines.specs.Reading.{line_at}
@@ -32,8 +35,12 @@ use Rattle.paper_placements.specs.Words.{holds}
 use Rattle.paper_counts.specs.Tables.{OwnersAre, CountsAre}
 use Rattle.argue_claims.specs.Arguments.{greatest, begun, dep_at, st, step}
 use Rattle.argue_texts.specs.declared.Claimed.{Claimed}
-use Rattle.argue_texts.specs.ArgumentTexts.{CLAIMS, argument_fault, parts_of}
+use Rattle.argue_texts.specs.ArgumentTexts.{argument_fault, parts_of}
 use Rattle.argue_texts.specs.Judged.{judged}
+use Rattle.argue_texts.specs.declared.Set as DS
+use Rattle.argue_texts.specs.declared.Set.TheVariants as SV
+use Rattle.argue_texts.specs.Parts.{set_in, led_in}
+use Rattle.argue_weigh.specs.declared.Ended.{Ended}
 use Rattle.argue_weigh.specs.declared.Asked.{Asked}
 use Rattle.argue_weigh.specs.declared.Open.{Open}
 use Rattle.argue_weigh.specs.declared.Taken.{Taken}
@@ -42,12 +49,12 @@ use Rattle.argue_weigh.specs.Taking.{StepRoom, StepSays, OpenTables, AskedTables
 use Rattle.argue_weigh.proofs.Taking.{known_ends}
 use Rattle.argue_judge.specs.Starts.{FirstRoom, FirstStruck}
 use Rattle.argue_judge.specs.Ends.{low_by, shown_by, ClosingRoom, all_low_in}
-use Rattle.argue_judge.specs.Opened.{open_of, asked_of}
+use Rattle.argue_judge.specs.Opened.{open_of, ended_at, dependence_of, asked_of}
 use Rattle.argue_judge.specs.Judging.{NestTables, Judgeable}
 use Rattle.argue_judge.proofs.Starts.{first_excludes}
 use Rattle.argue_judge.proofs.Ends.{count_few}
 use Rattle.argue_judge.proofs.Closing.{shape, head_do, head_small, head_end, end_last}
-use Rattle.argue_judge.proofs.Turns.{Judges, judges_begun, known_few, few_sets, few_times, end_shown}
+use Rattle.argue_judge.proofs.Turns.{Judges, judges_begun, few_sets, few_times, end_shown}
 
 -- nothing named, nothing gone
 pub count_begun
@@ -98,7 +105,7 @@ module _ {nest : DN.Nest} {ps owners ends counts barred : List ℕ}
 
   -- before the first line
   pub lines_begun
-      : (s : List ℕ) (head : Claimed) (low gone loops froms uptos struck times : List ℕ)
+      : (s : List ℕ) (head : Claimed) (low gone : List ℕ) (claims : List Claimed) (struck times : List ℕ)
       → head.d ≡ 0
       → head.a ≡ 0
       → head.b ≡ 0
@@ -108,9 +115,9 @@ module _ {nest : DN.Nest} {ps owners ends counts barred : List ℕ}
       → ((g : ℕ) → at times g ≡ 0)
       → (key : List ℕ)
       → NestTables (nest_in nest) key (length ps - 1) ends owners counts
-      → Judges (nest_in nest) key s (length ps - 1) ends head 0 0 0 0 low gone loops froms uptos struck times 0 1
-  lines_begun s head low gone loops froms uptos struck times d a b lows goes first zeros key t =
-      judges_begun (nest_in nest) key s t head low gone loops froms uptos struck times d a b lows
+      → Judges (nest_in nest) key s (length ps - 1) ends head 0 0 0 0 low gone claims struck times 0 1
+  lines_begun s head low gone claims struck times d a b lows goes first zeros key t =
+      judges_begun (nest_in nest) key s t head low gone claims struck times d a b lows
       (first_excludes (nest_in nest) key (length ps) barred owners counts struck
       (record {
         shape = shape t;
@@ -122,38 +129,80 @@ module _ {nest : DN.Nest} {ps owners ends counts barred : List ℕ}
       }) first)
       (count_begun (nest_in nest) key (length ps - 1) times gone zeros goes)
 
-  -- the dependence of a step's set, by the place that the code finds
-  module _ (set by i : ℕ) (e : DE.Dependence) (found : (m : ℕ) → set ≡ suc (suc m) → m < nest.many → i ≡ m)
-      (e_is : e ≡ L.dep_at nest i) where
+  -- a step's set, by the dependences that the code has
+  module _ (set : DS.Set) (by : Option ℕ) {deps : List DE.Dependence} (deps_are : deps ≡ take nest.many nest.deps) where
     with_ends : WithEnds nest ends
     with_ends =
         record { counted = w.counted; valid = w.tables.paper.valid; ends_are = w.tables.paper.ends_are }
 
-    e_at : (m : ℕ) → set ≡ suc (suc m) → m < nest.many → e ≡ L.dep_at nest m
-    e_at m p q = e_is ∙ ap (L.dep_at nest) (found m p q)
+    deps_long : length deps ≡ nest.many
+    deps_long = omega (arith, ap length deps_are, length-take nest.many nest.deps, counted_many nest w.counted)
 
-    pub asked_tables : (key : List ℕ) → AskedTables (nest_in nest) key (asked_of set by nest.many e ends)
+    dep_is : (m : ℕ) → m < nest.many → (ended_at deps ends m).e ≡ L.dep_at nest m
+    dep_is m q = rw deps_are (get_or-take nest.many nest.deps m (record { kind = 0; d = 0; s = 0; t = 0 }) q)
+
+    there : (m : ℕ) → set_in set ≡ suc (suc m) → is_some (dependence_of set deps ends) ≡ ltb m (length (nest_in nest).deps)
+    there m p = go set p
+      where
+        some : (b : Bool) (x : Ended) → is_some (pick b (Some x) None) ≡ b
+        some true x = refl
+        some false x = refl
+
+        go
+            : (q : DS.Set)
+            → set_in q ≡ suc (suc m)
+            → is_some (dependence_of q deps ends) ≡ ltb m (length (nest_in nest).deps)
+        go SV.From p = absurd (omega (arith, p))
+        go SV.Upto p = absurd (omega (arith, p))
+        go (SV.Dependence k) p =
+            let same : k ≡ m = omega (arith, p) in
+            let all : length deps ≡ length (nest_in nest).deps = deps_long ∙ w.counted.many_is in
+            some (ltb k (length deps)) (ended_at deps ends k) ∙ rw (same, all) refl
+
+    -- what holds of each dependence holds of the set's
+    of_each
+        : (m : ℕ) (fits : Ended → Type 0)
+        → set_in set ≡ suc (suc m)
+        → (m < nest.many → fits (ended_at deps ends m))
+        → IfSome (dependence_of set deps ends) fits
+    of_each m fits p h = go set p
+      where
+        go : (q : DS.Set) → set_in q ≡ suc (suc m) → IfSome (dependence_of q deps ends) fits
+        go SV.From p = absurd (omega (arith, p))
+        go SV.Upto p = absurd (omega (arith, p))
+        go (SV.Dependence k) p = found (ltb k (length deps)) refl
+          where
+            same : m ≡ k
+            same = omega (arith, p)
+
+            found : (b : Bool) → ltb k (length deps) ≡ b → IfSome (pick b (Some (ended_at deps ends k)) None) fits
+            found false z = tt
+            found true z =
+                let in-all : m < nest.many = omega (arith, ltb-true k (length deps) z, deps_long, same) in
+                subst (λ (i : ℕ). fits (ended_at deps ends i)) same (h in-all)
+
+    pub asked_tables : (key : List ℕ) → AskedTables (nest_in nest) key (asked_of set by deps ends)
     asked_tables key =
         record {
-          many_is = w.counted.many_is;
-          dep_is = λ m p q. ap dep_in (e_at m p q) ∙
-              dep_listed (nest_in nest).deps m (dep_in (L.dep_at nest m)) (L.found_at with_ends q);
-          end_is = λ m p q.
-              subst (λ (d : DE.Dependence). EndsIn (nest_in nest).points d (at ends d.d)) (sym (e_at m p q))
-              (L.found_ends with_ends q);
+          there_is = there;
+          dep_is = λ m p. of_each m (λ (x : Ended). dep_in x.e ≡ dep_at (nest_in nest).deps m) p
+              (λ q. ap dep_in (dep_is m q) ∙
+              dep_listed (nest_in nest).deps m (dep_in (L.dep_at nest m)) (L.found_at with_ends q));
+          end_is = λ m p. of_each m (λ (x : Ended). EndsIn (nest_in nest).points x.e x.end) p
+              (λ q. subst (λ (d : DE.Dependence). EndsIn (nest_in nest).points d (at ends d.d)) (sym (dep_is m q))
+              (L.found_ends with_ends q));
         }
 
     pub asked_lies
         : (m : ℕ)
-        → set ≡ suc (suc m)
-        → m < nest.many
-        → LiesTo e (at ends e.d)
-    asked_lies m p q =
-        subst (λ (d : DE.Dependence). LiesTo d (at ends d.d)) (sym (e_at m p q)) (L.found_lies with_ends q)
+        → set_in set ≡ suc (suc m)
+        → IfSome (dependence_of set deps ends) (λ (x : Ended). LiesTo x.e x.end)
+    asked_lies m p = of_each m (λ (x : Ended). LiesTo x.e x.end) p
+        (λ q. subst (λ (d : DE.Dependence). LiesTo d (at ends d.d)) (sym (dep_is m q)) (L.found_lies with_ends q))
 
   module _ {s : List ℕ} (sound : (argument_fault s).number ≡ 0) {head : Claimed} {begins c by known : ℕ}
-      {low gone loops froms uptos struck times : List ℕ} {place line : ℕ}
-      (j : Judges (nest_in nest) w.key s (length ps - 1) ends head begins c by known low gone loops froms uptos struck
+      {low gone : List ℕ} {claims : List Claimed} {struck times : List ℕ} {place line : ℕ}
+      (j : Judges (nest_in nest) w.key s (length ps - 1) ends head begins c by known low gone claims struck
       times place line) where
     head_of_one : is_do (nest_in nest).points head.d ≡ true
     head_of_one = head_do w.tables j.stands
@@ -204,17 +253,13 @@ module _ {nest : DN.Nest} {ps owners ends counts barred : List ℕ}
 
       pub step_room
           : (q : Asked)
-          → ((m : ℕ) → q.set ≡ suc (suc m) → m < q.many → LiesTo q.dependence q.end)
+          → ((m : ℕ) → set_in q.set ≡ suc (suc m) → IfSome q.dependence (λ (x : Ended). LiesTo x.e x.end))
           → o.a < POINTS
           → o.b < POINTS
           → length times ≡ POINTS
           → length struck ≡ POINTS
-          → length loops ≡ CLAIMS
-          → length froms ≡ CLAIMS
-          → length uptos ≡ CLAIMS
-          → StepRoom (length ps - 1) o q c known loops froms uptos ends owners struck times
-      step_room q lies al bl tl sl ll fl ul =
-          let few = known_few (nest_in nest) w.key s w.tables sound j in
+          → StepRoom (length ps - 1) o q c (take known claims) ends owners struck times
+      step_room q lies al bl tl sl =
           record {
             naming =
                 record {
@@ -230,9 +275,6 @@ module _ {nest : DN.Nest} {ps owners ends counts barred : List ℕ}
             upto_low = bl;
             few_sets = few_sets (nest_in nest) w.key s w.tables sound j;
             ends_long = w.ends_long;
-            loops_long = omega (arith, few, ll);
-            froms_long = omega (arith, few, fl);
-            uptos_long = omega (arith, few, ul);
             loops_end = known_ends w.tables.paper j.stands.knows;
             lies = lies;
           }
@@ -241,8 +283,8 @@ module _ {nest : DN.Nest} {ps owners ends counts barred : List ℕ}
 
   module _ {key s : List ℕ} (t : NestTables (nest_in nest) key (length ps - 1) ends owners counts)
       (sound : (argument_fault s).number ≡ 0) {head : Claimed} {begins c by known : ℕ}
-      {low gone loops froms uptos struck times : List ℕ} {place line : ℕ}
-      (j : Judges (nest_in nest) key s (length ps - 1) ends head begins c by known low gone loops froms uptos struck
+      {low gone : List ℕ} {claims : List Claimed} {struck times : List ℕ} {place line : ℕ}
+      (j : Judges (nest_in nest) key s (length ps - 1) ends head begins c by known low gone claims struck
       times place line) (h : line_at s place ≡ Ok None) (o : Open) (oe : o ≡ open_of ends head) (r : Bool)
       (e : r ≡ (eqb begins 0 ||
       shown_by (low_by o.a o.b) c (greatest (at times) (length ps - 1)) (at counts o.d)))
@@ -267,27 +309,28 @@ module _ {nest : DN.Nest} {ps owners ends counts barred : List ℕ}
   -- ---- a step, as it was asked
 
   module _ {key s : List ℕ} (t : NestTables (nest_in nest) key (length ps - 1) ends owners counts) {head : Claimed}
-      {begins c by known : ℕ} {low loops froms uptos struck times : List ℕ} {gone : Placement} {place line : ℕ}
-      (j : Judges (nest_in nest) key s (length ps - 1) ends head begins c by known low gone.words loops froms uptos
-      struck times place line) (o : Open) (oe : o ≡ open_of ends head) (set i : ℕ)
-      (found : (m : ℕ) → set ≡ suc (suc m) → m < nest.many → i ≡ m)
-      (q : Asked) (qe : q ≡ asked_of set by nest.many (L.dep_at nest i) ends) (new : List ℕ) (r : Option Taken)
-      (says : StepSays (length ps - 1) o q c gone known loops froms uptos ends owners struck times new r) where
+      {begins c by known : ℕ} {low : List ℕ} {claims : List Claimed} {struck times : List ℕ} {gone : Placement} {place line : ℕ}
+      (j : Judges (nest_in nest) key s (length ps - 1) ends head begins c by known low gone.words claims
+      struck times place line) (o : Open) (oe : o ≡ open_of ends head) (set : DS.Set) (led : Option ℕ)
+      (led_is : led_in led ≡ by) {deps : List DE.Dependence} (deps_are : deps ≡ take nest.many nest.deps) (q : Asked)
+      (qe : q ≡ asked_of set led deps ends) (new : List ℕ) (r : Option Taken)
+      (says : StepSays (length ps - 1) o q c gone (take known claims) ends owners struck times new r) where
     pub stepped_as
-        : (is_some r ≡ (step (nest_in nest) key j.now.open_is j.now.known (st set by) j.now.count).fine) ×
+        : (is_some r ≡ (step (nest_in nest) key j.now.open_is j.now.known (st (set_in set) by) j.now.count).fine) ×
         IfSome r
         (λ (v : Taken). CountTables (nest_in nest) key
-        (step (nest_in nest) key j.now.open_is j.now.known (st set by) j.now.count) (length ps - 1) (suc j.steps) v.c new
-        v.gone.words)
+        (step (nest_in nest) key j.now.open_is j.now.known (st (set_in set) by) j.now.count) (length ps - 1)
+        (suc j.steps) v.c new v.gone.words)
     stepped_as =
-        let told : StepSays (length ps - 1) o (asked_of set by nest.many (L.dep_at nest i) ends) c gone known loops froms
-        uptos ends owners struck times new r =
+        let told : StepSays (length ps - 1) o (asked_of set led deps ends) c gone (take known claims) ends owners struck
+        times new r =
         subst
-        (λ (p : Asked). StepSays (length ps - 1) o p c gone known loops froms uptos ends owners struck times new r) qe
+        (λ (p : Asked). StepSays (length ps - 1) o p c gone (take known claims) ends owners struck times new r) qe
         says in
-        told (nest_in nest) key j.now.open_is j.now.known j.now.count j.steps t.paper j.stands.knows
+        rw (← led_is)
+        (told (nest_in nest) key j.now.open_is j.now.known j.now.count j.steps t.paper j.stands.knows
         (subst (OpenTables (nest_in nest) key j.now.open_is) (sym oe) j.stands.opens)
-        (asked_tables set by i (L.dep_at nest i) found refl key) j.stands.counts
+        (asked_tables set led deps_are key) j.stands.counts)
 
 -- ---- the tables of a nest and a placement of its gaps
 

@@ -10,7 +10,7 @@ use Prim.Native.Nat.{ℕ, zero, suc, ◌+◌, ◌≤◌, ◌<◌}
 use native.Mathlib.Numerals.{add-one}
 use native.Mathlib.Omega.{arith}
 use lib.Dec.{eqb}
-use lib.ListN.{length, drop, set, length-set}
+use lib.ListN.{length, take, drop, set, length-append, length-take, length-set}
 use borrow.Author.Tests.{eq-eqb, ne_eqb}
 use Rattle.laws.specs.Choice.{pick}
 use Rattle.laws.specs.Entries.{at}
@@ -24,13 +24,14 @@ use Rattle.paper_lines.specs.Lines.{lines_of}
 use Rattle.paper_lines.specs.Reading.{line_at}
 use Rattle.paper_nests.proofs.Levels.{starts_with_do}
 use Rattle.paper_placements.specs.Words.{holds}
-use Rattle.argue_claims.specs.Arguments.{Count, greatest, counted, begun, claim, st, step, all_low}
+use Rattle.argue_claims.specs.Arguments.{Count, greatest, counted, begun, claim, st, step, known_of, all_low}
 use Rattle.argue_texts.specs.declared.Claimed.{Claimed}
+use Rattle.argue_texts.specs.declared.Set as DS
 use Rattle.argue_texts.specs.declared.Part as DP
 use Rattle.argue_texts.specs.declared.Part.TheVariants as PV
 use Rattle.argue_texts.specs.ArgumentTexts.{CLAIMS, STEPS, progress, after, argument_fault, part_fault}
 use Rattle.argue_texts.specs.ArgumentTexts.{parts_of, rest_of}
-use Rattle.argue_texts.specs.Parts.{part_in, IsPart}
+use Rattle.argue_texts.specs.Parts.{set_in, part_in, IsPart}
 use Rattle.argue_texts.specs.Judged.{Judging, unbegun, led_by, closes, known_now, opened, counting, stepped, judge_from}
 use Rattle.argue_texts.specs.Judged.{judged}
 use Rattle.argue_texts.proofs.Walking.{Walk, walk_begun, walk_on, never_bad, part_fine, next_inside, parts_end, parts_on}
@@ -50,14 +51,14 @@ counted_few (suc v) c = omega arith
 
 -- the tables stand for what the definition has here, and the rest of the lines judges as the whole text does
 pub record Judges (n : Nest) (key s : List ℕ) (last : ℕ) (ends : List ℕ) (head : Claimed) (begins c by known : ℕ)
-    (low gone loops froms uptos struck times : List ℕ) (place line : ℕ) : Type 0 where
+    (low gone : List ℕ) (claims : List Claimed) (struck times : List ℕ) (place line : ℕ) : Type 0 where
   pub now : Judging
   pub many : ℕ
   pub steps : ℕ
   pub walk : Walk s (progress many steps by) place line
   pub rest : judge_from n key line now (parts_of (lines_of (drop place s))) ≡ judged n key (parts_of (lines_of s))
   pub by_is : by ≡ now.by
-  pub stands : Standing n key last ends now head begins steps c known low gone loops froms uptos struck times
+  pub stands : Standing n key last ends now head begins steps c known low gone claims struck times
   pub room : (begins ≡ 0 → ⊥) → suc known ≤ many
   pub few_claims : many ≤ CLAIMS
   pub pos : 0 < line
@@ -66,16 +67,16 @@ module _ (n : Nest) (key s : List ℕ) {last : ℕ} {ends owners counts : List �
     (t : NestTables n key last ends owners counts) where
   -- before the first line
   pub judges_begun
-      : (head : Claimed) (low gone loops froms uptos struck times : List ℕ)
+      : (head : Claimed) (low gone : List ℕ) (claims : List Claimed) (struck times : List ℕ)
       → head.d ≡ 0
       → head.a ≡ 0
       → head.b ≡ 0
       → ((i : ℕ) → holds low i ≡ false)
       → Excludes n key [] struck
       → CountTables n key begun last 0 0 times gone
-      → Judges n key s last ends head 0 0 0 0 low gone loops froms uptos struck times 0 1
+      → Judges n key s last ends head 0 0 0 0 low gone claims struck times 0 1
   unfolding judged
-  judges_begun head low gone loops froms uptos struck times d a b none excluded counts =
+  judges_begun head low gone claims struck times d a b none excluded counts =
       record {
         now = unbegun;
         many = 0;
@@ -97,13 +98,14 @@ module _ (n : Nest) (key s : List ℕ) {last : ℕ} {ends owners counts : List �
               counts = counts;
               few_sets = omega arith;
               few_steps = omega arith;
+              count_is = refl;
               knows =
                   record {
-                    count_is = refl;
-                    loops_are = λ m p. absurd (omega (arith, p));
-                    froms_are = λ m p. absurd (omega (arith, p));
-                    uptos_are = λ m p. absurd (omega (arith, p));
-                    loops_do = λ m p. absurd (omega (arith, p));
+                    count_is = none-yet;
+                    loops_are = λ m p. absurd (omega (arith, p, none-yet));
+                    froms_are = λ m p. absurd (omega (arith, p, none-yet));
+                    uptos_are = λ m p. absurd (omega (arith, p, none-yet));
+                    loops_do = λ m p. absurd (omega (arith, p, none-yet));
                     excluded = excluded;
                   };
               lows = λ i p. none i;
@@ -113,21 +115,13 @@ module _ (n : Nest) (key s : List ℕ) {last : ℕ} {ends owners counts : List �
         few_claims = omega arith;
         pos = omega arith;
       }
+    where
+      none-yet : length (take 0 claims) ≡ 0
+      none-yet = omega (arith, length-take 0 claims)
 
   module _ (sound : (argument_fault s).number ≡ 0) {head : Claimed} {begins c by known : ℕ}
-      {low gone loops froms uptos struck times : List ℕ} {place line : ℕ}
-      (j : Judges n key s last ends head begins c by known low gone loops froms uptos struck times place line) where
-    -- the open claim's number is in the lists
-    pub known_few : known ≤ CLAIMS
-    known_few =
-        ⊎_elim
-        (λ (z : begins ≡ 0). let none : known ≡ 0 = nothing z in omega (arith, none))
-        (λ (z : begins ≡ 0 → ⊥). omega (arith, j.room z, j.few_claims))
-        (eq_or begins 0)
-      where
-        nothing : begins ≡ 0 → known ≡ 0
-        nothing z = j.stands.knows.count_is ∙ ap length (j.stands.fresh z)
-
+      {low gone : List ℕ} {claims : List Claimed} {struck times : List ℕ} {place line : ℕ}
+      (j : Judges n key s last ends head begins c by known low gone claims struck times place line) where
     pub few_sets : c ≤ STEPS
     few_sets = omega (arith, j.stands.few_sets, j.stands.few_steps)
 
@@ -179,50 +173,48 @@ module _ (n : Nest) (key s : List ℕ) {last : ℕ} {ends owners counts : List �
     never_refused k h = never_bad s (progress j.many j.steps by) place line j.walk sound k h
 
 -- how long the lists are
-pub record Long (loops froms uptos struck times : List ℕ) : Type 0 where
-  pub loops_long : length loops ≡ CLAIMS
-  pub froms_long : length froms ≡ CLAIMS
-  pub uptos_long : length uptos ≡ CLAIMS
+pub record Long (claims : List Claimed) (struck times : List ℕ) : Type 0 where
+  pub claims_long : length claims ≡ CLAIMS
   pub struck_long : length struck ≡ POINTS
   pub times_long : length times ≡ POINTS
 
 -- the same for every placement of which they are the tables
 pub record JudgesAll (n : Nest) (s : List ℕ) (last : ℕ) (ends owners counts : List ℕ) (head : Claimed)
-    (begins c by known : ℕ) (low gone loops froms uptos struck times : List ℕ) (place line : ℕ) : Type 0 where
-  pub long : Long loops froms uptos struck times
+    (begins c by known : ℕ) (low gone : List ℕ) (claims : List Claimed) (struck times : List ℕ) (place line : ℕ) : Type 0 where
+  pub long : Long claims struck times
   pub judges
       : (key : List ℕ)
       → NestTables n key last ends owners counts
-      → Judges n key s last ends head begins c by known low gone loops froms uptos struck times place line
+      → Judges n key s last ends head begins c by known low gone claims struck times place line
 
 -- a turn that comes to a frame: the tables stand, and the frame is that of a good line and tells the part p
 pub record Turn (n : Nest) (key s : List ℕ) (last : ℕ) (ends owners counts : List ℕ) (head : Claimed)
-    (begins c by known : ℕ) (low gone loops froms uptos struck times : List ℕ) (place line : ℕ) (f : Frame)
+    (begins c by known : ℕ) (low gone : List ℕ) (claims : List Claimed) (struck times : List ℕ) (place line : ℕ) (f : Frame)
     (p : DP.Part) : Type 0 where
   pub tables : NestTables n key last ends owners counts
   pub sound : (argument_fault s).number ≡ 0
-  pub judges : Judges n key s last ends head begins c by known low gone loops froms uptos struck times place line
+  pub judges : Judges n key s last ends head begins c by known low gone claims struck times place line
   pub framed : line_at s place ≡ Ok (Some f)
   pub tells : IsPart f p
 
 pub turned
     : {n : Nest} {s : List ℕ} {last : ℕ} {ends owners counts : List ℕ} {head : Claimed} {begins c by known : ℕ}
-    → {low gone loops froms uptos struck times : List ℕ} {place line : ℕ} (f : Frame) (p : DP.Part)
-    → JudgesAll n s last ends owners counts head begins c by known low gone loops froms uptos struck times place line
+    → {low gone : List ℕ} {claims : List Claimed} {struck times : List ℕ} {place line : ℕ} (f : Frame) (p : DP.Part)
+    → JudgesAll n s last ends owners counts head begins c by known low gone claims struck times place line
     → (argument_fault s).number ≡ 0
     → line_at s place ≡ Ok (Some f)
     → IsPart f p
     → (key : List ℕ)
     → NestTables n key last ends owners counts
-    → Turn n key s last ends owners counts head begins c by known low gone loops froms uptos struck times place line f p
+    → Turn n key s last ends owners counts head begins c by known low gone claims struck times place line f p
 turned f p v sound h i key t =
     record { tables = t; sound = sound; judges = v.judges key t; framed = h; tells = i }
 
 module _ {n : Nest} {key s : List ℕ} {last : ℕ} {ends owners counts : List ℕ} {head : Claimed} {begins c by known : ℕ}
-    {low gone loops froms uptos struck times : List ℕ} {place line : ℕ} {f : Frame} {p : DP.Part}
-    (u : Turn n key s last ends owners counts head begins c by known low gone loops froms uptos struck times place line f
+    {low gone : List ℕ} {claims : List Claimed} {struck times : List ℕ} {place line : ℕ} {f : Frame} {p : DP.Part}
+    (u : Turn n key s last ends owners counts head begins c by known low gone claims struck times place line f
     p) where
-  abbrev j : Judges n key s last ends head begins c by known low gone loops froms uptos struck times place line
+  abbrev j : Judges n key s last ends head begins c by known low gone claims struck times place line
   j = u.judges
 
   told_by : (q : DP.Part) → p ≡ q → IsPart f q
@@ -258,7 +250,7 @@ module _ {n : Nest} {key s : List ℕ} {last : ℕ} {ends owners counts : List �
       : {m : ℕ} (by' : ℕ)
       → p ≡ PV.By m
       → by' ≡ m + 1
-      → Judges n key s last ends head begins c by' known low gone loops froms uptos struck times f.next (line + 1)
+      → Judges n key s last ends head begins c by' known low gone claims struck times f.next (line + 1)
   unfolding judge_from
   Led-on {m} by' i e =
       let b : by' ≡ suc m = omega (arith, e) in
@@ -280,6 +272,7 @@ module _ {n : Nest} {key s : List ℕ} {last : ℕ} {ends owners counts : List �
               counts = j.stands.counts;
               few_sets = j.stands.few_sets;
               few_steps = j.stands.few_steps;
+              count_is = j.stands.count_is;
               knows = j.stands.knows;
               lows = j.stands.lows;
               fresh = j.stands.fresh;
@@ -291,7 +284,11 @@ module _ {n : Nest} {key s : List ℕ} {last : ℕ} {ends owners counts : List �
 
   -- ---- a step
 
-  module _ {m : ℕ} (i : p ≡ PV.Names m) where
+  module _ {q : DS.Set} (i : p ≡ PV.Names q) where
+    -- the set's number
+    abbrev m : ℕ
+    m = set_in q
+
     stepping
         : step n key j.now.open_is j.now.known (st m by) j.now.count ≡ counting n key m j.now
     stepping =
@@ -302,7 +299,7 @@ module _ {n : Nest} {key s : List ℕ} {last : ℕ} {ends owners counts : List �
         (judge_from n key (suc line) (stepped n key m j.now) (parts_of (lines_of (drop f.next s)))) line
         ≡ judged n key (parts_of (lines_of s))
     unfolding judge_from
-    steps_as = judges_as (PV.Names m) i
+    steps_as = judges_as (PV.Names q) i
 
     fine_as : (b : Bool) → b ≡ (step n key j.now.open_is j.now.known (st m by) j.now.count).fine → (counting n key m j.now).fine ≡ b
     fine_as b e = ap (λ (x : Count). x.fine) (sym stepping) ∙ sym e
@@ -319,17 +316,17 @@ module _ {n : Nest} {key s : List ℕ} {last : ℕ} {ends owners counts : List �
         → true ≡ (step n key j.now.open_is j.now.known (st m by) j.now.count).fine
         → CountTables n key (step n key j.now.open_is j.now.known (st m by) j.now.count) last
         (suc j.steps) c' times' gone'
-        → Judges n key s last ends head begins c' 0 known low gone' loops froms uptos struck times' f.next
+        → Judges n key s last ends head begins c' 0 known low gone' claims struck times' f.next
         (line + 1)
     step_on c' gone' times' e counts =
         let ps = parts_of (lines_of (drop f.next s)) in
         let yes : (counting n key m j.now).fine ≡ true = fine_as true e in
-        let room = names_fine (progress j.many j.steps by) (PV.Names m) refl (fine_part (PV.Names m) i) in
+        let room = names_fine (progress j.many j.steps by) (PV.Names q) refl (fine_part (PV.Names q) i) in
         record {
           now = stepped n key m j.now;
           many = j.many;
           steps = suc j.steps;
-          walk = walks (PV.Names m) i;
+          walk = walks (PV.Names q) i;
           rest =
               ap (λ (k : ℕ). judge_from n key k (stepped n key m j.now) ps) (add-one line) ∙
               sym (rw yes refl) ∙ steps_as;
@@ -349,6 +346,7 @@ module _ {n : Nest} {key s : List ℕ} {last : ℕ} {ends owners counts : List �
                       j.stands.few_sets,
                     );
                 few_steps = omega (arith, room.1);
+                count_is = j.stands.count_is;
                 knows = j.stands.knows;
                 lows = j.stands.lows;
                 fresh = j.stands.fresh;
@@ -366,7 +364,7 @@ module _ {n : Nest} {key s : List ℕ} {last : ℕ} {ends owners counts : List �
     store_room =
         let room = claims_fine (progress j.many j.steps by) (PV.Claims k) refl (fine_part (PV.Claims k) i) in
         ⊎_elim
-        (λ (z : begins ≡ 0). omega (arith, j.stands.knows.count_is ∙ ap length (j.stands.fresh z)))
+        (λ (z : begins ≡ 0). omega (arith, j.stands.count_is ∙ ap length (j.stands.fresh z)))
         (λ (z : begins ≡ 0 → ⊥). omega (arith, j.room z, room.1))
         (eq_or begins 0)
 
@@ -410,17 +408,14 @@ module _ {n : Nest} {key s : List ℕ} {last : ℕ} {ends owners counts : List �
               : (known' : ℕ) (low' gone' struck' times' : List ℕ)
               → is_do n.points k.d ≡ true
               → Closed begins o.d o.e o.a o.b c (at counts o.d) last owners times struck struck'
-              → length loops ≡ CLAIMS
-              → length froms ≡ CLAIMS
-              → length uptos ≡ CLAIMS
+              → length claims ≡ CLAIMS
               → known' ≡ pick (eqb begins 0) known (known + 1)
               → ((g : ℕ) → holds low' g ≡
               ((not (eqb begins 0) && (low_by head.a head.b && eqb g head.d)) || holds low g))
               → CountTables n key begun last 0 0 times' gone'
-              → Judges n key s last ends k line 0 0 known' low' gone' (set loops known head.d)
-              (set froms known head.a) (set uptos known head.b) struck' times' f.next (line + 1)
+              → Judges n key s last ends k line 0 0 known' low' gone' (set claims known head) struck' times' f.next (line + 1)
           unfolding next
-          claim_on known' low' gone' struck' times' q cl ll fl ul ke lw clean =
+          claim_on known' low' gone' struck' times' q cl long ke lw clean =
               let ps = parts_of (lines_of (drop f.next s)) in
               let room = claims_fine (progress j.many j.steps by) (PV.Claims k) refl
               (fine_part (PV.Claims k) i) in
@@ -429,8 +424,7 @@ module _ {n : Nest} {key s : List ℕ} {last : ℕ} {ends owners counts : List �
               subst
               (λ (p : Open). Closed begins p.d p.e p.a p.b c (at counts p.d) last owners times struck
               struck') oe cl in
-              let knows = known-now u.tables j.stands struck' closed' (omega (arith, store_room, ll))
-              (omega (arith, store_room, fl)) (omega (arith, store_room, ul)) in
+              let knows = known-now u.tables j.stands struck' closed' (omega (arith, store_room, long)) in
               record {
                 now = next;
                 many = suc j.many;
@@ -453,10 +447,11 @@ module _ {n : Nest} {key s : List ℕ} {last : ℕ} {ends owners counts : List �
                       counts = clean;
                       few_sets = omega arith;
                       few_steps = omega arith;
+                      count_is = counts_on (eq_or begins 0);
                       knows =
                           subst
-                          (λ (p : ℕ). KnownTables n key (known_now n key j.now) p (set loops known head.d)
-                          (set froms known head.a) (set uptos known head.b) struck') (sym ke) knows;
+                          (λ (p : ℕ). KnownTables n key (known_now n key j.now) (take p (set claims known head)) struck')
+                          (sym ke) knows;
                       lows = low_now u.tables j.stands low' lw;
                       fresh = λ y. absurd (omega (arith, y, j.pos));
                     };
@@ -465,36 +460,40 @@ module _ {n : Nest} {key s : List ℕ} {last : ℕ} {ends owners counts : List �
                 pos = omega arith;
               }
             where
+              none_known : begins ≡ 0 → known ≡ 0
+              none_known y = j.stands.count_is ∙ ap length (j.stands.fresh y)
+
+              same_known : begins ≡ 0 → known' ≡ known
+              same_known y = ke ∙ rw (eq-eqb begins 0 y) refl
+
+              more_known : (begins ≡ 0 → ⊥) → known' ≡ known + 1
+              more_known y = ke ∙ rw (ne_eqb begins 0 y) refl
+
+              counts_on : (begins ≡ 0) ⊎ ((begins ≡ 0) → ⊥) → known' ≡ length (known_now n key j.now)
+              counts_on (inl y) =
+                  let l : j.now.line ≡ 0 = sym j.stands.opened_is ∙ y in
+                  rw (eq-eqb j.now.line 0 l) (same_known y ∙ none_known y)
+              counts_on (inr y) =
+                  let l : j.now.line ≡ 0 → ⊥ = λ (e : j.now.line ≡ 0). y (j.stands.opened_is ∙ e) in
+                  let one = known_of n key j.now.open_is j.now.count in
+                  rw (ne_eqb j.now.line 0 l)
+                  (omega (arith, more_known y, j.stands.count_is, length-append j.now.known (one ∷ [])))
+
               few : (begins ≡ 0) ⊎ ((begins ≡ 0) → ⊥) → suc known' ≤ suc j.many
               few (inl y) =
-                  let none : known ≡ 0 = j.stands.knows.count_is ∙ ap length (j.stands.fresh y) in
-                  let same : known' ≡ known = ke ∙ rw (eq-eqb begins 0 y) refl in
-                  omega (arith, none, same)
+                  omega (arith, none_known y, same_known y)
               few (inr y) =
-                  let more : known' ≡ known + 1 = ke ∙ rw (ne_eqb begins 0 y) refl in
-                  omega (arith, more, j.room y)
+                  omega (arith, more_known y, j.room y)
 
-module _ {loops froms uptos struck times : List ℕ} (l : Long loops froms uptos struck times) where
-  pub long_named : (new : List ℕ) → length new ≡ length times → Long loops froms uptos struck new
+module _ {claims : List Claimed} {struck times : List ℕ} (l : Long claims struck times) where
+  pub long_named : (new : List ℕ) → length new ≡ length times → Long claims struck new
   long_named new e =
-      record {
-        loops_long = l.loops_long;
-        froms_long = l.froms_long;
-        uptos_long = l.uptos_long;
-        struck_long = l.struck_long;
-        times_long = e ∙ l.times_long;
-      }
+      record { claims_long = l.claims_long; struck_long = l.struck_long; times_long = e ∙ l.times_long }
 
   pub long_closed
-      : (k d a b : ℕ) (new clean : List ℕ)
+      : (i : ℕ) (k : Claimed) (new clean : List ℕ)
       → length new ≡ length struck
       → length clean ≡ POINTS
-      → Long (set loops k d) (set froms k a) (set uptos k b) new clean
-  long_closed k d a b new clean e z =
-      record {
-        loops_long = length-set loops k d ∙ l.loops_long;
-        froms_long = length-set froms k a ∙ l.froms_long;
-        uptos_long = length-set uptos k b ∙ l.uptos_long;
-        struck_long = e ∙ l.struck_long;
-        times_long = z;
-      }
+      → Long (set claims i k) new clean
+  long_closed i k new clean e z =
+      record { claims_long = length-set claims i k ∙ l.claims_long; struck_long = e ∙ l.struck_long; times_long = z }

@@ -1,10 +1,10 @@
 // An argument judged: the claims of a text in turn, each by its steps, over tables of the nest.
 #![tactic(auto)]
 
-ghost use Rattle.std.specs.Prelude.{◌≡◌, true, ◌&&◌, ◌||◌, not, ℕ, suc, ◌+◌, ◌≤◌, ◌<◌, eqb, length, IfSome};
+ghost use Rattle.std.specs.Prelude.{◌≡◌, true, ◌&&◌, ◌||◌, not, ℕ, ◌+◌, ◌≤◌, ◌<◌, eqb, length, IfSome};
 ghost use Rattle.laws.specs.Choice.{pick};
 ghost use Rattle.laws.specs.Entries.{at};
-ghost use Rattle.paper_nests.specs.Kinds.{POINTS, DEPENDENCES};
+ghost use Rattle.paper_nests.specs.Kinds.{POINTS};
 ghost use Rattle.paper_nests.specs.Stored.{nest_in, IsCounted};
 ghost use Rattle.paper_nests.specs.Valid.{is_valid};
 ghost use Rattle.paper_lines.specs.Lines.{lines_of};
@@ -15,12 +15,13 @@ ghost use Rattle.argue_texts.specs.ArgumentTexts.{CLAIMS, argument_fault, parts_
 ghost use Rattle.argue_texts.specs.Judged.{judged};
 ghost use Rattle.argue_weigh.specs.Striking.{StrikingRoom};
 ghost use Rattle.argue_judge.specs.Starts.{first_at, FirstRoom, FirstStruck};
-ghost use Rattle.argue_judge.specs.Ends.{low_by, shown_by, exact_by, ShownRoom, ClosingRoom, Closed, low_at, all_low_in};
-ghost use Rattle.argue_judge.specs.Opened.{open_of, asked_of};
+ghost use Rattle.argue_judge.specs.Ends.{low_by, shown_by, exact_by, ShownRoom, ClosingRoom, Closed};
+ghost use Rattle.argue_judge.specs.Ends.{low_at, all_low_in};
+ghost use Rattle.argue_judge.specs.Opened.{open_of, asked_of, dependence_of};
 ghost use Rattle.argue_judge.specs.Judging.{Judgeable, JudgedBy, line_in};
 
-use argue_texts::{CLAIMS, Claimed, Part, part_of};
-use argue_weigh::{Asked, Open, most_of, strike, take_step};
+use argue_texts::{CLAIMS, Claimed, Part, Set, part_of};
+use argue_weigh::{Asked, Ended, Open, most_of, strike, take_step};
 use paper_counts::{counts_of, owners_of};
 use paper_lines::{digit_values, read_line};
 use paper_nests::{Dependence, Nest, ends_of, is_do};
@@ -62,19 +63,17 @@ fn judge_lines(
     ensures found { IfSome result (λ l. 0 < l) }
 {
     let values = digit_values();
-    let many = nest.many;
+    let deps = nest.dependences();
     let last = points.len() - 1;
     let mut struck = first_struck(points.len(), barred, owners, counts);
     let mut times = no_times();
-    let mut loops = no_claims();
-    let mut froms = no_claims();
-    let mut uptos = no_claims();
+    let mut claims = no_claims();
     let mut low = Placement::empty();
     let mut gone = Placement::empty();
     let mut head = Claimed { d: 0, a: 0, b: 0 };
     let mut opened: usize = 0;
     let mut c: usize = 0;
-    let mut by: usize = 0;
+    let mut by: Option<usize> = None;
     let mut known: usize = 0;
     let mut at: usize = 0;
     let mut line: usize = 1;
@@ -120,9 +119,7 @@ fn judge_lines(
                         if !is_do(points, k.d as usize) {
                             return Some(line);
                         }
-                        loops[known] = head.d;
-                        froms[known] = head.a;
-                        uptos[known] = head.b;
+                        claims[known] = head;
                         low = with_low(opened, head, low);
                         known = with_known(opened, known);
                         times = no_times();
@@ -130,21 +127,28 @@ fn judge_lines(
                         head = k;
                         opened = line;
                         c = 0;
-                        by = 0;
+                        by = None;
                     }
-                    Part::By(m) => by = m as usize + 1,
+                    Part::By(m) => by = Some(m as usize),
                     Part::Names(s) => {
-                        let i = place_of(s, many);
-                        let asked = asked_of(s, by, many, nest.deps[i], ends);
+                        let asked = asked_of(s, by, deps, ends);
                         let Some(taken) = take_step(
-                            last, claim, asked, c, gone, known, &loops, &froms, &uptos, ends,
-                            owners, &struck, &mut times,
+                            last,
+                            claim,
+                            asked,
+                            c,
+                            gone,
+                            &claims[..known],
+                            ends,
+                            owners,
+                            &struck,
+                            &mut times,
                         ) else {
                             return Some(line);
                         };
                         c = taken.c;
                         gone = taken.gone;
-                        by = 0;
+                        by = None;
                     }
                     Part::Unknown => return Some(line),
                 }
@@ -155,17 +159,32 @@ fn judge_lines(
     }
 }
 
-// A step as it is asked, with the ENDDO of the loop that carries its dependence.
-fn asked_of(set: usize, by: usize, many: usize, e: Dependence, ends: &[usize]) -> Asked
+// A step as it is asked.
+fn asked_of(set: Set, by: Option<usize>, deps: &[Dependence], ends: &[usize]) -> Asked
     requires { length ends.now ≡ POINTS }
-    ensures { result ≡ asked_of set by many e ends.now }
+    ensures { result ≡ asked_of set by deps.now ends.now }
 {
     Asked {
         set,
         by,
-        many,
-        dependence: e,
-        end: ends[e.d as usize],
+        dependence: dependence_of(set, deps, ends),
+    }
+}
+
+// The dependence of a set, where it is one's and is there, with the ENDDO of the loop that carries it.
+fn dependence_of(set: Set, deps: &[Dependence], ends: &[usize]) -> Option<Ended>
+    requires { length ends.now ≡ POINTS }
+    ensures { result ≡ dependence_of set deps.now ends.now }
+{
+    match set {
+        Set::Dependence(k) if k < deps.len() => {
+            let e = deps[k];
+            Some(Ended {
+                e,
+                end: ends[e.d as usize],
+            })
+        }
+        _ => None,
     }
 }
 
@@ -177,11 +196,11 @@ fn no_times() -> [usize; Nest::POINTS]
     [0; Nest::POINTS]
 }
 
-// Room for a number of every claim.
-fn no_claims() -> [u8; CLAIMS]
+// Room for every claim.
+fn no_claims() -> [Claimed; CLAIMS]
     ensures { length result ≡ CLAIMS }
 {
-    [0; CLAIMS]
+    [Claimed { d: 0, a: 0, b: 0 }; CLAIMS]
 }
 
 // A claim with the ENDDO of its loop.
@@ -216,18 +235,6 @@ fn with_low(line: usize, k: Claimed, low: Placement) -> Placement
         return low.put(k.d as usize);
     }
     low
-}
-
-// The place of a set's dependence, where it has one, else any.
-fn place_of(set: usize, many: usize) -> usize
-    requires { many ≤ DEPENDENCES }
-    ensures { (result < DEPENDENCES) × ((m : ℕ) → set ≡ suc (suc m) → m < many → result ≡ m) }
-{
-    if 2 <= set && set - 2 < many {
-        set - 2
-    } else {
-        0
-    }
 }
 
 // What is excluded before any claim, as one number a gap: of a barred gap one above every loop, of a gap of a loop with
@@ -284,15 +291,12 @@ fn close(
     if line == 0 {
         return true;
     }
-    let low = is_low(claim.a, claim.b);
     let most = most_of(last, times);
-    if !is_shown(low, c, most, count) {
+    if !is_shown(claim, c, most, count) {
         return false;
     }
-    let exact = is_exact(low, c, most, count);
-    strike(
-        claim.d, claim.e, claim.a, claim.b, exact, most, owners, times, struck,
-    );
+    let exact = is_exact(claim, c, most, count);
+    strike(claim, exact, most, owners, times, struck);
     true
 }
 
@@ -304,11 +308,11 @@ fn is_low(a: usize, b: usize) -> bool
 }
 
 // So many sets show the claim, with no gap in more than `most` of them.
-fn is_shown(low: bool, c: usize, most: usize, count: usize) -> bool
+fn is_shown(claim: Open, c: usize, most: usize, count: usize) -> bool
     requires { ShownRoom c most count }
-    ensures { result ≡ shown_by low c most count }
+    ensures { result ≡ shown_by (low_by claim.a claim.b) c most count }
 {
-    if low {
+    if is_low(claim.a, claim.b) {
         count * most < c + most
     } else {
         count * most < c
@@ -316,11 +320,11 @@ fn is_shown(low: bool, c: usize, most: usize, count: usize) -> bool
 }
 
 // The claim is low, and exact: as many sets as the count times the most.
-fn is_exact(low: bool, c: usize, most: usize, count: usize) -> bool
+fn is_exact(claim: Open, c: usize, most: usize, count: usize) -> bool
     requires { ShownRoom c most count }
-    ensures { result ≡ exact_by low c most count }
+    ensures { result ≡ exact_by (low_by claim.a claim.b) c most count }
 {
-    low && c == count * most
+    is_low(claim.a, claim.b) && c == count * most
 }
 
 // Every loop with a count has its low claim.

@@ -2,13 +2,14 @@
 -- Main statements: `claims_fine`, `names_fine`, `unknown_fault`.
 use mathlib.Core.Path.{◌≡◌}
 use mathlib.Core.Bool.{not}
-use Prim.Native.Nat.{ℕ, ◌<◌}
+use Prim.Native.Nat.{◌<◌}
 use native.Mathlib.Omega.{arith}
 use lib.Dec.{eqb, leb}
 use borrow.Author.Tests.{eqb-true, eqb-false, leb-false}
 use Rattle.laws.specs.Choice.{when, first_of}
 use Rattle.laws.proofs.Choices.{first_zero, when_zero, unless_zero}
 use Rattle.argue_texts.specs.declared.Claimed.{Claimed}
+use Rattle.argue_texts.specs.declared.Set as DS
 use Rattle.argue_texts.specs.declared.Part as DP
 use Rattle.argue_texts.specs.declared.Part.TheVariants as PV
 use Rattle.argue_texts.specs.ArgumentTexts.{Progress, part_fault, CLAIMS, STEPS}
@@ -22,7 +23,7 @@ module _ (x : Progress) (p : DP.Part) where
       let room = leb-false CLAIMS x.claims (when_zero (leb CLAIMS x.claims) 4 z.1) in
       (eqb-true x.by 0 (unless_zero (eqb x.by 0) 3 z.0), omega (arith, room))
 
-  pub names_fine : {s : ℕ} → p ≡ PV.Names s → part_fault x (part_in p) ≡ 0 → (0 < x.claims) × (x.steps < STEPS)
+  pub names_fine : {s : DS.Set} → p ≡ PV.Names s → part_fault x (part_in p) ≡ 0 → (0 < x.claims) × (x.steps < STEPS)
   names_fine e h =
       let f : first_of (when (eqb x.claims 0) 4) (when (leb STEPS x.steps) 5) ≡ 0 = rw e at h in
       let z = first_zero (when (eqb x.claims 0) 4) (when (leb STEPS x.steps) 5) f in

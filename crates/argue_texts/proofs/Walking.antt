@@ -1,17 +1,17 @@
 -- Argument texts read line by line: what a turn keeps, one law for each way through a turn, and what another walk over
 -- the lines of a text without fault may rely on.
--- Main statements: `walk_begun`, `walk_end`, `walk_bad`, `walk_fault`, `walk_on`; `end_led`, `never_bad`, `part_fine`;
+-- Main statements: `walk_begun`, `walk_end`, `walk_bad`, `walk_fault`, `walk_on`; `never_bad`, `part_fine`;
 -- `parts_end`, `parts_on`.
 use mathlib.Core.Path.{◌≡◌, refl, sym, ◌∙◌, ap}
 use Rattle.std.proofs.Common.{Some, None, Ok, Err}
-use mathlib.Core.Bool.{Bool, true, false}
+use mathlib.Core.Bool.{true, false}
 use mathlib.Core.List.{List, [], ◌∷◌}
 use Prim.Native.Nat.{ℕ, zero, suc, ◌+◌, ◌≤◌, ◌<◌}
 use native.Mathlib.Numerals.{add-one}
 use native.Mathlib.Omega.{arith}
 use lib.Dec.{eqb}
 use lib.ListN.{length, drop}
-use borrow.Author.Tests.{eqb-true, ne_eqb}
+use borrow.Author.Tests.{ne_eqb}
 use Rattle.laws.specs.Choice.{pick}
 use Rattle.paper_lines.specs.declared.Frame.{Frame}
 use Rattle.paper_refusals.specs.declared.Refusal.{Refusal}
@@ -133,13 +133,6 @@ module _ (s : List ℕ) (x : Progress) (at line : ℕ) (w : Walk s x at line) wh
 
   -- of a text without fault
   module _ (z : (argument_fault s).number ≡ 0) where
-    pub end_led : line_at s at ≡ Ok None → x.by ≡ 0
-    end_led h = go (eqb x.by 0) refl (ap (λ (e : Fault). e.number) (walk_end h) ∙ z)
-      where
-        go : (t : Bool) → eqb x.by 0 ≡ t → (pick t (fault 0 0) (fault 4 line)).number ≡ 0 → x.by ≡ 0
-        go true e q = eqb-true x.by 0 e
-        go false e q = absurd (omega (arith, q))
-
     pub never_bad : (k : Refusal) → line_at s at ≡ Err k → ⊥
     never_bad k h = never_zero k (ap (λ (e : Fault). e.number) (walk_bad k h) ∙ z)
 

@@ -17,13 +17,24 @@ pub struct Claimed {
     pub b: u8,
 }
 
-// What a frame of an argument text tells: a claim, that a claim leads the next step, a step with a set (0 the supposed
-// gap from a on, 1 the one up to b, k + 2 dependence k), or nothing that is known.
+// The set of a step.
+#[derive(Clone, Copy)]
+pub enum Set {
+    // the supposed gap from a on
+    From,
+    // the supposed gap up to b
+    Upto,
+    // the gaps of the dependence with this number
+    Dependence(usize),
+}
+
+// What a frame of an argument text tells: a claim, that a claim leads the next step, a step with a set, or nothing that
+// is known.
 #[derive(Clone, Copy)]
 pub enum Part {
     Claims(Claimed),
     By(u16),
-    Names(usize),
+    Names(Set),
     Unknown,
 }
 
@@ -92,9 +103,9 @@ pub fn part_of(f: Frame) -> Part
             b: f.c,
         }),
         (BY, 3) => Part::By(256 * f.a as u16 + f.b as u16),
-        (DEPENDENCE, 3) => Part::Names(256 * f.a as usize + f.b as usize + 2),
-        (FROM, 1) => Part::Names(0),
-        (UPTO, 1) => Part::Names(1),
+        (DEPENDENCE, 3) => Part::Names(Set::Dependence(256 * f.a as usize + f.b as usize)),
+        (FROM, 1) => Part::Names(Set::From),
+        (UPTO, 1) => Part::Names(Set::Upto),
         _ => Part::Unknown,
     }
 }

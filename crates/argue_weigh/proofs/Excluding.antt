@@ -1,4 +1,4 @@
--- The table of what is excluded, once one more claim holds, and that what the code asks of a gap is what the claim says.
+-- The table of what is excluded, once one more claim holds; and what the code asks of a gap is what the claim says.
 -- Main statements: `strike_excludes`, `excludes_says`.
 use mathlib.Core.Path.{◌≡◌, refl, sym, ap, ◌∙◌}
 use mathlib.Core.Bool.{Bool, true, false, ◌&&◌, ◌||◌, not}

@@ -1,9 +1,10 @@
 -- The set of a step, what leads it and what is gone after it.
--- Main statements: `fits_dep`, `led-by`; `led_span`, `gone_span`; `set_dep`.
+-- Main statements: `led_span`, `gone_span`; `set_dep`.
 use mathlib.Core.Path.{◌≡◌, refl, ap, ◌∙◌}
+use Rattle.std.proofs.Common.{Option, Some}
 use mathlib.Core.Bool.{Bool, true, false, ◌&&◌, ◌||◌}
 use mathlib.Core.List.{List}
-use Prim.Native.Nat.{ℕ, zero, suc, min, ◌+◌, ◌-◌, ◌≤◌, ◌<◌}
+use Prim.Native.Nat.{ℕ, min, ◌+◌, ◌≤◌, ◌<◌}
 use native.Mathlib.Omega.{arith}
 use lib.Dec.{ltb, leb}
 use borrow.Author.Tests.{lt-ltb, le-leb, ltb-true, leb-true, leb-false}
@@ -12,15 +13,18 @@ use Rattle.laws.specs.Entries.{at}
 use Rattle.laws.proofs.Tests.{bool_by, and_true, and_intro}
 use Rattle.laws.proofs.Ranges.{in_between, between_in}
 use Rattle.laws.proofs.Connectives.{or_off}
-use Rattle.paper_nests.specs.Loops.{is_inside}
 use Rattle.paper_nests.specs.Gaps.{has_gap}
 use Rattle.paper_nests.specs.Stored.{dep_in}
 use Rattle.paper_placements.specs.Words.{holds}
-use Rattle.paper_gaps.specs.Lies.{GapsPut}
+use Rattle.paper_gaps.specs.Lies.{EndsIn, GapsPut}
+use Rattle.argue_texts.specs.declared.Claimed as DC
+use Rattle.argue_texts.specs.declared.Set.TheVariants as SV
+use Rattle.argue_texts.specs.Parts.{led_in}
 use Rattle.argue_weigh.specs.declared.Open as DO
+use Rattle.argue_weigh.specs.declared.Ended as DX
 use Rattle.argue_weigh.specs.declared.Asked as DA
 use Rattle.argue_weigh.specs.Striking.{larger}
-use Rattle.argue_weigh.specs.Taking.{smaller, set_fits, around_at, led_at, leads_at, gone_after, IsSetOf, set_at}
+use Rattle.argue_weigh.specs.Taking.{smaller, claim_at, around_at, leads_at, gone_after, IsSetOf}
 
 -- ---- numbers
 
@@ -58,26 +62,6 @@ larger_least a b g p q = go (leb a b)
     go : (t : Bool) → pick t b a ≤ g
     go true = q
     go false = p
-
--- ---- what a number of a set or of a claim means, taken apart
-
-pub fits_dep : (o : DO.Open) (many i : ℕ) → (i ≡ 0 → ⊥) → (i ≡ 1 → ⊥) → ltb (i - 2) many ≡ set_fits o many i
-fits_dep o many zero p q = absurd (p refl)
-fits_dep o many (suc zero) p q = absurd (q refl)
-fits_dep o many (suc (suc m)) p q =
-    let z : suc (suc m) - 2 ≡ m = omega arith in
-    rw z refl
-
-pub led-by
-    : (o : DO.Open) (known : ℕ) (loops froms uptos : List ℕ) (by : ℕ)
-    → (by ≡ 0 → ⊥)
-    → led_at o known loops froms uptos by
-    ≡ (ltb (by - 1) known && (is_inside o.d o.e (at loops (by - 1)) &&
-    (ltb 0 (at froms (by - 1)) && ltb 0 (at uptos (by - 1)))))
-led-by o known loops froms uptos zero h = absurd (h refl)
-led-by o known loops froms uptos (suc m) h =
-    let z : suc m - 1 ≡ m = omega arith in
-    rw z refl
 
 -- ---- ranges of the loop that leads
 
@@ -125,42 +109,36 @@ module _ (ends : List ℕ) (d g : ℕ) where
           between_in (d + 1) g (smaller u (at ends d)) (omega (arith, y.0))
           (smaller_most u (at ends d) g (leb-true g u z.1) y.1)
 
-module _ (gone loops marks ends : List ℕ) where
+module _ (gone : List ℕ) (claims : List DC.Claimed) (ends : List ℕ) {by : Option ℕ} (m : ℕ) (is : by ≡ Some m) where
   pub led_span
-      : (by lo : ℕ) (vs : List ℕ)
-      → (by ≡ 0 → ⊥)
-      → lo ≡ larger (at loops (by - 1) + 1) (at marks (by - 1))
-      → ((g : ℕ) → holds vs g ≡ (between lo g (at ends (at loops (by - 1))) || holds gone g))
+      : (lo : ℕ) (vs : List ℕ)
+      → lo ≡ larger ((claim_at claims m).d + 1) (claim_at claims m).a
+      → ((g : ℕ) → holds vs g ≡ (between lo g (at ends (claim_at claims m).d) || holds gone g))
       → (g : ℕ)
-      → holds vs g ≡ (leads_at loops marks ends by g || holds gone g)
-  led_span zero lo vs some l h g = absurd (some refl)
-  led_span (suc m) lo vs some l h g =
-      let z : suc m - 1 ≡ m = omega arith in
-      h g ∙ rw (l, z) (ap (λ (b : Bool). b || holds gone g) (from-on ends (at loops m) g (at marks m)))
+      → holds vs g ≡ (leads_at claims ends (led_in by) g || holds gone g)
+  led_span lo vs l h g =
+      let k = claim_at claims m in
+      h g ∙ rw (is, l) (ap (λ (b : Bool). b || holds gone g) (from-on ends k.d g k.a))
 
   pub gone_span
-      : (by hi : ℕ) (vs : List ℕ)
-      → (by ≡ 0 → ⊥)
-      → hi ≡ smaller (at marks (by - 1)) (at ends (at loops (by - 1)))
-      → ((g : ℕ) → holds vs g ≡ (between (at loops (by - 1) + 1) g hi || holds gone g))
+      : (hi : ℕ) (vs : List ℕ)
+      → hi ≡ smaller (claim_at claims m).b (at ends (claim_at claims m).d)
+      → ((g : ℕ) → holds vs g ≡ (between ((claim_at claims m).d + 1) g hi || holds gone g))
       → (g : ℕ)
-      → holds vs g ≡ gone_after gone loops marks ends by g
-  gone_span zero hi vs some l h g = absurd (some refl)
-  gone_span (suc m) hi vs some l h g =
-      let z : suc m - 1 ≡ m = omega arith in
-      h g ∙ rw (l, z) (ap (λ (b : Bool). b || holds gone g) (up_to ends (at loops m) g (at marks m)))
+      → holds vs g ≡ gone_after gone claims ends (led_in by) g
+  gone_span hi vs l h g =
+      let k = claim_at claims m in
+      h g ∙ rw (is, l) (ap (λ (b : Bool). b || holds gone g) (up_to ends k.d g k.b))
 
 -- ---- the set
 
 module _ (o : DO.Open) (s : DA.Asked) (none ws : List ℕ) (empty : (g : ℕ) → holds none g ≡ false) where
-  set_other
-      : (ps : List ℕ) (g i : ℕ) → (i ≡ 0 → ⊥) → (i ≡ 1 → ⊥) → has_gap ps (dep_in s.dependence) g ≡ set_at ps o s i g
-  set_other ps g zero p q = absurd (p refl)
-  set_other ps g (suc zero) p q = absurd (q refl)
-  set_other ps g (suc (suc m)) p q = refl
-
   pub set_dep
-      : (s.set ≡ 0 → ⊥) → (s.set ≡ 1 → ⊥) → GapsPut s.end s.dependence none ws → IsSetOf o s ws
-  set_dep p q h ps ends g =
-      h ps (ends (s.set - 2) (omega (arith, p, q))) g ∙
-      rw (empty g) (or_off (has_gap ps (dep_in s.dependence) g)) ∙ set_other ps g s.set p q
+      : {k : ℕ} {x : DX.Ended}
+      → s.set ≡ SV.Dependence k
+      → s.dependence ≡ Some x
+      → GapsPut x.end x.e none ws
+      → IsSetOf o s ws
+  set_dep {k} {x} p q h ps ends g =
+      let end : EndsIn ps x.e x.end = rw q at (ends k (rw p refl)) in
+      h ps end g ∙ rw (p, q, empty g) (or_off (has_gap ps (dep_in x.e) g))

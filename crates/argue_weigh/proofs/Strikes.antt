@@ -1,9 +1,9 @@
 -- The end of a claim over tables: the greatest number, and what is excluded, gap by gap.
--- Main statements: `larger_max`, `most_on`; `Striking`, `strike_start`, `strike_on`, `strike_done`.
+-- Main statements: `larger_max`, `most_on`; `Striking`, `strike_start`, `strike_on`, `strike_off`, `strike_done`.
 use mathlib.Core.Path.{◌≡◌, refl, ap, ◌∙◌}
 use mathlib.Core.Bool.{Bool, true, false}
 use mathlib.Core.List.{List}
-use mathlib.Core.Logic.{◌⊎◌, inl, inr}
+use mathlib.Core.Logic.{◌⊎◌, inl, inr, ⊎_elim}
 use Prim.Native.Nat.{ℕ, suc, max, ◌+◌, ◌-◌, ◌≤◌, ◌<◌}
 use native.Mathlib.Omega.{arith}
 use lib.Dec.{leb}
@@ -12,6 +12,7 @@ use borrow.Author.Tests.{leb-true, leb-false}
 use Rattle.laws.specs.Choice.{pick}
 use Rattle.laws.specs.Entries.{at}
 use Rattle.laws.proofs.Stores.{stored}
+use Rattle.laws.proofs.Tests.{eq_or}
 use Rattle.argue_claims.specs.Arguments.{greatest}
 use Rattle.argue_weigh.specs.Striking.{larger, Struck}
 
@@ -52,14 +53,15 @@ strike_start excluded d e old h =
 
 module _ {excluded : ℕ → Bool} {d e : ℕ} {old : List ℕ} {g : ℕ} {new : List ℕ}
     (n : Striking excluded d e old g new) where
+  -- a gap that is excluded, and one that is not
   pub strike_on
-      : (x : Bool) (r : ℕ)
+      : (r : ℕ)
       → d < g
-      → x ≡ excluded g
-      → r ≡ pick x (larger (at new g) (d + 1)) (at new g)
+      → excluded g ≡ true
+      → r ≡ larger (at new g) (d + 1)
       → g < length new
       → Striking excluded d e old (g - 1) (set new g r)
-  strike_on x r pos w h fits =
+  strike_on r pos w h fits =
       record {
         low = omega (arith, pos);
         high = omega (arith, n.high);
@@ -73,11 +75,29 @@ module _ {excluded : ℕ → Bool} {d e : ℕ} {old : List ℕ} {g : ℕ} {new :
       here i z =
           let k : at new g ≡ at old g = n.rest g (inl (omega arith)) in
           let one : d + 1 ≡ suc d = omega arith in
-          h ∙ rw (k, w, one, z) refl
+          h ∙ rw (k, one, z, w) refl
 
       apart : (i : ℕ) → (i ≤ g - 1) ⊎ (e < i) → i ≡ g → ⊥
       apart i (inl p) z = omega (arith, p, z, pos)
       apart i (inr p) z = omega (arith, p, z, n.high)
+
+      below : (i : ℕ) → (i ≤ g - 1) ⊎ (e < i) → (i ≤ g) ⊎ (e < i)
+      below i (inl p) = inl (omega (arith, p))
+      below i (inr p) = inr p
+
+  pub strike_off : d < g → excluded g ≡ false → Striking excluded d e old (g - 1) new
+  strike_off pos w =
+      record {
+        low = omega (arith, pos);
+        high = omega (arith, n.high);
+        long = n.long;
+        done = λ i p q. ⊎_elim (λ (z : i ≡ g). here i z)
+            (λ (z : i ≡ g → ⊥). n.done i (omega (arith, z, p, pos)) q) (eq_or i g);
+        rest = λ i p. n.rest i (below i p);
+      }
+    where
+      here : (i : ℕ) → i ≡ g → at new i ≡ pick (excluded i) (larger (at old i) (suc d)) (at old i)
+      here i z = n.rest i (inl (omega (arith, z))) ∙ rw (z, w) refl
 
       below : (i : ℕ) → (i ≤ g - 1) ⊎ (e < i) → (i ≤ g) ⊎ (e < i)
       below i (inl p) = inl (omega (arith, p))

@@ -1,8 +1,9 @@
 -- A step that the code takes is the step of the definition: whether it holds, and the count after it.
 -- Main statements: `known_ends`; `unfit`, `unled`, `step_tables`, `fine_is`, `count_after`; `says_unfit`, `says_unled`,
--- `says_unnamed`, `says_taken`; `set_room`, `lead_room`, `gone_room`.
+-- `says_unnamed`, `says_taken`; `set_room`, `lead_room`.
 use mathlib.Core.Path.{◌≡◌, refl, sym, ap, ◌∙◌}
-use Rattle.std.proofs.Common.{Some, None}
+use Rattle.std.proofs.Common.{Option, Some, None}
+use Rattle.std.specs.Option.{is_some, IfSome}
 use mathlib.Core.Bool.{Bool, true, false, ◌&&◌, ◌||◌}
 use mathlib.Core.List.{List}
 use mathlib.Core.Logic.{◌⊎◌, inl, inr, ⊎_elim}
@@ -19,82 +20,83 @@ use Rattle.laws.proofs.Ors.{or_turned}
 use Rattle.laws.proofs.Connectives.{and_off}
 use Rattle.paper_nests.specs.Kinds.{POINTS}
 use Rattle.paper_nests.specs.Nests.{Nest}
+use Rattle.paper_nests.specs.Stored.{dep_in}
 use Rattle.paper_nests.specs.Loops.{end_of, is_around}
 use Rattle.paper_nests.specs.Gaps.{has_gap}
 use Rattle.paper_nests.proofs.Deps.{valid_is, deps_fit}
 use Rattle.paper_nests.proofs.Loops.{end-after, end_there}
 use Rattle.paper_placements.specs.declared.Placement as DP
 use Rattle.paper_placements.specs.Words.{holds}
-use Rattle.paper_gaps.specs.Lies.{EndsIn}
 use Rattle.paper_gaps.proofs.Lies.{gap_inside}
-use Rattle.argue_claims.specs.Arguments.{Claim, Known, Count, st, every, counted, known_at, dep_at, named}
+use Rattle.argue_claims.specs.Arguments.{Step, Claim, Known, Count, st, every, counted, known_at, dep_at, named}
 use Rattle.argue_claims.specs.Arguments.{facts_after, fact_out, in_set, is_set, is_led, leads, is_left, step}
 use Rattle.argue_claims.proofs.Listed.{dep_among}
 use Rattle.argue_claims.proofs.Lots.{every_at}
+use Rattle.argue_texts.specs.declared.Claimed as DC
+use Rattle.argue_texts.specs.Parts.{set_in, led_in}
 use Rattle.argue_weigh.specs.declared.Open as DO
+use Rattle.argue_weigh.specs.declared.Ended as DX
 use Rattle.argue_weigh.specs.declared.Asked as DA
 use Rattle.argue_weigh.specs.declared.Taken as DT
 use Rattle.argue_weigh.specs.Naming.{left_at, fine_at, Named}
-use Rattle.argue_weigh.specs.Taking.{set_fits, SetRoom, set_at, IsSetOf, led_at, leads_at, gone_after, LeadRoom, StepRoom}
+use Rattle.argue_weigh.specs.Taking.{claim_at, set_fits, SetRoom, gap_of, set_at, IsSetOf, leads_on, led_at, leads_at}
+use Rattle.argue_weigh.specs.Taking.{gone_after, LeadRoom, StepRoom}
 use Rattle.argue_weigh.specs.Taking.{PaperTables, KnownTables, OpenTables, AskedTables, CountTables, StepSays}
 use Rattle.argue_weigh.proofs.Stepping.{asked, StepTables, step_fine, step_named}
 
 -- what leads is there
 led_there
-    : (o : DO.Open) (known : ℕ) (loops froms uptos : List ℕ) (by : ℕ)
-    → led_at o known loops froms uptos by ≡ true
-    → by ≤ known
-led_there o known loops froms uptos zero h = omega arith
-led_there o known loops froms uptos (suc m) h =
-    ⊎_elim (λ (z : known ≤ m). never (sym (late z) ∙ h)) (λ (z : m < known). z) (le_or known m)
-  where
-    late : known ≤ m → led_at o known loops froms uptos (suc m) ≡ false
-    late z = rw (le-ltb m known z) refl
+    : (o : DO.Open) (claims : List DC.Claimed) (by : ℕ)
+    → led_at o claims by ≡ true
+    → by ≤ length claims
+led_there o claims zero h = omega arith
+led_there o claims (suc m) h =
+    ltb-true m (length claims) (and_true (ltb m (length claims)) (leads_on o (claim_at claims m)) h).0
 
 module _ {n : Nest} {key : List ℕ} {last : ℕ} {ends owners : List ℕ} (p : PaperTables n key last ends owners)
-    {ks : List Known} {known : ℕ} {loops froms uptos struck : List ℕ}
-    (q : KnownTables n key ks known loops froms uptos struck) where
+    {ks : List Known} {claims : List DC.Claimed} {struck : List ℕ} (q : KnownTables n key ks claims struck) where
   -- ---- what leads
 
   -- the loop of a claim so far, with its ENDDO
-  known_end : (m : ℕ) → m < known → at ends (known_at ks m).loop ≡ end_of n.points (known_at ks m).loop
+  known_end : (m : ℕ) → m < length claims → at ends (known_at ks m).loop ≡ end_of n.points (known_at ks m).loop
   known_end m h = p.ends_are (known_at ks m).loop (q.loops_do m h)
 
-  pub known_ends : (m : ℕ) → m < known → at ends (at loops m) < POINTS
+  pub known_ends : (m : ℕ) → m < length claims → at ends (claim_at claims m).d < POINTS
   known_ends m h =
       let v = valid_is n p.valid in
       let there : end_of n.points (known_at ks m).loop < length n.points =
       end_there n.points v.shape (known_at ks m).loop (q.loops_do m h) in
-      let same : at ends (at loops m) ≡ at ends (known_at ks m).loop = ap (at ends) (q.loops_are m h) in
+      let same : at ends (claim_at claims m).d ≡ at ends (known_at ks m).loop = ap (at ends) (q.loops_are m h) in
       omega (arith, same, known_end m h, there, v.few_points)
 
   leads_alike
-      : (by : ℕ) → by ≤ known → (g : ℕ) → leads_at loops froms ends by g ≡ leads n key ks by g
+      : (by : ℕ) → by ≤ length claims → (g : ℕ) → leads_at claims ends by g ≡ leads n key ks by g
   leads_alike zero h g = refl
   leads_alike (suc m) h g = rw (q.loops_are m h, q.froms_are m h, known_end m h) refl
 
   gone_alike
       : (gone : List ℕ) (x : Count) (by : ℕ)
-      → by ≤ known
+      → by ≤ length claims
       → ((g : ℕ) → holds gone g ≡ fact_out n key x.facts g)
       → (g : ℕ)
-      → gone_after gone loops uptos ends by g ≡ fact_out n key (facts_after ks by x.facts) g
+      → gone_after gone claims ends by g ≡ fact_out n key (facts_after ks by x.facts) g
   gone_alike gone x zero h t g = refl
   gone_alike gone x (suc m) h t g =
       rw (q.loops_are m h, q.uptos_are m h, known_end m h, t g) refl
 
   module _ {k : Claim} {o : DO.Open} (w : OpenTables n key k o) where
-    led_alike : (by : ℕ) → led_at o known loops froms uptos by ≡ is_led n key k.loop ks by
+    led_alike : (by : ℕ) → led_at o claims by ≡ is_led n key k.loop ks by
     led_alike zero = refl
-    led_alike (suc m) = ⊎_elim (λ (h : known ≤ m). late h) (λ (h : m < known). there h) (le_or known m)
+    led_alike (suc m) =
+        ⊎_elim (λ (h : length claims ≤ m). late h) (λ (h : m < length claims). there h) (le_or (length claims) m)
       where
-        late : known ≤ m → led_at o known loops froms uptos (suc m) ≡ is_led n key k.loop ks (suc m)
-        late h = rw (le-ltb m known h, le-ltb m (length ks) (omega (arith, h, q.count_is))) refl
+        late : length claims ≤ m → led_at o claims (suc m) ≡ is_led n key k.loop ks (suc m)
+        late h = rw (le-ltb m (length claims) h, le-ltb m (length ks) (omega (arith, h, q.count_is))) refl
 
-        there : m < known → led_at o known loops froms uptos (suc m) ≡ is_led n key k.loop ks (suc m)
+        there : m < length claims → led_at o claims (suc m) ≡ is_led n key k.loop ks (suc m)
         there h =
             rw (
-              lt-ltb m known h,
+              lt-ltb m (length claims) h,
               lt-ltb m (length ks) (omega (arith, h, q.count_is)),
               w.loop_is,
               w.end_is,
@@ -115,19 +117,30 @@ module _ {n : Nest} {key : List ℕ} {last : ℕ} {ends owners : List ℕ} (p : 
     module _ {s : DA.Asked} (a : AskedTables n key s) where
       set_alike
           : (i : ℕ)
-          → s.set ≡ i
-          → set_fits o s.many i ≡ true
+          → set_in s.set ≡ i
+          → set_fits o (is_some s.dependence) i ≡ true
           → (g : ℕ)
           → set_at n.points o s i g ≡ in_set n key k i g
       set_alike zero e h g =
           let some : ltb 0 k.from ≡ true = rw w.from_is at h in
           rw (some, w.from_is, w.end_is) refl
       set_alike (suc zero) e h g = rw (w.loop_is, w.upto_is) refl
-      set_alike (suc (suc m)) e h g = rw (← a.dep_is m e (ltb-true m s.many h)) refl
+      set_alike (suc (suc m)) e h g = put s.dependence h (a.dep_is m e)
+        where
+          put
+              : (x : Option DX.Ended)
+              → is_some x ≡ true
+              → IfSome x (λ (y : DX.Ended). dep_in y.e ≡ dep_at n.deps m)
+              → gap_of n.points x g ≡ has_gap n.points (dep_at n.deps m) g
+          put None t d = never t
+          put (Some x) t d = rw (← d) refl
 
       -- the gap behind the last is in no set
       set_ends
-          : (i : ℕ) → s.set ≡ i → set_fits o s.many i ≡ true → in_set n key k i (suc last) ≡ false
+          : (i : ℕ)
+          → set_in s.set ≡ i
+          → set_fits o (is_some s.dependence) i ≡ true
+          → in_set n key k i (suc last) ≡ false
       set_ends zero e h = false_by (λ z. out (in_between k.from (suc last) (end_of n.points k.loop)
           (and_true (ltb 0 k.from) (between k.from (suc last) (end_of n.points k.loop)) z).1).1)
         where
@@ -144,7 +157,7 @@ module _ {n : Nest} {key : List ℕ} {last : ℕ} {ends owners : List ℕ} (p : 
           out : has_gap n.points (dep_at n.deps m) (suc last) ≡ true → ⊥
           out z =
               let v = valid_is n p.valid in
-              let there : m < length n.deps = omega (arith, ltb-true m s.many h, a.many_is) in
+              let there : m < length n.deps = ltb-true m (length n.deps) (sym (a.there_is m e) ∙ h) in
               let fits = deps_fit n.points n.deps v.all-deps (dep_at n.deps m)
               (dep_among n.deps m there) in
               let inside = gap_inside n.points (dep_at n.deps m) (suc last) v.shape fits z in
@@ -178,11 +191,15 @@ module _ {n : Nest} {key : List ℕ} {last : ℕ} {ends owners : List ℕ} (p : 
             gap_out : asked n key k ks x (st 1 by) (suc o.e) ≡ false
             gap_out = rw (in-set, apart) refl
 
-        unfit : (i : ℕ) → set_fits o s.many i ≡ false → (step n key k ks (st i by) x).fine ≡ false
-        unfit zero h =
+        unfit
+            : (i : ℕ)
+            → set_in s.set ≡ i
+            → set_fits o (is_some s.dependence) i ≡ false
+            → (step n key k ks (st i by) x).fine ≡ false
+        unfit zero e h =
             let none : ltb 0 k.from ≡ false = rw w.from_is at h in
             rw (f, none) refl
-        unfit (suc zero) h =
+        unfit (suc zero) e h =
             ⊎_elim (λ (z : ltb 0 o.b ≡ false). no_upto z) (λ (z : leb o.b o.e ≡ false). far z)
             (and_false (ltb 0 o.b) (leb o.b o.e) h)
           where
@@ -200,11 +217,11 @@ module _ {n : Nest} {key : List ℕ} {last : ℕ} {ends owners : List ℕ} (p : 
                 all_off true true = refl
                 all_off true false = refl
                 all_off false v = refl
-        unfit (suc (suc m)) h =
-            let none : ltb m (length n.deps) ≡ false = rw a.many_is at h in
+        unfit (suc (suc m)) e h =
+            let none : ltb m (length n.deps) ≡ false = sym (a.there_is m e) ∙ h in
             rw (f, none) refl
 
-        unled : (i : ℕ) → led_at o known loops froms uptos by ≡ false → (step n key k ks (st i by) x).fine ≡ false
+        unled : (i : ℕ) → led_at o claims by ≡ false → (step n key k ks (st i by) x).fine ≡ false
         unled i h =
             let none : is_led n key k.loop ks by ≡ false = sym (led_alike by) ∙ h in
             rw (f, none) (and_off (is_set n key k i))
@@ -212,76 +229,78 @@ module _ {n : Nest} {key : List ℕ} {last : ℕ} {ends owners : List ℕ} (p : 
       -- ---- a step that may hold
 
       module _ {x : Count} {steps c : ℕ} {old gone : List ℕ} (t : CountTables n key x last steps c old gone)
-          (fits : set_fits o s.many s.set ≡ true)
-          (led : led_at o known loops froms uptos s.by ≡ true)
+          (fits : set_fits o (is_some s.dependence) (set_in s.set) ≡ true)
+          (led : led_at o claims (led_in s.by) ≡ true)
           (ws us : List ℕ) (set_is : IsSetOf o s ws)
-          (with_led : (g : ℕ) → holds us g ≡ (leads_at loops froms ends s.by g || holds gone g)) where
-        there : s.by ≤ known
-        there = led_there o known loops froms uptos s.by led
+          (with_led : (g : ℕ) → holds us g ≡ (leads_at claims ends (led_in s.by) g || holds gone g)) where
+        -- the step, by its numbers
+        abbrev asks : Step
+        asks = st (set_in s.set) (led_in s.by)
 
-        step_tables : StepTables n key k ks x (st s.set s.by) last ws us owners struck
+        there : led_in s.by ≤ length claims
+        there = led_there o claims (led_in s.by) led
+
+        step_tables : StepTables n key k ks x asks last ws us owners struck
         step_tables =
             record {
               all = p.all;
               ends = omega (arith, open_end, w.end_is);
-              set_is = λ g h l. set_is n.points is-end g ∙ set_alike s.set refl fits g;
-              set_ends = set_ends s.set refl fits;
+              set_is = λ g h l. set_is n.points a.end_is g ∙ set_alike (set_in s.set) refl fits g;
+              set_ends = set_ends (set_in s.set) refl fits;
               owners_are = p.owners_are;
               gone_is =
-                  λ g h. with_led g ∙ rw (leads_alike s.by there g, t.gone_is g)
-                  (or_turned (leads n key ks s.by g) (fact_out n key x.facts g));
+                  λ g h. with_led g ∙ rw (leads_alike (led_in s.by) there g, t.gone_is g)
+                  (or_turned (leads n key ks (led_in s.by) g) (fact_out n key x.facts g));
               struck_is = λ g h. q.excluded.tells k.loop g w.loop_do h;
             }
-          where
-            is-end : (m : ℕ) → s.set ≡ suc (suc m) → EndsIn n.points s.dependence s.end
-            is-end m e = a.end_is m e (ltb-true m s.many (rw e at fits))
 
         -- all that the definition asks but of the gaps
         fine_by
             : (i : ℕ) (b : Bool)
-            → s.set ≡ i
-            → set_fits o s.many i ≡ true
-            → every (asked n key k ks x (st i s.by)) (length n.points) ≡ b
-            → (step n key k ks (st i s.by) x).fine ≡ b
-        fine_by i b e h z = rw (t.fine, set_there i e h, sym (led_alike s.by) ∙ led, z) refl
+            → set_in s.set ≡ i
+            → set_fits o (is_some s.dependence) i ≡ true
+            → every (asked n key k ks x (st i (led_in s.by))) (length n.points) ≡ b
+            → (step n key k ks (st i (led_in s.by)) x).fine ≡ b
+        fine_by i b e h z = rw (t.fine, set_there i e h, sym (led_alike (led_in s.by)) ∙ led, z) refl
           where
-            set_there : (i : ℕ) → s.set ≡ i → set_fits o s.many i ≡ true → is_set n key k i ≡ true
+            set_there
+                : (i : ℕ) → set_in s.set ≡ i → set_fits o (is_some s.dependence) i ≡ true → is_set n key k i ≡ true
             set_there zero e h = rw w.from_is at h
             set_there (suc zero) e h =
                 let y : ltb 0 o.b ≡ true = (and_true (ltb 0 o.b) (leb o.b o.e) h).0 in
                 rw w.upto_is at y
-            set_there (suc (suc m)) e h = rw a.many_is at h
+            set_there (suc (suc m)) e h = sym (a.there_is m e) ∙ h
 
         asked_as
             : (b : Bool)
             → every (fine_at ws us owners struck o.d o.e) last ≡ b
-            → every (asked n key k ks x (st s.set s.by)) (length n.points) ≡ b
+            → every (asked n key k ks x asks) (length n.points) ≡ b
         asked_as b z =
             let y : every (fine_at ws us owners struck k.loop (end_of n.points k.loop)) last ≡ b =
             rw (w.loop_is, w.end_is) at z in
-            sym (step_fine n key k ks x (st s.set s.by) step_tables) ∙ y
+            sym (step_fine n key k ks x asks step_tables) ∙ y
 
         fine_is
             : (b : Bool)
             → every (fine_at ws us owners struck o.d o.e) last ≡ b
-            → (step n key k ks (st s.set s.by) x).fine ≡ b
-        fine_is b z = fine_by s.set b refl fits (asked_as b z)
+            → (step n key k ks asks x).fine ≡ b
+        fine_is b z = fine_by (set_in s.set) b refl fits (asked_as b z)
 
         count_after
             : (new vs : List ℕ) (c' : ℕ)
             → every (fine_at ws us owners struck o.d o.e) last ≡ true
             → Named (left_at ws us struck o.d) last old new
-            → c' ≡ counted s.by c
-            → ((g : ℕ) → holds vs g ≡ gone_after gone loops uptos ends s.by g)
-            → CountTables n key (step n key k ks (st s.set s.by) x) last (suc steps) c' new vs
+            → c' ≡ counted (led_in s.by) c
+            → ((g : ℕ) → holds vs g ≡ gone_after gone claims ends (led_in s.by) g)
+            → CountTables n key (step n key k ks asks x) last (suc steps) c' new vs
         count_after new vs c' z m more after =
             record {
               fine = fine_is true z;
               c_is = more ∙ rw t.c_is refl;
-              times_are = step_named n key k ks x (st s.set s.by) step_tables old new here again t.times_are;
+              times_are = step_named n key k ks x asks step_tables old new here again t.times_are;
               beyond = last_is;
               few = λ g. grown g;
-              gone_is = λ g. after g ∙ gone_alike gone x s.by there t.gone_is g;
+              gone_is = λ g. after g ∙ gone_alike gone x (led_in s.by) there t.gone_is g;
             }
           where
             here : every (fine_at ws us owners struck k.loop (end_of n.points k.loop)) last ≡ true
@@ -290,10 +309,10 @@ module _ {n : Nest} {key : List ℕ} {last : ℕ} {ends owners : List ℕ} (p : 
             again : Named (left_at ws us struck k.loop) last old new
             again = rw w.loop_is at m
 
-            last_is : named (is_left n key k ks x.facts (st s.set s.by)) x.times (suc last) ≡ 0
+            last_is : named (is_left n key k ks x.facts asks) x.times (suc last) ≡ 0
             last_is =
-                let y : is_left n key k ks x.facts (st s.set s.by) (suc last) ≡ false =
-                rw (set_ends s.set refl fits) refl in
+                let y : is_left n key k ks x.facts asks (suc last) ≡ false =
+                rw (set_ends (set_in s.set) refl fits) refl in
                 rw (y, t.beyond) refl
 
             at_most : (b : Bool) (v : ℕ) → v ≤ steps → when b 1 + v ≤ suc steps
@@ -315,24 +334,25 @@ module _ {n : Nest} {key : List ℕ} {last : ℕ} {ends owners : List ℕ} (p : 
 
 -- ---- what the code promises, for each way through it
 
-module _ (last : ℕ) (o : DO.Open) (s : DA.Asked) (c : ℕ) (gone : DP.Placement) (known : ℕ)
-    (loops froms uptos ends owners struck old new : List ℕ) where
+module _ (last : ℕ) (o : DO.Open) (s : DA.Asked) (c : ℕ) (gone : DP.Placement) (claims : List DC.Claimed)
+    (ends owners struck old new : List ℕ) where
   pub says_unfit
-      : set_fits o s.many s.set ≡ false
-      → StepSays last o s c gone known loops froms uptos ends owners struck old new None
-  says_unfit h n key k ks x steps p q w a t = (sym (unfit p q w a x t.fine s.by s.set h), tt)
+      : set_fits o (is_some s.dependence) (set_in s.set) ≡ false
+      → StepSays last o s c gone claims ends owners struck old new None
+  says_unfit h n key k ks x steps p q w a t =
+      (sym (unfit p q w a x t.fine (led_in s.by) (set_in s.set) refl h), tt)
 
   pub says_unled
-      : led_at o known loops froms uptos s.by ≡ false
-      → StepSays last o s c gone known loops froms uptos ends owners struck old new None
-  says_unled h n key k ks x steps p q w a t = (sym (unled p q w a x t.fine s.by s.set h), tt)
+      : led_at o claims (led_in s.by) ≡ false
+      → StepSays last o s c gone claims ends owners struck old new None
+  says_unled h n key k ks x steps p q w a t = (sym (unled p q w a x t.fine (led_in s.by) (set_in s.set) h), tt)
 
-  module _ (fits : set_fits o s.many s.set ≡ true) (led : led_at o known loops froms uptos s.by ≡ true)
+  module _ (fits : set_fits o (is_some s.dependence) (set_in s.set) ≡ true) (led : led_at o claims (led_in s.by) ≡ true)
       (ws us : List ℕ) (set_is : IsSetOf o s ws)
-      (with_led : (g : ℕ) → holds us g ≡ (leads_at loops froms ends s.by g || holds gone.words g)) where
+      (with_led : (g : ℕ) → holds us g ≡ (leads_at claims ends (led_in s.by) g || holds gone.words g)) where
     pub says_unnamed
         : every (fine_at ws us owners struck o.d o.e) last ≡ false
-        → StepSays last o s c gone known loops froms uptos ends owners struck old new None
+        → StepSays last o s c gone claims ends owners struck old new None
     says_unnamed h n key k ks x steps p q w a t =
         (sym (fine_is p q w a t fits led ws us set_is with_led false h), tt)
 
@@ -340,46 +360,30 @@ module _ (last : ℕ) (o : DO.Open) (s : DA.Asked) (c : ℕ) (gone : DP.Placemen
         : (r : DT.Taken)
         → every (fine_at ws us owners struck o.d o.e) last ≡ true
         → Named (left_at ws us struck o.d) last old new
-        → r.c ≡ counted s.by c
-        → ((g : ℕ) → holds r.gone.words g ≡ gone_after gone.words loops uptos ends s.by g)
-        → StepSays last o s c gone known loops froms uptos ends owners struck old new (Some r)
+        → r.c ≡ counted (led_in s.by) c
+        → ((g : ℕ) → holds r.gone.words g ≡ gone_after gone.words claims ends (led_in s.by) g)
+        → StepSays last o s c gone claims ends owners struck old new (Some r)
     says_taken r h m more after n key k ks x steps p q w a t = (
       sym (fine_is p q w a t fits led ws us set_is with_led true h),
       count_after p q w a t fits led ws us set_is with_led new r.gone.words r.c h m more after,
     )
 
-module _ {last : ℕ} {o : DO.Open} {s : DA.Asked} {c known : ℕ} {loops froms uptos ends owners struck times : List ℕ}
-    (r : StepRoom last o s c known loops froms uptos ends owners struck times) where
-  pub set_room : set_fits o s.many s.set ≡ true → SetRoom o s
-  set_room fits =
+module _ {last : ℕ} {o : DO.Open} {s : DA.Asked} {c : ℕ} {claims : List DC.Claimed} {ends owners struck times : List ℕ}
+    (r : StepRoom last o s c claims ends owners struck times) where
+  pub set_room : SetRoom o s
+  set_room =
       record {
         low = omega (arith, r.rises, r.ends_there, r.naming.small);
         end_low = omega (arith, r.ends_there, r.naming.small);
         upto_low = r.upto_low;
-        lies = λ m e. r.lies m e (ltb-true m s.many (rw e at fits));
+        lies = r.lies;
       }
 
-  module _ (led : led_at o known loops froms uptos s.by ≡ true) where
-    leads_low : (by : ℕ) → by ≤ known → (m : ℕ) → by ≡ suc m → at ends (at loops m) < POINTS
-    leads_low by h m e = r.loops_end m (omega (arith, h, e))
-
-    there_is : s.by ≤ known
-    there_is = led_there o known loops froms uptos s.by led
-
-    pub lead_room : LeadRoom s.by loops froms ends
-    lead_room =
-        record {
-          loops_long = omega (arith, there_is, r.loops_long);
-          marks_long = omega (arith, there_is, r.froms_long);
-          ends_long = r.ends_long;
-          low = leads_low s.by there_is;
-        }
-
-    pub gone_room : LeadRoom s.by loops uptos ends
-    gone_room =
-        record {
-          loops_long = omega (arith, there_is, r.loops_long);
-          marks_long = omega (arith, there_is, r.uptos_long);
-          ends_long = r.ends_long;
-          low = leads_low s.by there_is;
-        }
+  pub lead_room : led_at o claims (led_in s.by) ≡ true → LeadRoom (led_in s.by) claims ends
+  lead_room led =
+      let there : led_in s.by ≤ length claims = led_there o claims (led_in s.by) led in
+      record {
+        claims_long = there;
+        ends_long = r.ends_long;
+        low = λ m e. r.loops_end m (omega (arith, there, e));
+      }

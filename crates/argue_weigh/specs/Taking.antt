@@ -1,8 +1,9 @@
--- One step of the claim that is open, over tables: its set and what leads it, tested and put into words; the count after
--- it.
--- Main definitions: `set_fits`, `IsSetOf`, `led_at`, `leads_at`, `gone_after`; `StepRoom`, `PaperTables`, `KnownTables`, `OpenTables`,
--- `AskedTables`, `CountTables`, `StepSays`.
-use Rattle.std.specs.Prelude.{◌≡◌, Bool, true, false, ◌&&◌, ◌||◌, List, ℕ, zero, suc, ◌≤◌, ◌<◌, ltb, leb, length, Option, is_some, IfSome}
+-- One step of the claim that is open, over tables: its set and what leads it, tested and put into words; the count
+-- after it.
+-- Main definitions: `set_fits`, `IsSetOf`, `leads_on`, `led_at`, `leads_at`, `gone_after`; `StepRoom`, `PaperTables`,
+-- `KnownTables`, `OpenTables`, `AskedTables`, `CountTables`, `StepSays`.
+use Rattle.std.specs.Prelude.{◌≡◌, Bool, true, false, ◌&&◌, ◌||◌, List, ℕ, zero, suc, ◌≤◌, ◌<◌, ltb, leb, length}
+use Rattle.std.specs.Prelude.{get_or, Option, None, Some, is_some, IfSome}
 use Rattle.laws.specs.Choice.{pick, between}
 use Rattle.laws.specs.Entries.{at}
 use Rattle.paper_nests.specs.Kinds.{POINTS}
@@ -15,8 +16,11 @@ use Rattle.paper_placements.specs.declared.Placement as DP
 use Rattle.paper_placements.specs.Words.{holds}
 use Rattle.paper_gaps.specs.Lies.{LiesTo, EndsIn}
 use Rattle.argue_claims.specs.Arguments.{Claim, Known, Count, st, known_at, dep_at, fact_out, step}
+use Rattle.argue_texts.specs.declared.Claimed as DC
 use Rattle.argue_texts.specs.ArgumentTexts.{STEPS}
+use Rattle.argue_texts.specs.Parts.{set_in, led_in}
 use Rattle.argue_weigh.specs.declared.Open as DO
+use Rattle.argue_weigh.specs.declared.Ended as DX
 use Rattle.argue_weigh.specs.declared.Asked as DA
 use Rattle.argue_weigh.specs.declared.Taken as DT
 use Rattle.argue_weigh.specs.Naming.{NamingRoom}
@@ -25,63 +29,74 @@ use Rattle.argue_weigh.specs.Excluding.{Excludes}
 abbrev pub smaller : ℕ → ℕ → ℕ
 smaller a b = pick (leb a b) a b
 
--- the set is there, and where it goes up to b it ends in the loop
-abbrev pub set_fits : DO.Open → ℕ → ℕ → Bool
-set_fits o many zero = ltb 0 o.a
-set_fits o many (suc zero) = ltb 0 o.b && leb o.b o.e
-set_fits o many (suc (suc m)) = ltb m many
+-- claim m, as the code reads it
+abbrev pub claim_at : List DC.Claimed → ℕ → DC.Claimed
+claim_at cs m = get_or cs m (record { d = 0; a = 0; b = 0 })
+
+-- the set is there, and where it goes up to b it ends in the loop; `there` says that the nest has its dependence
+abbrev pub set_fits : DO.Open → Bool → ℕ → Bool
+set_fits o there zero = ltb 0 o.a
+set_fits o there (suc zero) = ltb 0 o.b && leb o.b o.e
+set_fits o there (suc (suc m)) = there
 
 -- ranges end in the words
 pub record SetRoom (o : DO.Open) (s : DA.Asked) : Type 0 where
   pub low : o.d < POINTS
   pub end_low : o.e < POINTS
   pub upto_low : o.b < POINTS
-  pub lies : (m : ℕ) → s.set ≡ suc (suc m) → LiesTo s.dependence s.end
+  pub lies : (m : ℕ) → set_in s.set ≡ suc (suc m) → IfSome s.dependence (λ x. LiesTo x.e x.end)
+
+-- a dependence's set has the gap, where `ps` are the points of its nest
+abbrev pub gap_of : List ℕ → Option DX.Ended → ℕ → Bool
+gap_of ps None g = false
+gap_of ps (Some x) g = has_gap ps (dep_in x.e) g
 
 -- the words have the gaps of the set, where `ps` are the points of a nest with this dependence
 abbrev pub set_at : List ℕ → DO.Open → DA.Asked → ℕ → ℕ → Bool
 set_at ps o s zero g = between o.a g o.e
 set_at ps o s (suc zero) g = between (suc o.d) g o.b
-set_at ps o s (suc (suc m)) g = has_gap ps (dep_in s.dependence) g
+set_at ps o s (suc (suc m)) g = gap_of ps s.dependence g
 
 abbrev pub IsSetOf : DO.Open → DA.Asked → List ℕ → Type 0
 IsSetOf o s ws =
     (ps : List ℕ) →
-    ((m : ℕ) → s.set ≡ suc (suc m) → EndsIn ps s.dependence s.end) →
+    ((m : ℕ) → set_in s.set ≡ suc (suc m) → IfSome s.dependence (λ x. EndsIn ps x.e x.end)) →
     (g : ℕ) →
-    holds ws g ≡ set_at ps o s s.set g
+    holds ws g ≡ set_at ps o s (set_in s.set) g
 
 -- gap g is one of those behind d up to the ENDDO that the table has for it
 abbrev pub around_at : List ℕ → ℕ → ℕ → Bool
 around_at ends g d = ltb d g && leb g (at ends d)
 
--- what leads is nothing, or an earlier claim of a loop inside, with an a and a b; the lists have the loop, the a and
--- the b of each
-abbrev pub led_at : DO.Open → ℕ → List ℕ → List ℕ → List ℕ → ℕ → Bool
-led_at o known loops froms uptos zero = true
-led_at o known loops froms uptos (suc m) =
-    ltb m known && (is_inside o.d o.e (at loops m) && (ltb 0 (at froms m) && ltb 0 (at uptos m)))
+-- a claim is one of a loop inside, with an a and a b
+abbrev pub leads_on : DO.Open → DC.Claimed → Bool
+leads_on o k = is_inside o.d o.e k.d && (ltb 0 k.a && ltb 0 k.b)
+
+-- what leads is nothing, or an earlier claim of a loop inside, with an a and a b
+abbrev pub led_at : DO.Open → List DC.Claimed → ℕ → Bool
+led_at o claims zero = true
+led_at o claims (suc m) = ltb m (length claims) && leads_on o (claim_at claims m)
 
 -- the gaps from which it leads on
-abbrev pub leads_at : List ℕ → List ℕ → List ℕ → ℕ → ℕ → Bool
-leads_at loops froms ends zero g = false
-leads_at loops froms ends (suc m) g = around_at ends g (at loops m) && leb (at froms m) g
+abbrev pub leads_at : List DC.Claimed → List ℕ → ℕ → ℕ → Bool
+leads_at claims ends zero g = false
+leads_at claims ends (suc m) g = around_at ends g (claim_at claims m).d && leb (claim_at claims m).a g
 
 -- what is gone after the step: nothing, or also the gaps up to its b
-abbrev pub gone_after : List ℕ → List ℕ → List ℕ → List ℕ → ℕ → ℕ → Bool
-gone_after gone loops uptos ends zero g = false
-gone_after gone loops uptos ends (suc m) g = (around_at ends g (at loops m) && leb g (at uptos m)) || holds gone g
+abbrev pub gone_after : List ℕ → List DC.Claimed → List ℕ → ℕ → ℕ → Bool
+gone_after gone claims ends zero g = false
+gone_after gone claims ends (suc m) g =
+    (around_at ends g (claim_at claims m).d && leb g (claim_at claims m).b) || holds gone g
 
--- the claim that leads has its entries, and its loop an ENDDO
-pub record LeadRoom (by : ℕ) (loops marks ends : List ℕ) : Type 0 where
-  pub loops_long : by ≤ length loops
-  pub marks_long : by ≤ length marks
+-- the claim that leads is there, and its loop has an ENDDO
+pub record LeadRoom (by : ℕ) (claims : List DC.Claimed) (ends : List ℕ) : Type 0 where
+  pub claims_long : by ≤ length claims
   pub ends_long : length ends ≡ POINTS
-  pub low : (m : ℕ) → by ≡ suc m → at ends (at loops m) < POINTS
+  pub low : (m : ℕ) → by ≡ suc m → at ends (claim_at claims m).d < POINTS
 
--- the tables have an entry for every gap and every claim so far; nothing is above its limit
+-- the tables have an entry for every gap; nothing is above its limit
 pub record StepRoom
-    (last : ℕ) (o : DO.Open) (s : DA.Asked) (c known : ℕ) (loops froms uptos ends owners struck times : List ℕ)
+    (last : ℕ) (o : DO.Open) (s : DA.Asked) (c : ℕ) (claims : List DC.Claimed) (ends owners struck times : List ℕ)
     : Type 0 where
   pub naming : NamingRoom last owners struck times
   pub rises : o.d < o.e
@@ -90,11 +105,8 @@ pub record StepRoom
   pub upto_low : o.b < POINTS
   pub few_sets : c ≤ STEPS
   pub ends_long : length ends ≡ POINTS
-  pub loops_long : known ≤ length loops
-  pub froms_long : known ≤ length froms
-  pub uptos_long : known ≤ length uptos
-  pub loops_end : (m : ℕ) → m < known → at ends (at loops m) < POINTS
-  pub lies : (m : ℕ) → s.set ≡ suc (suc m) → m < s.many → LiesTo s.dependence s.end
+  pub loops_end : (m : ℕ) → m < length claims → at ends (claim_at claims m).d < POINTS
+  pub lies : (m : ℕ) → set_in s.set ≡ suc (suc m) → IfSome s.dependence (λ x. LiesTo x.e x.end)
 
 module _ (n : Nest) (key : List ℕ) where
   -- what the tables say of the paper, which has the gaps 1 to `last`
@@ -105,12 +117,12 @@ module _ (n : Nest) (key : List ℕ) where
     pub owners_are : (g : ℕ) → g ≤ last → at owners g ≡ owner_of n.points g
 
   -- of the claims so far
-  pub record KnownTables (ks : List Known) (known : ℕ) (loops froms uptos struck : List ℕ) : Type 0 where
-    pub count_is : known ≡ length ks
-    pub loops_are : (m : ℕ) → m < known → at loops m ≡ (known_at ks m).loop
-    pub froms_are : (m : ℕ) → m < known → at froms m ≡ (known_at ks m).from
-    pub uptos_are : (m : ℕ) → m < known → at uptos m ≡ (known_at ks m).upto
-    pub loops_do : (m : ℕ) → m < known → is_do n.points (known_at ks m).loop ≡ true
+  pub record KnownTables (ks : List Known) (claims : List DC.Claimed) (struck : List ℕ) : Type 0 where
+    pub count_is : length claims ≡ length ks
+    pub loops_are : (m : ℕ) → m < length claims → (claim_at claims m).d ≡ (known_at ks m).loop
+    pub froms_are : (m : ℕ) → m < length claims → (claim_at claims m).a ≡ (known_at ks m).from
+    pub uptos_are : (m : ℕ) → m < length claims → (claim_at claims m).b ≡ (known_at ks m).upto
+    pub loops_do : (m : ℕ) → m < length claims → is_do n.points (known_at ks m).loop ≡ true
     pub excluded : Excludes n key ks struck
 
   -- of the claim that is open
@@ -123,9 +135,9 @@ module _ (n : Nest) (key : List ℕ) where
 
   -- of the step, whose set may be a dependence's
   pub record AskedTables (s : DA.Asked) : Type 0 where
-    pub many_is : s.many ≡ length n.deps
-    pub dep_is : (m : ℕ) → s.set ≡ suc (suc m) → m < s.many → dep_in s.dependence ≡ dep_at n.deps m
-    pub end_is : (m : ℕ) → s.set ≡ suc (suc m) → m < s.many → EndsIn n.points s.dependence s.end
+    pub there_is : (m : ℕ) → set_in s.set ≡ suc (suc m) → is_some s.dependence ≡ ltb m (length n.deps)
+    pub dep_is : (m : ℕ) → set_in s.set ≡ suc (suc m) → IfSome s.dependence (λ x. dep_in x.e ≡ dep_at n.deps m)
+    pub end_is : (m : ℕ) → set_in s.set ≡ suc (suc m) → IfSome s.dependence (λ x. EndsIn n.points x.e x.end)
 
   -- of the count after some steps
   pub record CountTables (x : Count) (last steps c : ℕ) (times gone : List ℕ) : Type 0 where
@@ -138,15 +150,15 @@ module _ (n : Nest) (key : List ℕ) where
 
 -- whether the step holds, and where it does the count after it
 abbrev pub StepSays
-    : ℕ → DO.Open → DA.Asked → ℕ → DP.Placement → ℕ → List ℕ → List ℕ → List ℕ → List ℕ → List ℕ → List ℕ → List ℕ
-    → List ℕ → Option DT.Taken → Type 0
-StepSays last o s c gone known loops froms uptos ends owners struck old new r =
+    : ℕ → DO.Open → DA.Asked → ℕ → DP.Placement → List DC.Claimed → List ℕ → List ℕ → List ℕ → List ℕ → List ℕ
+    → Option DT.Taken → Type 0
+StepSays last o s c gone claims ends owners struck old new r =
     (n : Nest) (key : List ℕ) (k : Claim) (ks : List Known) (x : Count) (steps : ℕ) →
     PaperTables n key last ends owners →
-    KnownTables n key ks known loops froms uptos struck →
+    KnownTables n key ks claims struck →
     OpenTables n key k o →
     AskedTables n key s →
     CountTables n key x last steps c old gone.words →
-    (is_some r ≡ (step n key k ks (st s.set s.by) x).fine) ×
+    (is_some r ≡ (step n key k ks (st (set_in s.set) (led_in s.by)) x).fine) ×
     IfSome r
-    (λ t. CountTables n key (step n key k ks (st s.set s.by) x) last (suc steps) t.c new t.gone.words)
+    (λ t. CountTables n key (step n key k ks (st (set_in s.set) (led_in s.by)) x) last (suc steps) t.c new t.gone.words)

@@ -3,17 +3,20 @@
 #![tactic(auto)]
 
 ghost use Rattle.std.specs.Prelude.{◌≡◌, true, false, ◌||◌, ℕ, ◌≤◌, ◌<◌, length};
-ghost use Rattle.laws.specs.Choice.{pick, between};
+ghost use Rattle.std.specs.Option.{is_some};
+ghost use Rattle.laws.specs.Choice.{between};
 ghost use Rattle.laws.specs.Entries.{at};
 ghost use Rattle.paper_nests.specs.Kinds.{POINTS};
 ghost use Rattle.paper_placements.specs.Words.{GAPS, holds};
 ghost use Rattle.argue_claims.specs.Arguments.{every, greatest, counted};
 ghost use Rattle.argue_texts.specs.ArgumentTexts.{STEPS};
+ghost use Rattle.argue_texts.specs.Parts.{set_in, led_in};
 ghost use Rattle.argue_weigh.specs.Naming.{left_at, within_at, lies_at, fine_at, NamingRoom, Named};
-ghost use Rattle.argue_weigh.specs.Striking.{larger, beyond_at, excludes_at, StrikingRoom, Struck};
-ghost use Rattle.argue_weigh.specs.Taking.{set_fits, led_at, SetRoom, IsSetOf, leads_at, gone_after};
+ghost use Rattle.argue_weigh.specs.Striking.{beyond_at, excludes_at, StrikingRoom, Struck};
+ghost use Rattle.argue_weigh.specs.Taking.{set_fits, leads_on, led_at, SetRoom, IsSetOf, leads_at, gone_after};
 ghost use Rattle.argue_weigh.specs.Taking.{LeadRoom, StepRoom, StepSays};
 
+use argue_texts::{Claimed, Set};
 use paper_gaps::{with_gaps, with_range};
 use paper_nests::{Dependence, is_inside};
 use paper_placements::Placement;
@@ -27,15 +30,20 @@ pub struct Open {
     pub b: usize,
 }
 
-// A step: its set, and one more than the claim that leads it, or 0; how many dependences there are, and of dependence
-// set - 2, where there is one, the ENDDO of the loop that carries it.
+// A dependence, and the ENDDO of the loop that carries it, where one does.
+#[derive(Clone, Copy)]
+pub struct Ended {
+    pub e: Dependence,
+    pub end: usize,
+}
+
+// A step: its set, and the claim that leads it, if one does; where the set is a dependence's, that dependence, if the
+// nest has it.
 #[derive(Clone, Copy)]
 pub struct Asked {
-    pub set: usize,
-    pub by: usize,
-    pub many: usize,
-    pub dependence: Dependence,
-    pub end: usize,
+    pub set: Set,
+    pub by: Option<usize>,
+    pub dependence: Option<Ended>,
 }
 
 // How many sets were counted, and what is gone, after a step that holds.
@@ -45,41 +53,34 @@ pub struct Taken {
     pub gone: Placement,
 }
 
-// One step of the claim that is open, behind `known` claims with these loops, a and b; nothing where it does not hold.
+// One step of the claim that is open, behind these claims; nothing where it does not hold.
 pub fn take_step(
     last: usize,
     claim: Open,
     step: Asked,
     c: usize,
     gone: Placement,
-    known: usize,
-    loops: &[u8],
-    froms: &[u8],
-    uptos: &[u8],
+    claims: &[Claimed],
     ends: &[usize],
     owners: &[usize],
     struck: &[usize],
     times: &mut [usize],
 ) -> Option<Taken>
-    requires { StepRoom last claim step c known loops.now froms.now uptos.now ends.now owners.now
-        struck.now times.old }
-    ensures { StepSays last claim step c gone known loops.now froms.now
-        uptos.now ends.now owners.now struck.now times.old
+    requires { StepRoom last claim step c claims.now ends.now owners.now struck.now times.old }
+    ensures { StepSays last claim step c gone claims.now ends.now owners.now struck.now times.old
         times.new result }
 {
-    if !set_fits(claim, step.many, step.set)
-        || !is_led(claim, known, loops, froms, uptos, step.by)
-    {
+    if !set_fits(claim, step) || !is_led(claim, claims, step.by) {
         return None;
     }
     let set = set_of(claim, step);
-    let led = with_led(gone, loops, froms, ends, step.by);
+    let led = with_led(gone, claims, ends, step.by);
     if !name_gaps(last, claim.d, claim.e, set, led, owners, struck, times) {
         return None;
     }
     Some(Taken {
         c: counted(step.by, c),
-        gone: gone_after(gone, loops, uptos, ends, step.by),
+        gone: gone_after(gone, claims, ends, step.by),
     })
 }
 
@@ -124,49 +125,52 @@ pub fn most_of(last: usize, times: &[usize]) -> usize
     most
 }
 
-// Notes what a claim of the loop with DO d and ENDDO e excludes, now that it holds.
+// Notes what a claim excludes, now that it holds. `exact` is a fact of the claim, on which what it excludes depends.
 pub fn strike(
-    d: usize,
-    e: usize,
-    a: usize,
-    b: usize,
+    claim: Open,
     exact: bool,
     most: usize,
     owners: &[usize],
     times: &[usize],
     struck: &mut [usize],
 )
-    requires { StrikingRoom d e owners.now times.now struck.old }
-    ensures { Struck (excludes_at a b exact most owners.now times.now d) d e
+    requires { StrikingRoom claim.d claim.e owners.now times.now struck.old }
+    ensures { Struck (excludes_at claim.a claim.b exact most owners.now times.now claim.d) claim.d claim.e
         struck.old struck.new }
 {
-    for g in (d + 1..e + 1).rev() {
-        let excluded = excludes(a, b, exact, most, owners, times, d, g);
-        struck[g] = raised(struck[g], d + 1, excluded);
+    for g in (claim.d + 1..claim.e + 1).rev() {
+        if excludes(claim, exact, most, owners, times, g) {
+            struck[g] = struck[g].max(claim.d + 1);
+        }
     }
 }
 
 // The set is there, and where it goes up to b it ends in the loop.
-fn set_fits(claim: Open, many: usize, set: usize) -> bool
-    ensures { result ≡ set_fits claim many set }
+fn set_fits(claim: Open, step: Asked) -> bool
+    ensures { result ≡ set_fits claim (is_some step.dependence) (set_in step.set) }
 {
-    match set {
-        0 => 0 < claim.a,
-        1 => 0 < claim.b && claim.b <= claim.e,
-        _ => set - 2 < many,
+    match step.set {
+        Set::From => 0 < claim.a,
+        Set::Upto => 0 < claim.b && claim.b <= claim.e,
+        Set::Dependence(_) => step.dependence.is_some(),
     }
 }
 
 // What leads is nothing, or an earlier claim of a loop inside, with an a and a b.
-fn is_led(claim: Open, known: usize, loops: &[u8], froms: &[u8], uptos: &[u8], by: usize) -> bool
-    requires { (known ≤ length loops.now) × (known ≤ length froms.now) × (known ≤ length uptos.now) }
-    ensures { result ≡ led_at claim known loops.now froms.now uptos.now by }
+fn is_led(claim: Open, claims: &[Claimed], by: Option<usize>) -> bool
+    ensures { result ≡ led_at claim claims.now (led_in by) }
 {
-    if by == 0 {
-        return true;
+    match by {
+        None => true,
+        Some(m) => m < claims.len() && leads(claim, claims[m]),
     }
-    let m = by - 1;
-    m < known && is_inside(claim.d, claim.e, loops[m] as usize) && 0 < froms[m] && 0 < uptos[m]
+}
+
+// The claim is one of a loop inside, with an a and a b.
+fn leads(claim: Open, k: Claimed) -> bool
+    ensures { result ≡ leads_on claim k }
+{
+    is_inside(claim.d, claim.e, k.d as usize) && 0 < k.a && 0 < k.b
 }
 
 // The set of a step.
@@ -175,39 +179,38 @@ fn set_of(claim: Open, step: Asked) -> Placement
     ensures { IsSetOf claim step result.words }
 {
     let none = Placement::empty();
-    match step.set {
-        0 => with_span(none, claim.a, claim.e),
-        1 => with_span(none, claim.d + 1, claim.b),
-        _ => with_gaps(none, step.end, step.dependence),
+    match (step.set, step.dependence) {
+        (Set::From, _) => with_span(none, claim.a, claim.e),
+        (Set::Upto, _) => with_span(none, claim.d + 1, claim.b),
+        (Set::Dependence(_), Some(x)) => with_gaps(none, x.end, x.e),
+        (Set::Dependence(_), None) => none,
     }
 }
 
 // What is gone, and the gaps from which a claim leads on.
-fn with_led(gone: Placement, loops: &[u8], froms: &[u8], ends: &[usize], by: usize) -> Placement
-    requires { LeadRoom by loops.now froms.now ends.now }
-    ensures { (g : ℕ) → holds result.words g ≡ (leads_at loops.now froms.now
-        ends.now by g || holds gone.words g) }
+fn with_led(gone: Placement, claims: &[Claimed], ends: &[usize], by: Option<usize>) -> Placement
+    requires { LeadRoom (led_in by) claims.now ends.now }
+    ensures { (g : ℕ) → holds result.words g ≡ (leads_at claims.now ends.now (led_in by) g || holds gone.words g) }
 {
-    if by == 0 {
+    let Some(m) = by else {
         return gone;
-    }
-    let m = by - 1;
-    let d = loops[m] as usize;
-    with_span(gone, (d + 1).max(froms[m] as usize), ends[d])
+    };
+    let k = claims[m];
+    let d = k.d as usize;
+    with_span(gone, (d + 1).max(k.a as usize), ends[d])
 }
 
 // What is gone after a step: what a claim that leads says that there is none of, and all that was gone; else nothing.
-fn gone_after(gone: Placement, loops: &[u8], uptos: &[u8], ends: &[usize], by: usize) -> Placement
-    requires { LeadRoom by loops.now uptos.now ends.now }
-    ensures { (g : ℕ) → holds result.words g ≡ gone_after gone.words loops.now
-        uptos.now ends.now by g }
+fn gone_after(gone: Placement, claims: &[Claimed], ends: &[usize], by: Option<usize>) -> Placement
+    requires { LeadRoom (led_in by) claims.now ends.now }
+    ensures { (g : ℕ) → holds result.words g ≡ gone_after gone.words claims.now ends.now (led_in by) g }
 {
-    if by == 0 {
+    let Some(m) = by else {
         return Placement::empty();
-    }
-    let m = by - 1;
-    let d = loops[m] as usize;
-    with_span(gone, d + 1, (uptos[m] as usize).min(ends[d]))
+    };
+    let k = claims[m];
+    let d = k.d as usize;
+    with_span(gone, d + 1, (k.b as usize).min(ends[d]))
 }
 
 // The placement with the gaps from lo to hi as well, if there are any.
@@ -219,11 +222,11 @@ fn with_span(p: Placement, lo: usize, hi: usize) -> Placement
 }
 
 // How many sets were counted after a step.
-fn counted(by: usize, c: usize) -> usize
+fn counted(by: Option<usize>, c: usize) -> usize
     requires { c ≤ STEPS }
-    ensures { result ≡ counted by c }
+    ensures { result ≡ counted (led_in by) c }
 {
-    if by == 0 { c + 1 } else { c }
+    if by.is_none() { c + 1 } else { c }
 }
 
 // The gap is in the set, and neither excluded inside the loop nor gone.
@@ -252,29 +255,20 @@ fn is_within(set: Placement, d: usize, e: usize, g: usize) -> bool
     !set.holds(g) || (d < g && g <= e)
 }
 
-// A number raised to another, where the test holds.
-fn raised(old: usize, new: usize, yes: bool) -> usize
-    ensures { result ≡ pick yes (larger old new) old }
-{
-    if yes { old.max(new) } else { old }
-}
-
-// The claim of loop d excludes the gap.
+// The claim excludes the gap. `exact` is a fact of the claim, on which the answer depends.
 fn excludes(
-    a: usize,
-    b: usize,
+    claim: Open,
     exact: bool,
     most: usize,
     owners: &[usize],
     times: &[usize],
-    d: usize,
     g: usize,
 ) -> bool
     requires g_bound { g < POINTS }
     requires owners_len { (length owners.now ≡ POINTS) × (length times.now ≡ POINTS) }
-    ensures { result ≡ excludes_at a b exact most owners.now times.now d g }
+    ensures { result ≡ excludes_at claim.a claim.b exact most owners.now times.now claim.d g }
 {
-    is_beyond(a, b, g) || (owners[g] == d && exact && times[g] != most)
+    is_beyond(claim.a, claim.b, g) || (owners[g] == claim.d && exact && times[g] != most)
 }
 
 // The gap lies up to b where no a is given, or from a on where no b is.

@@ -1,37 +1,19 @@
 -- The calls, one law for each way through them.
--- Main statements: `weigh_faulty`, `weigh_uncut`, `weigh_unheld`, `weigh_holds`; `key_refused`, `key_weighed`;
--- `placement_refused`, `placement_faulty`, `placement_weighed`, `placement_avoids`.
+-- Main statements: `key_refused`, `key_weighed`; `placement_refused`, `placement_faulty`, `placement_weighed`,
+-- `placement_avoids`.
 use mathlib.Core.Path.{◌≡◌, ap, ◌∙◌}
 use mathlib.Core.Bool.{true, false}
 use mathlib.Core.List.{List}
 use Prim.Native.Nat.{ℕ}
 use lib.ListN.{length}
 use borrow.Author.Tests.{eq-eqb, ne_eqb}
-use Rattle.paper_nests.specs.Nests.{Nest}
-use Rattle.paper_placements.specs.Placements.{are_gaps, avoids, uncut}
+use Rattle.paper_placements.specs.Placements.{avoids}
 use Rattle.paper_texts.specs.PlacementTexts.{Placed, placed}
 use Rattle.paper_texts.proofs.PlacedTexts.{read_avoids}
-use Rattle.argue_texts.specs.ArgumentTexts.{fault, argument_fault}
 use Rattle.desk.specs.Desks.{Desk, state_fault}
 use Rattle.desk.specs.Says.{read_in}
-use Rattle.call_argument.specs.Says.{PLACEMENT, ARGUMENT, UNHELD, reply, unheld_of, weighed_by}
+use Rattle.call_argument.specs.Says.{PLACEMENT, reply, weighed_by}
 use Rattle.call_argument.specs.Says.{weigh_of, weigh_placement_of}
-
--- against a placement of a nest
-module _ (n : Nest) (gs s : List ℕ) (k l : ℕ) (text : fault k l ≡ argument_fault s) where
-  pub weigh_faulty : (k ≡ 0 → ⊥) → reply k ARGUMENT l ≡ weighed_by n gs s
-  weigh_faulty h = rw (← text, ne_eqb k 0 h)
-
-  module _ (read : k ≡ 0) (gaps : are_gaps n gs ≡ true) (free : avoids n.barred gs ≡ true) where
-    pub weigh_uncut : (uncut n gs ≡ 0 → ⊥) → reply UNHELD PLACEMENT 0 ≡ weighed_by n gs s
-    weigh_uncut h = rw (← text, eq-eqb k 0 read, gaps, free, ne_eqb (uncut n gs) 0 h)
-
-    module _ (cut : uncut n gs ≡ 0) (j : ℕ) (judge : j ≡ unheld_of n gs s) where
-      pub weigh_unheld : (j ≡ 0 → ⊥) → reply UNHELD ARGUMENT j ≡ weighed_by n gs s
-      weigh_unheld h = rw (← text, eq-eqb k 0 read, gaps, free, eq-eqb (uncut n gs) 0 cut, ← judge, ne_eqb j 0 h)
-
-      pub weigh_holds : j ≡ 0 → reply 0 0 0 ≡ weighed_by n gs s
-      weigh_holds h = rw (← text, eq-eqb k 0 read, gaps, free, eq-eqb (uncut n gs) 0 cut, ← judge, eq-eqb j 0 h)
 
 -- against the key
 module _ (x : Desk) (s : List ℕ) where

@@ -1,11 +1,14 @@
 use mathlib.Core.Path.{◌≡◌, refl, sym, subst}
 use Rattle.std.proofs.Common.{Some, None}
+use Rattle.std.specs.Option.{IfSome}
 use mathlib.Core.Bool.{true, false}
-use Prim.Native.Nat.{ℕ, suc, ◌-◌, ◌<◌}
+use Prim.Native.Nat.{ℕ, suc, ◌-◌}
 use native.Mathlib.Omega.{arith}
 use lib.ListN.{length}
 use Rattle.paper_nests.specs.Stored.{nest_in}
 use Rattle.paper_gaps.specs.Lies.{LiesTo}
+use Rattle.argue_texts.specs.Parts.{set_in}
+use Rattle.argue_weigh.specs.declared.Ended.{Ended}
 use Rattle.argue_weigh.specs.declared.Asked.{Asked}
 use Rattle.argue_judge.proofs.Turns.{long_named, long_closed, end_unshown, never_refused, turned, goes-on, never_unknown}
 use Rattle.argue_judge.proofs.Turns.{Led-on, claim_unshown, claim_of_none, claim_on, step_not, step_on}
@@ -22,13 +25,11 @@ loop-times-init c =
     record {
       judges =
           lines_begun c.requires.judgeable c.args.text.now _ c.empty-low.result.words c.empty-gone.result.words
-          c.no_claims-loops.result c.no_claims-froms.result c.no_claims-uptos.result c.first_struck-struck.result
+          c.no_claims-claims.result c.first_struck-struck.result
           c.no_times-times.result refl refl refl c.empty-low.ensures c.empty-gone.ensures
           c.first_struck-struck.ensures c.no_times-times.ensures.by_index;
       long = record {
-        loops_long = c.no_claims-loops.ensures;
-        froms_long = c.no_claims-froms.ensures;
-        uptos_long = c.no_claims-uptos.ensures;
+        claims_long = c.no_claims-claims.ensures;
         struck_long = c.first_struck-struck.ensures.long;
         times_long = c.no_times-times.ensures.result_len;
       };
@@ -116,11 +117,10 @@ take_step-requires c =
     step_room w c.requires.text_value (v.judges w.key w.tables) c.open_of-claim.result c.open_of-claim.ensures.value
     c.asked_of-asked.result
     (subst
-    (λ (q : Asked). (m : ℕ) → q.set ≡ suc (suc m) → m < q.many → LiesTo q.dependence q.end)
+    (λ (q : Asked). (m : ℕ) → set_in q.set ≡ suc (suc m) → IfSome q.dependence (λ (x : Ended). LiesTo x.e x.end))
     (sym c.asked_of-asked.ensures)
-    (asked_lies w c.in-Names.s c.loop-times.by c.place_of-i.result _ c.place_of-i.ensures.1 refl))
+    (asked_lies w c.in-Names.s c.loop-times.by c.dependences-deps.ensures.entries))
     c.open_of-claim.ensures.a_bound.0 c.open_of-claim.ensures.a_bound.1 v.long.times_long v.long.struck_long
-    v.long.loops_long v.long.froms_long v.long.uptos_long
 
 pub returns-in_default-clause-first : goal.returns-in_default-clause-first
 returns-in_default-clause-first c =
@@ -128,8 +128,8 @@ returns-in_default-clause-first c =
     (sym (rw c.in-Ok-Some.field-0-is at c.in-Ok-Some.ensures)) c.part_of.ensures in
     λ key t.
     let told = stepped_as c.requires.judgeable t (turn key t).judges c.open_of-claim.result
-    c.open_of-claim.ensures.value c.in-Names.s c.place_of-i.result c.place_of-i.ensures.1 c.asked_of-asked.result
-    c.asked_of-asked.ensures c.take_step.new.times None c.in_default.ensures in
+    c.open_of-claim.ensures.value c.in-Names.s c.loop-times.by refl c.dependences-deps.ensures.entries
+    c.asked_of-asked.result c.asked_of-asked.ensures c.take_step.new.times None c.in_default.ensures in
     step_not (turn key t) c.in-Names.is told.0
 
 -- ---- no other part, and the next line
@@ -154,14 +154,11 @@ loop-times-preserved c =
     (sym (rw c.in-Ok-Some.field-0-is at c.in-Ok-Some.ensures)) c.part_of.ensures in
     elim c.match-part_of.branch [
       | in-Claims+else-not-close-2+else-not-is_do w ↦
-          let h = c.loop-times.head in
           let clean = w.no_times-times-in-Claims in
           rw (
             w.struck-is,
             w.times-is,
-            w.loops-is,
-            w.froms-is,
-            w.uptos-is,
+            w.claims-is,
             w.low-is,
             w.gone-is,
             w.head-is,
@@ -176,20 +173,17 @@ loop-times-preserved c =
                 w.close-in-Claims.result w.close-in-Claims.ensures.value w.if-not-close-2.false w.with_known-known.result
                 w.with_low-low.result.words w.empty-gone-in-Claims.result.words w.close-in-Claims.new.struck clean.result
                 (is_loop c.requires.judgeable w.is_do.result w.in-Claims.k.d true w.is_do.ensures w.if-not-is_do.false)
-                (w.close-in-Claims.ensures.closed w.if-not-close-2.false) v.long.loops_long v.long.froms_long
-                v.long.uptos_long w.with_known-known.ensures w.with_low-low.ensures
+                (w.close-in-Claims.ensures.closed w.if-not-close-2.false) v.long.claims_long w.with_known-known.ensures w.with_low-low.ensures
                 (count_begun (nest_in c.args.nest) key (length c.args.points.now - 1) clean.result
                 w.empty-gone-in-Claims.result.words clean.ensures.by_index w.empty-gone-in-Claims.ensures);
-            long = long_closed v.long c.loop-times.known h.d h.a h.b w.close-in-Claims.new.struck clean.result
+            long = long_closed v.long c.loop-times.known c.loop-times.head w.close-in-Claims.new.struck clean.result
                 w.close-in-Claims.auto.struck clean.ensures.result_len;
           })
       | in-By w ↦
           rw (
             w.struck-is,
             w.times-is,
-            w.loops-is,
-            w.froms-is,
-            w.uptos-is,
+            w.claims-is,
             w.low-is,
             w.gone-is,
             w.head-is,
@@ -198,15 +192,13 @@ loop-times-preserved c =
             w.by-is,
             w.known-is,
           )
-          (record { judges = λ key t. Led-on (turn key t) _ w.in-By.is refl; long = v.long })
+          (record { judges = λ key t. Led-on (turn key t) (suc w.in-By.m) w.in-By.is (omega arith); long = v.long })
       | in-Names+in-Some w ↦
           let taken = w.in-Some.taken in
           rw (
             w.struck-is,
             w.times-is,
-            w.loops-is,
-            w.froms-is,
-            w.uptos-is,
+            w.claims-is,
             w.low-is,
             w.gone-is,
             w.head-is,
@@ -218,7 +210,7 @@ loop-times-preserved c =
           (record {
             judges = λ key t.
                 let told = stepped_as c.requires.judgeable t (turn key t).judges c.open_of-claim.result
-                c.open_of-claim.ensures.value w.in-Names.s w.place_of-i.result w.place_of-i.ensures.1
+                c.open_of-claim.ensures.value w.in-Names.s c.loop-times.by refl c.dependences-deps.ensures.entries
                 w.asked_of-asked.result w.asked_of-asked.ensures w.take_step.new.times (Some taken) w.in-Some.ensures in
                 step_on (turn key t) w.in-Names.is taken.c taken.gone.words w.take_step.new.times told.0 told.1;
             long = long_named v.long w.take_step.new.times w.take_step.auto.times;

@@ -14,13 +14,17 @@ loop-f-init c = walk_begun c.args.text.now
 pub returns-in-Ok-None : goal.returns-in-Ok-None
 returns-in-Ok-None c =
     let l = c.loop-f in
-    let end = walk_end c.args.text.now (progress_in l.sofar) l.at l.line l.invariant (sym (rw c.in-Ok-None.field-0-is at c.in-Ok-None.ensures)) in
+    let end = walk_end c.args.text.now (progress_in l.sofar) l.at l.line l.invariant
+    (sym (rw c.in-Ok-None.field-0-is at c.in-Ok-None.ensures)) in
     record { fault_is = c.ended.ensures.fault_is ∙ end }
 
 pub returns-in-Err : goal.returns-in-Err
 returns-in-Err c =
     let l = c.loop-f in
-    record { fault_is = walk_bad c.args.text.now (progress_in l.sofar) l.at l.line l.invariant c.in-Err.refusal (sym c.in-Err.ensures) }
+    record {
+      fault_is =
+          walk_bad c.args.text.now (progress_in l.sofar) l.at l.line l.invariant c.in-Err.refusal (sym c.in-Err.ensures);
+    }
 
 pub returns-in-Err-part_fault : goal.returns-in-Err-part_fault
 returns-in-Err-part_fault c =

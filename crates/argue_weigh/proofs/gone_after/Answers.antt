@@ -6,5 +6,5 @@ use Rattle.argue_weigh.proofs.gone_after.Goals as goal
 pub returns : goal.returns
 returns c =
     let a = c.args in
-    gone_span a.gone.words a.loops.now a.uptos.now a.ends.now a.by c.min.result
-    c.with_span.result.words c.if-by-eq0.false (c.min.ensures ∙ smaller_min _ _) c.with_span.ensures
+    gone_span a.gone.words a.claims.now a.ends.now c.in-Some.m c.in-Some.is c.min.result c.with_span.result.words
+    (c.min.ensures ∙ smaller_min _ _) c.with_span.ensures

@@ -26,7 +26,8 @@ loop-named-preserved c =
     let all = entries a.times.now a.last (omega (arith, c.requires.0, c.requires.1)) in
     let here = entry a.times.now a.last c.loop-named.named-index (omega (arith, c.loop-named-test.true, all)) in
     most_on (at a.times.now) c.loop-named.named-index c.loop-named.most c.max-most.result c.loop-named.invariant
-    (c.max-most.ensures ∙ ap (max c.loop-named.most) here ∙ larger_max c.loop-named.most (at a.times.now (c.loop-named.named-index + 1)))
+    (c.max-most.ensures ∙ ap (max c.loop-named.most) here ∙
+    larger_max c.loop-named.most (at a.times.now (c.loop-named.named-index + 1)))
 
 pub returns : goal.returns
 returns c =

@@ -21,7 +21,14 @@ pub loop-g-preserved : goal.loop-g-preserved
 loop-g-preserved c =
     let a = c.args in
     let pos : 0 < c.loop-g.g - 1 = omega (arith, c.loop-g-test.true) in
-    let fits : c.loop-g.g - 1 < length c.loop-g.times = omega (arith, c.loop-g.auto.g, c.loop-g.auto.times, c.requires.naming_room.small, c.requires.naming_room.times_long) in
+    let fits : c.loop-g.g - 1 < length c.loop-g.times =
+    omega (
+      arith,
+      c.loop-g.auto.g,
+      c.loop-g.auto.times,
+      c.requires.naming_room.small,
+      c.requires.naming_room.times_long,
+    ) in
     name_on c.loop-g.invariant pos c.from.result
     (fine_by a.set.words a.d a.e (c.loop-g.g - 1) a.owners.now c.left_at-left.result a.gone.words a.struck.now
     c.lies_at.result true c.left_at-left.ensures c.lies_at.ensures c.if-not-lies_at.false)

@@ -6,4 +6,5 @@ use Rattle.argue_weigh.proofs.strike.Given as goal
 
 abbrev pub invariant-loop-g : goal.invariant-loop-g
 invariant-loop-g l =
-    Striking (excludes_at l.a l.b l.exact l.most l.owners l.times l.d) l.d l.e l.initial.struck (l.g - 1) l.struck
+    let o = l.claim in
+    Striking (excludes_at o.a o.b l.exact l.most l.owners l.times o.d) o.d o.e l.initial.struck (l.g - 1) l.struck

@@ -7,5 +7,5 @@ use Rattle.argue_weigh.proofs.with_led.Goals as goal
 pub returns : goal.returns
 returns c =
     let a = c.args in
-    led_span a.gone.words a.loops.now a.froms.now a.ends.now a.by c.max.result
-    c.with_span.result.words c.if-by-eq0.false (c.max.ensures ∙ larger_max _ _) c.with_span.ensures
+    led_span a.gone.words a.claims.now a.ends.now c.in-Some.m c.in-Some.is c.max.result c.with_span.result.words
+    (c.max.ensures ∙ larger_max _ _) c.with_span.ensures
