@@ -1,11 +1,17 @@
 -- What the call says of a sheet, and what its parts say.
--- Main definitions: `ends_of`, `time_at`, `longest_from`, `barriers_to`, `Timed`, `pass_time`, `PassRoom`.
+-- Main definitions: `sheet_in`, `ends_of`, `IsShort`, `time_at`, `longest_from`, `barriers_to`, `Timed`, `pass_time`,
+-- `PassRoom`.
 use Rattle.std.specs.Prelude.{◌≡◌, List, ℕ, zero, suc, ◌+◌, ◌*◌, ◌≤◌, ◌<◌, eqb, length, get_or}
 use Rattle.laws.specs.Choice.{when}
 use Rattle.laws.specs.Bits.{bit}
 use Rattle.call_sheet.specs.declared.RunEnds as DE
-use Rattle.call_sheet.specs.Sheets.{PROCESSORS, PHASES, Sheet, anyone, latest, end_waiting, end_barriers}
+use Rattle.call_sheet.specs.declared.Sheet as DS
+use Rattle.call_sheet.specs.Sheets.{PROCESSORS, PHASES, Sheet, sheet, anyone, latest, end_waiting, end_barriers}
 use Rattle.call_sheet.specs.Sheets.{sheet_fault}
+
+-- the sheet that the code holds
+abbrev pub sheet_in : DS.Sheet → Sheet
+sheet_in s = sheet s.processors s.phases s.durations.now s.waits.now
 
 -- the end of the run in both cases; a sheet at fault gets its number and zeros
 abbrev pub ends_of : Sheet → DE.RunEnds
@@ -20,6 +26,10 @@ ends_of s =
 -- the longest duration
 abbrev pub LONGEST : ℕ
 LONGEST = 65535
+
+-- durations that are no longer than they may be
+abbrev pub IsShort : List ℕ → Type 0
+IsShort row = (p : ℕ) → get_or row p 0 ≤ LONGEST
 
 -- the times of a phase as a list
 abbrev pub time_at : List ℕ → ℕ → ℕ
@@ -39,16 +49,14 @@ pub record Timed (time : ℕ → ℕ) (now after : List ℕ) (p : ℕ) : Type 0 
   pub same_length : length after ≡ length now
   pub times_are : (i : ℕ) → i < p → time_at after i ≡ time i
 
--- of m processors the i-th's time after a phase
-abbrev pub pass_time : ℕ → List ℕ → ℕ → List ℕ → ℕ → List ℕ → ℕ → ℕ
-pass_time m ds from ws asked earlier i =
-    latest (bit (get_or ws (asked + i) 0)) (time_at earlier) m + get_or ds (from + i) 0
+-- the i-th processor's time after a phase with these durations and sets
+abbrev pub pass_time : List ℕ → List ℕ → List ℕ → ℕ → ℕ
+pass_time row sets earlier i =
+    latest (bit (get_or sets i 0)) (time_at earlier) (length earlier) + get_or row i 0
 
--- lists long enough for a phase of m processors, and times that leave room for a duration
-pub record PassRoom (m : ℕ) (ds : List ℕ) (from : ℕ) (ws : List ℕ) (asked : ℕ) (earlier now : List ℕ) : Type 0 where
-  pub few : m ≤ PROCESSORS
-  pub durations_there : from + m ≤ length ds
-  pub waits_there : asked + m ≤ length ws
-  pub earlier_there : m ≤ length earlier
-  pub now_there : m ≤ length now
-  pub low : (p : ℕ) → p < m → time_at earlier p ≤ PHASES * LONGEST
+-- lists long enough for a phase, and times that leave room for a duration
+pub record PassRoom (row sets earlier now : List ℕ) : Type 0 where
+  pub few : length earlier ≤ PROCESSORS
+  pub sets_there : length row ≤ length sets
+  pub now_there : length row ≤ length now
+  pub low : (p : ℕ) → p < length earlier → time_at earlier p ≤ PHASES * LONGEST

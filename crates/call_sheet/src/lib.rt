@@ -1,13 +1,13 @@
 // Timing sheets: when a run ends, with the waits of a sheet and with all barriers kept.
 #![tactic(auto)]
 
-ghost use Rattle.std.specs.Prelude.{◌≡◌, true, ◌+◌, ◌*◌, ◌<◌, ◌≤◌, max, length};
-ghost use Rattle.laws.specs.Choice.{when};
+ghost use Rattle.std.specs.Prelude.{◌≡◌, true, ◌<◌, ◌≤◌, length};
 ghost use Rattle.laws.specs.Bits.{bit};
 ghost use Rattle.paper_refusals.specs.Numbers.{number_of};
-ghost use Rattle.call_sheet.specs.Sheets.{PROCESSORS, PHASES, sheet, latest, end_waiting};
+ghost use Rattle.call_sheet.specs.Sheets.{PROCESSORS, PHASES, sheet, anyone, latest, end_waiting};
 ghost use Rattle.call_sheet.specs.Sheets.{is_sized, is_set, next_of, are_sets};
-ghost use Rattle.call_sheet.specs.Says.{ends_of, LONGEST, time_at, longest_from, barriers_to, Timed, pass_time, PassRoom};
+ghost use Rattle.call_sheet.specs.Says.{sheet_in, ends_of, LONGEST, IsShort, time_at, barriers_to};
+ghost use Rattle.call_sheet.specs.Says.{Timed, pass_time, PassRoom};
 
 use paper_refusals::Refusal;
 
@@ -30,12 +30,28 @@ pub struct RunEnds {
     pub barriers: u32,
 }
 
+// A sheet as it is handed in. Both slices run phase by phase, processors rising in each; the waits begin with the
+// second phase.
+#[derive(Clone, Copy)]
+struct Sheet<'a> {
+    processors: usize,
+    phases: usize,
+    durations: &'a [u16],
+    waits: &'a [u16],
+}
+
 // When the run of a sheet ends. Both slices run phase by phase, processors rising in each; the waits begin with the
 // second phase.
 pub fn ends(processors: usize, phases: usize, durations: &[u16], waits: &[u16]) -> RunEnds
     ensures { result ≡ ends_of (sheet processors phases durations.now waits.now) }
 {
-    if !is_sized(processors, phases, durations, waits) {
+    let sheet = Sheet {
+        processors,
+        phases,
+        durations,
+        waits,
+    };
+    if !is_sized(&sheet) {
         return refused(Refusal::WrongSize);
     }
     if !are_sets(processors, waits) {
@@ -44,8 +60,8 @@ pub fn ends(processors: usize, phases: usize, durations: &[u16], waits: &[u16]) 
     RunEnds {
         number: 0,
         line: 0,
-        waiting: end_waiting(processors, phases, durations, waits),
-        barriers: end_barriers(processors, phases, durations),
+        waiting: end_waiting(&sheet),
+        barriers: end_barriers(&sheet),
     }
 }
 
@@ -62,13 +78,13 @@ fn refused(refusal: Refusal) -> RunEnds
 }
 
 // The counts are in their ranges and the slices as long as they say.
-fn is_sized(processors: usize, phases: usize, durations: &[u16], waits: &[u16]) -> bool
-    ensures { result ≡ is_sized (sheet processors phases durations.now waits.now) }
+fn is_sized(sheet: &Sheet) -> bool
+    ensures { result ≡ is_sized (sheet_in sheet.now) }
 {
-    (1..=PROCESSORS).contains(&processors)
-        && (1..=PHASES).contains(&phases)
-        && durations.len() == phases * processors
-        && waits.len() == (phases - 1) * processors
+    (1..=PROCESSORS).contains(&sheet.processors)
+        && (1..=PHASES).contains(&sheet.phases)
+        && sheet.durations.len() == sheet.phases * sheet.processors
+        && sheet.waits.len() == (sheet.phases - 1) * sheet.processors
 }
 
 // Every set has its own processor and none that does not exist.
@@ -112,98 +128,80 @@ fn has(set: u16, q: usize) -> bool
     (set >> q) & 1 == 1
 }
 
-// The later of the time so far and that of a processor that is chosen.
-fn later(best: u32, time: u32, chosen: bool) -> u32
-    ensures { result ≡ max best (when chosen time) }
+// When the run ends with the waits of the sheet.
+fn end_waiting(sheet: &Sheet) -> u32
+    requires { is_sized (sheet_in sheet.now) ≡ true }
+    ensures { result ≡ end_waiting (sheet_in sheet.now) }
 {
-    if chosen { best.max(time) } else { best }
+    let m = sheet.processors;
+    let mut earlier = [0; PROCESSORS];
+    let mut times = [0; PROCESSORS];
+    start(&sheet.durations[..m], &mut earlier);
+    for k in 0..sheet.phases - 1 {
+        let sets = &sheet.waits[k * m..][..m];
+        let row = &sheet.durations[(k + 1) * m..][..m];
+        pass(row, sets, &earlier[..m], &mut times);
+        earlier = times;
+    }
+    latest_of(&earlier[..m], ALL)
+}
+
+// The times after the first phase: its durations themselves.
+fn start(row: &[u16], times: &mut [u32])
+    requires { length row.now ≤ length times.old }
+    ensures times { Timed (time_at row.now) times.old times.new (length row.now) }
+    ensures short { IsShort row.now }
+{
+    for (p, &duration) in row.iter().enumerate() {
+        times[p] = duration as u32;
+    }
+}
+
+// The times after one phase more, with its durations and its sets.
+fn pass(row: &[u16], sets: &[u16], earlier: &[u32], times: &mut [u32])
+    requires { PassRoom row.now sets.now earlier.now times.old }
+    ensures times { Timed (pass_time row.now sets.now earlier.now) times.old times.new (length row.now) }
+    ensures short { IsShort row.now }
+{
+    for (p, &duration) in row.iter().enumerate() {
+        times[p] = latest_of(earlier, sets[p]) + duration as u32;
+    }
 }
 
 // The latest of the times of the processors in the set.
-fn latest_of(times: &[u32], set: u16, processors: usize) -> u32
-    requires processors_in_bounds { processors ≤ length times.now }
-    requires processors_bound { processors ≤ PROCESSORS }
-    ensures { result ≡ latest (bit set) (time_at times.now) processors }
+fn latest_of(times: &[u32], set: u16) -> u32
+    requires { length times.now ≤ PROCESSORS }
+    ensures { result ≡ latest (bit set) (time_at times.now) (length times.now) }
 {
     let mut best = 0;
-    for q in 0..processors {
-        best = later(best, times[q], has(set, q));
+    for (q, &time) in times.iter().enumerate() {
+        if has(set, q) {
+            best = best.max(time);
+        }
     }
     best
 }
 
-// The times after the first phase: the durations themselves.
-fn start(processors: usize, durations: &[u16], times: &mut [u32])
-    requires processors_in_bounds { processors ≤ length durations.now }
-    requires processors_in_bounds_2 { processors ≤ length times.old }
-    ensures { Timed (time_at durations.now) times.old times.new processors }
-{
-    for p in 0..processors {
-        times[p] = durations[p] as u32;
-    }
-}
-
-// The times after one phase more. Its durations begin at `from` and its sets at `asked`.
-fn pass(
-    processors: usize,
-    durations: &[u16],
-    from: usize,
-    waits: &[u16],
-    asked: usize,
-    earlier: &[u32],
-    times: &mut [u32],
-)
-    requires { PassRoom processors durations.now from waits.now asked earlier.now times.old }
-    ensures { Timed (pass_time processors durations.now from waits.now asked
-        earlier.now) times.old times.new processors }
-{
-    for p in 0..processors {
-        let last = latest_of(earlier, waits[asked + p], processors);
-        times[p] = last + durations[from + p] as u32;
-    }
-}
-
-// When the run ends with the waits of the sheet.
-fn end_waiting(processors: usize, phases: usize, durations: &[u16], waits: &[u16]) -> u32
-    requires { is_sized (sheet processors phases durations.now waits.now) ≡ true }
-    ensures { result ≡ end_waiting (sheet processors phases durations.now waits.now) }
-{
-    let mut earlier = [0; PROCESSORS];
-    let mut times = [0; PROCESSORS];
-    start(processors, durations, &mut earlier);
-    for k in 0..phases - 1 {
-        let asked = k * processors;
-        let from = asked + processors;
-        pass(
-            processors, durations, from, waits, asked, &earlier, &mut times,
-        );
-        earlier = times;
-    }
-    latest_of(&earlier, ALL, processors)
-}
-
 // When the run ends with all barriers kept: the longest durations of the phases one after the other.
-fn end_barriers(processors: usize, phases: usize, durations: &[u16]) -> u32
-    requires phases_bound { phases ≤ PHASES }
-    requires durations_len { length durations.now ≡ phases * processors }
-    ensures { result ≡ barriers_to processors durations.now phases }
+fn end_barriers(sheet: &Sheet) -> u32
+    requires { is_sized (sheet_in sheet.now) ≡ true }
+    ensures { result ≡ barriers_to sheet.now.processors sheet.now.durations.now sheet.now.phases }
 {
     let mut end = 0;
-    for k in 0..phases {
-        end += longest(processors, durations, k * processors);
+    for row in sheet.durations.chunks_exact(sheet.processors) {
+        end += longest(row);
     }
     end
 }
 
-// The longest of the durations of a phase, which begin at `from`.
-fn longest(processors: usize, durations: &[u16], from: usize) -> u32
-    requires { from + processors ≤ length durations.now }
-    ensures value { result ≡ longest_from durations.now from processors }
+// The longest of the durations of a phase.
+fn longest(row: &[u16]) -> u32
+    ensures value { result ≡ latest anyone (time_at row.now) (length row.now) }
     ensures upper_bound { result ≤ LONGEST }
 {
     let mut best = 0;
-    for p in 0..processors {
-        best = best.max(durations[from + p] as u32);
+    for &duration in row {
+        best = best.max(duration as u32);
     }
     best
 }

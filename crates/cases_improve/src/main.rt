@@ -83,7 +83,9 @@ fn worked() -> Desk
     planned(b"01\n03\n01\n03\n03\n03\n02\n03\n02\n110104\n110307\n")
 }
 
-// The call gives the gaps of this word, their calls, the tries, what ended them, and the floor.
+// The call gives the gaps of this word, their calls, the tries, what ended them, and the floor. Numbers and what ended
+// the tries stand here as bytes: the C interface (desk.h) lays the reply out with them, and document 01 writes the
+// numbers.
 fn improves(
     desk: Desk,
     turns: &[u8],

@@ -153,6 +153,7 @@ fn joins(a: &[u8], b: &[u8], text: &[u8]) -> bool {
 }
 
 // The texts are refused with this number, text and line, and the buffer is left.
+// Numbers stand here as bytes: the C interface (desk.h) lays the reply out with them, and document 01 writes them.
 fn refuses(a: &[u8], b: &[u8], number: u8, text: u8, line: usize) -> bool {
     let mut out = [7; 64];
     let joined = join(a, b, &mut out);

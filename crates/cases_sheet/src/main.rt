@@ -87,6 +87,7 @@ fn ends_at(
 }
 
 // The sheet gets the number, with zeros.
+// Numbers stand here as bytes: the C interface (desk.h) lays the reply out with them, and document 01 writes them.
 fn is_refused(
     processors: usize,
     phases: usize,

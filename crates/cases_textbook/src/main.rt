@@ -53,6 +53,7 @@ fn loaded(text: &[u8]) -> Desk
 }
 
 // The call replies this number, and the gaps of this word.
+// Numbers stand here as bytes: the C interface (desk.h) lays the reply out with them, and document 01 writes them.
 fn chooses(desk: Desk, number: u8, gaps: u64) -> bool
     requires { IsMade desk }
 {

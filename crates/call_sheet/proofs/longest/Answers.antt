@@ -1,23 +1,19 @@
-use mathlib.Core.Path.{◌≡◌, refl, ◌∙◌}
-use mathlib.Core.Bool.{true}
-use Prim.Native.Nat.{◌+◌, max}
+use mathlib.Core.Path.{refl}
 use native.Mathlib.Omega.{arith}
-use lib.ListN.{get_or}
 use Rattle.std.proofs.lemmas.Bool.Decides.{nat_tests}
 use Rattle.call_sheet.specs.Sheets.{anyone, latest}
-use Rattle.call_sheet.proofs.Passing.{latest_more}
+use Rattle.call_sheet.specs.Says.{time_at}
+use Rattle.call_sheet.proofs.Passing.{latest_with}
 use Rattle.call_sheet.proofs.longest.Goals as goal
 
-pub loop-p-init : goal.loop-p-init
+pub loop-duration-init : goal.loop-duration-init
 unfolding latest
-loop-p-init c = (refl, omega arith)
+loop-duration-init c = (refl, omega arith)
 
-pub loop-p-preserved : goal.loop-p-preserved
-loop-p-preserved c =
-    let i = c.args in
-    let v = get_or i.durations.now (i.from + c.loop-p.p) 0 in
-    let later : c.max-best.result ≡ max c.loop-p.best v = c.max-best.ensures ∙ grind (arith, nat_tests) in (
-      latest_more anyone (λ q. get_or i.durations.now (i.from + q) 0) c.loop-p.p c.loop-p.best c.max-best.result true
-          c.loop-p.invariant.0 refl later,
-      omega (arith, later, c.type_inv.durations (i.from + c.loop-p.p)),
+pub loop-duration-preserved : goal.loop-duration-preserved
+loop-duration-preserved c =
+    let p = c.loop-duration.duration-index in (
+      latest_with anyone (time_at c.args.row.now) p c.loop-duration.best c.max-best.result refl
+          c.loop-duration.invariant.0 c.max-best.ensures,
+      grind (arith, nat_tests, c.max-best.ensures, c.type_inv.row p),
     )

@@ -1,8 +1,9 @@
--- `longest` meets its contract. The invariant: the best so far is the longest of the processors below p.
+-- `longest` meets its contract. The invariant: the best so far is the longest of the durations before.
 use mathlib.Core.Path.{◌≡◌}
 use Prim.Native.Nat.{◌≤◌}
-use Rattle.call_sheet.specs.Says.{LONGEST, longest_from}
+use Rattle.call_sheet.specs.Says.{LONGEST, time_at}
+use Rattle.call_sheet.specs.Sheets.{anyone, latest}
 use Rattle.call_sheet.proofs.longest.Given as goal
 
-abbrev pub invariant-loop-p : goal.invariant-loop-p
-invariant-loop-p l = (l.best ≡ longest_from l.durations l.from l.p) × (l.best ≤ LONGEST)
+abbrev pub invariant-loop-duration : goal.invariant-loop-duration
+invariant-loop-duration l = (l.best ≡ latest anyone (time_at l.row) l.duration-index) × (l.best ≤ LONGEST)

@@ -3,4 +3,4 @@ use Rattle.call_sheet.specs.Says.{time_at, Timed}
 use Rattle.call_sheet.proofs.start.Given as goal
 
 abbrev pub invariant-loop-p : goal.invariant-loop-p
-invariant-loop-p l = Timed (time_at l.durations) l.initial.times l.times l.p
+invariant-loop-p l = Timed (time_at l.row) l.initial.times l.times l.p
