@@ -1,5 +1,5 @@
 -- The numbers that joining works out first: how deep points go, the length of the text of dependences.
--- Main definitions: `Deepest`, `Summed`, what a turn keeps. Main statements: `deepest_on`; `taken_deps`, `next_dep`;
+-- Main definitions: `Deepest`, `Summed`, what a turn keeps. Main statements: `deepest_on`; `lent_deps`, `next_dep`;
 -- `summed_on`, `summed_within`, `summed_done`; `deps_short`.
 use mathlib.Core.Path.{◌≡◌, ◌∙◌}
 use mathlib.Core.List.{List, [], ◌∷◌}
@@ -49,19 +49,19 @@ module _ {ps : List ℕ} {most depth i : ℕ} (p : Deepest ps most depth i) wher
         is = omega (arith, p.is, p.covers, start_deepest d (drop (i + 1) ps));
       }
 
--- ---- the dependences of a counted nest, as the first ones of its array
+-- ---- the dependences of a counted nest, as it lends them
 
-pub taken_deps : (n : DN.Nest) → IsCounted n → length (take n.many n.deps) ≡ length (nest_in n).deps
-taken_deps n p = length-take-le n.many n.deps (counted_many n p) ∙ p.many_is
+module _ (n : DN.Nest) (es : List DE.Dependence) (p : IsCounted n) (lent : es ≡ take n.many n.deps) where
+  pub lent_deps : length es ≡ length (nest_in n).deps
+  lent_deps = rw lent (length-take-le n.many n.deps (counted_many n p) ∙ p.many_is)
 
-pub next_dep
-    : (n : DN.Nest) (z : DE.Dependence) (i : ℕ)
-    → IsCounted n
-    → i < length (take n.many n.deps)
-    → drop i (nest_in n).deps ≡ dep_in (get_or (take n.many n.deps) i z) ∷ drop (suc i) (nest_in n).deps
-next_dep n z i p l =
-    let under : i < n.many = omega (arith, length-take-le n.many n.deps (counted_many n p)) in
-    rw (get_or-take n.many n.deps i z under) (deps_in_at n.many n.deps i z under (counted_many n p))
+  pub next_dep
+      : (z : DE.Dependence) (i : ℕ)
+      → i < length es
+      → drop i (nest_in n).deps ≡ dep_in (get_or es i z) ∷ drop (suc i) (nest_in n).deps
+  next_dep z i l =
+      let under : i < n.many = omega (arith, lent_deps, p.many_is) in
+      rw (lent, get_or-take n.many n.deps i z under) (deps_in_at n.many n.deps i z under (counted_many n p))
 
 -- ---- the text of dependences
 

@@ -83,18 +83,17 @@ fn exceeds(n: Nest, m: Nest) -> bool
 {
     Nest::POINTS < n.count + m.count + 2
         || Nest::DEPENDENCES < n.many + m.many
-        || Nest::DEPTH <= deepest(&n.points, n.count)
-        || Nest::DEPTH <= deepest(&m.points, m.count)
+        || Nest::DEPTH <= deepest(n.points())
+        || Nest::DEPTH <= deepest(m.points())
 }
 
-// How deep the first points go.
-fn deepest(all: &[u8], count: usize) -> usize
-    requires { count ≤ length all.now }
-    ensures { result ≡ deepest (take count all.now) }
+// How deep the points go.
+fn deepest(points: &[u8]) -> usize
+    ensures { result ≡ deepest points.now }
 {
     let mut most: usize = 0;
     let mut depth: usize = 0;
-    for &point in &all[..count] {
+    for &point in points {
         depth = deeper(depth, point);
         most = most.max(depth);
     }
@@ -116,7 +115,7 @@ fn deps_length(nest: Nest) -> usize
     ensures { result ≡ length (deps_text (nest_in nest).deps) }
 {
     let mut length: usize = 0;
-    for &e in &nest.deps[..nest.many] {
+    for &e in nest.dependences() {
         length += dep_length(e);
     }
     length
@@ -197,8 +196,9 @@ fn put_points(nest: Nest, out: &mut [u8]) -> usize
 {
     let mut at: usize = 0;
     let mut f: usize = 0;
-    for (i, &point) in nest.points[..nest.count].iter().enumerate() {
-        if is_next(&nest.flagged, nest.flags, f, i) {
+    let flagged = &nest.flagged[..nest.flags];
+    for (i, &point) in nest.points().iter().enumerate() {
+        if is_next(flagged, f, i) {
             at += put_frame(&mut out[at..], &[FLAGGED]);
             f += 1;
         } else {
@@ -209,11 +209,10 @@ fn put_points(nest: Nest, out: &mut [u8]) -> usize
 }
 
 // The point is the flagged one at f.
-fn is_next(flagged: &[u8], flags: usize, f: usize, i: usize) -> bool
-    requires { flags ≤ length flagged.now }
-    ensures { result ≡ is_next i (drop f (take flags flagged.now)) }
+fn is_next(flagged: &[u8], f: usize, i: usize) -> bool
+    ensures { result ≡ is_next i (drop f flagged.now) }
 {
-    f < flags && i == flagged[f] as usize
+    f < flagged.len() && i == flagged[f] as usize
 }
 
 // Writes the dependences, moved along by so many points, a line each, from the start of the lent part; gives the
@@ -225,7 +224,7 @@ fn put_deps(nest: Nest, by: u8, out: &mut [u8]) -> usize
     ensures { Writes (deps_text (moved_deps by (nest_in nest).deps)) out.old out.new result }
 {
     let mut at: usize = 0;
-    for &e in &nest.deps[..nest.many] {
+    for &e in nest.dependences() {
         at += put_dep(moved(e, by), &mut out[at..]);
     }
     at

@@ -1,24 +1,26 @@
 use Prim.Native.Nat.{◌+◌}
 use native.Mathlib.Omega.{arith}
 use Rattle.paper_nests.specs.Stored.{nest_in}
-use Rattle.call_join.proofs.Measuring.{taken_deps, next_dep, Summed, summed_within, summed_on, summed_done}
+use Rattle.call_join.proofs.Measuring.{lent_deps, next_dep, Summed, summed_within, summed_on, summed_done}
 use Rattle.call_join.proofs.deps_length.Goals as goal
 
-pub overflow_add-length : goal.overflow_add-length
-overflow_add-length c =
+-- with the line of this turn
+added : (c : goal.After-dep_length-length) →
+    Summed (nest_in c.args.nest).deps (c.loop-e.length + c.dep_length-length.result) (c.loop-e.e-index + 1)
+added c =
     let n = c.args.nest in
-    let p = c.requires in
-    let added : Summed (nest_in n).deps (c.loop-e.length + c.dep_length-length.result) (c.loop-e.e-index + 1) =
-    summed_on c.loop-e.invariant (omega (arith, taken_deps n p)) (next_dep n _ c.loop-e.e-index p c.loop-e-test.true)
-    c.dep_length-length.ensures in
-    omega (arith, summed_within added, p.many_is, p.many_fits)
-
-pub loop-e-preserved : goal.loop-e-preserved
-loop-e-preserved c =
-    let n = c.args.nest in
-    let p = c.requires in
-    summed_on c.loop-e.invariant (omega (arith, taken_deps n p)) (next_dep n _ c.loop-e.e-index p c.loop-e-test.true)
+    let es = c.dependences-e-items in
+    summed_on c.loop-e.invariant (omega (arith, lent_deps n es.result.now c.requires es.ensures.entries))
+    (next_dep n es.result.now c.requires es.ensures.entries _ c.loop-e.e-index c.loop-e-test.true)
     c.dep_length-length.ensures
 
+pub overflow_add-length : goal.overflow_add-length
+overflow_add-length c = omega (arith, summed_within (added c), c.requires.many_is, c.requires.many_fits)
+
+pub loop-e-preserved : goal.loop-e-preserved
+loop-e-preserved c = added c
+
 pub returns : goal.returns
-returns c = summed_done c.loop-e.invariant (omega (arith, taken_deps c.args.nest c.requires))
+returns c =
+    let es = c.dependences-e-items in
+    summed_done c.loop-e.invariant (omega (arith, lent_deps c.args.nest es.result.now c.requires es.ensures.entries))

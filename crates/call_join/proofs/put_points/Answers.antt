@@ -12,7 +12,8 @@ put_frame-at-requires c =
     let n = nest_in c.args.nest in
     let p = c.loop-i.invariant in
     let fits = c.requires.nest_in_bounds in
-    let next = flagged_next n.points n.flagged c.loop-i.f c.loop-i.i c.loop-i-test.true
+    let next = flagged_next n.points n.flagged c.loop-i.f c.loop-i.i
+    (rw c.points-point-items.ensures at c.loop-i-test.true)
     (sym c.is_next.ensures ∙ c.if-is_next.true) in
     simp (length-take, length-drop) (omega (arith, piece_room p fits next, piece_length p fits, piece_within p fits))
 
@@ -21,7 +22,8 @@ put_frame-at-requires-else-is_next c =
     let n = nest_in c.args.nest in
     let p = c.loop-i.invariant in
     let fits = c.requires.nest_in_bounds in
-    let next = plain_next n.points n.flagged c.loop-i.f c.loop-i.i c.loop-i-test.true
+    let next = plain_next n.points n.flagged c.loop-i.f c.loop-i.i
+    (rw c.points-point-items.ensures at c.loop-i-test.true)
     (sym c.is_next.ensures ∙ c.if-is_next.false) in
     simp (length-take, length-drop) (omega (arith, piece_room p fits next, piece_length p fits, piece_within p fits))
 
@@ -34,19 +36,22 @@ loop-i-preserved c =
       | then-is_next w ↦
           rw (w.out-is, w.at-is, w.f-is)
           (piece_on p fits
-          (flagged_next n.points n.flagged c.loop-i.f c.loop-i.i c.loop-i-test.true
+          (flagged_next n.points n.flagged c.loop-i.f c.loop-i.i
+          (rw c.points-point-items.ensures at c.loop-i-test.true)
           (sym c.is_next.ensures ∙ w.if-is_next.true))
           w.put_frame-at.ensures.value w.put_frame-at.ensures.out_after)
       | else-is_next w ↦
           rw (w.out-is, w.at-is, w.f-is)
           (piece_on p fits
-          (plain_next n.points n.flagged c.loop-i.f c.loop-i.i c.loop-i-test.true
+          (plain_next n.points n.flagged c.loop-i.f c.loop-i.i
+          (rw c.points-point-items.ensures at c.loop-i-test.true)
           (sym c.is_next.ensures ∙ w.if-is_next.false))
-          w.put_frame-at-else-is_next.ensures.value w.put_frame-at-else-is_next.ensures.out_after)
+          w.put_frame-at-else-is_next.ensures.value
+          (rw c.points-point-items.ensures at w.put_frame-at-else-is_next.ensures.out_after))
     ]
 
 pub returns : goal.returns
 returns c =
     let n = nest_in c.args.nest in
     piece_done c.loop-i.invariant c.requires.nest_in_bounds
-    (points_out n.points _ c.loop-i.i c.loop-i-test.false)
+    (points_out n.points _ c.loop-i.i (rw c.points-point-items.ensures at c.loop-i-test.false))
