@@ -1,7 +1,7 @@
 // Two papers into one: two nest texts read, and the text of the joint nest written.
 #![tactic(auto)]
 
-ghost use Rattle.std.specs.Prelude.{◌≡◌, false, ◌≤◌, length, take, drop};
+ghost use Rattle.std.specs.Prelude.{◌≡◌, false, ◌≤◌, length, drop};
 ghost use Rattle.paper_refusals.specs.Numbers.{number_of};
 ghost use Rattle.paper_nests.specs.Stored.{dep_in, nest_in, IsCounted};
 ghost use Rattle.paper_lines.specs.Lines.{line_text};
@@ -28,6 +28,16 @@ pub struct Joined {
     pub value: usize,
 }
 
+// Two papers that may be joined: each is accepted and bars no gap.
+#[derive(Clone, Copy)]
+struct Both<'a> {
+    n: &'a Nest,
+    m: &'a Nest,
+    ghost first_counted: { IsCounted n.now },
+    ghost second_counted: { IsCounted m.now },
+    ghost papers: { Papers (nest_in n.now) (nest_in m.now) },
+}
+
 // Joins two nest texts: writes the text of a new outer loop round the first nest, then the second. Numbers 1 to 8 and
 // 14 of the first text, then of the second, each with its line; 14 of the first text that bars a gap, with line 0; 18,
 // then 9.
@@ -48,17 +58,18 @@ pub fn join(a: &[u8], b: &[u8], out: &mut [u8]) -> Joined
     if m.bars != 0 {
         return refused(Fault::from(Refusal::NotOneLoop), 2);
     }
-    if exceeds(n, m) {
+    let both = Both { n: &n, m: &m };
+    if exceeds(&both) {
         return refused(Fault::from(Refusal::TooLarge), 0);
     }
-    if out.len() < text_length(n, m) {
+    if out.len() < text_length(&both) {
         return refused(Fault::from(Refusal::ShortBuffer), 0);
     }
     Joined {
         number: 0,
         text: 0,
         line: 0,
-        value: write_joined(n, m, out),
+        value: write_joined(&both, out),
     }
 }
 
@@ -75,16 +86,13 @@ fn refused(fault: Fault, text: u8) -> Joined
 }
 
 // The joint nest would exceed a limit.
-fn exceeds(n: Nest, m: Nest) -> bool
-    requires counted { IsCounted n }
-    requires counted_2 { IsCounted m }
-    requires papers { Papers (nest_in n) (nest_in m) }
-    ensures { result ≡ exceeds (nest_in n) (nest_in m) }
+fn exceeds(both: &Both) -> bool
+    ensures { result ≡ exceeds (nest_in both.now.n.now) (nest_in both.now.m.now) }
 {
-    Nest::POINTS < n.count + m.count + 2
-        || Nest::DEPENDENCES < n.many + m.many
-        || Nest::DEPTH <= deepest(n.points())
-        || Nest::DEPTH <= deepest(m.points())
+    Nest::POINTS < both.n.count + both.m.count + 2
+        || Nest::DEPENDENCES < both.n.many + both.m.many
+        || Nest::DEPTH <= deepest(both.n.points())
+        || Nest::DEPTH <= deepest(both.m.points())
 }
 
 // How deep the points go.
@@ -101,18 +109,16 @@ fn deepest(points: &[u8]) -> usize
 }
 
 // The length of the joint text.
-fn text_length(n: Nest, m: Nest) -> usize
-    requires counted { IsCounted n }
-    requires counted_2 { IsCounted m }
-    ensures { result ≡ length (nest_text (joint_in n m)) }
+fn text_length(both: &Both) -> usize
+    ensures { result ≡ length (nest_text (joint_in both.now.n.now both.now.m.now)) }
 {
-    3 * (n.count + m.count + 2) + deps_length(n) + deps_length(m)
+    3 * (both.n.count + both.m.count + 2) + deps_length(both.n) + deps_length(both.m)
 }
 
 // The length of the text of the dependences.
-fn deps_length(nest: Nest) -> usize
-    requires { IsCounted nest }
-    ensures { result ≡ length (deps_text (nest_in nest).deps) }
+fn deps_length(nest: &Nest) -> usize
+    requires { IsCounted nest.now }
+    ensures { result ≡ length (deps_text (nest_in nest.now).deps) }
 {
     let mut length: usize = 0;
     for &e in nest.dependences() {
@@ -129,46 +135,38 @@ fn dep_length(e: Dependence) -> usize
 }
 
 // Writes the joint text from the start of a buffer that has room for it; gives its length.
-fn write_joined(n: Nest, m: Nest, out: &mut [u8]) -> usize
-    requires counted { IsCounted n }
-    requires counted_2 { IsCounted m }
-    requires papers { Papers (nest_in n) (nest_in m) }
-    requires m_value { exceeds (nest_in n) (nest_in m) ≡ false }
-    requires m_in_bounds { length (nest_text (joint_in n m)) ≤ length out.old }
-    ensures { Writes (nest_text (joint_in n m)) out.old out.new result }
+fn write_joined(both: &Both, out: &mut [u8]) -> usize
+    requires fits { exceeds (nest_in both.now.n.now) (nest_in both.now.m.now) ≡ false }
+    requires room { length (nest_text (joint_in both.now.n.now both.now.m.now)) ≤ length out.old }
+    ensures { Writes (nest_text (joint_in both.now.n.now both.now.m.now)) out.old out.new result }
 {
-    let at = put_all_points(n, m, out);
-    at + put_all_deps(n, m, &mut out[at..])
+    let at = put_all_points(both, out);
+    at + put_all_deps(both, &mut out[at..])
 }
 
 // Writes the points of the joint nest, a line each, from the start of the lent part; gives the length.
-fn put_all_points(n: Nest, m: Nest, out: &mut [u8]) -> usize
-    requires counted { IsCounted n }
-    requires counted_2 { IsCounted m }
-    requires papers { Papers (nest_in n) (nest_in m) }
-    requires m_in_bounds { length (points_text (joint_in n m)) ≤ length out.old }
-    ensures { Writes (points_text (joint_in n m)) out.old out.new result }
+fn put_all_points(both: &Both, out: &mut [u8]) -> usize
+    requires { length (points_text (joint_in both.now.n.now both.now.m.now)) ≤ length out.old }
+    ensures { Writes (points_text (joint_in both.now.n.now both.now.m.now)) out.old out.new result }
 {
     let at = put_frame(out, &[DO]);
-    at + put_inside(n, m, &mut out[at..])
+    at + put_inside(both, &mut out[at..])
 }
 
 // Writes the points of both nests and the ENDDO of the loop around them.
-fn put_inside(n: Nest, m: Nest, out: &mut [u8]) -> usize
-    requires counted { IsCounted n }
-    requires counted_2 { IsCounted m }
-    requires m_in_bounds { length (inside_text (nest_in n) (nest_in m)) ≤ length out.old }
-    ensures { Writes (inside_text (nest_in n) (nest_in m)) out.old out.new result }
+fn put_inside(both: &Both, out: &mut [u8]) -> usize
+    requires { length (inside_text (nest_in both.now.n.now) (nest_in both.now.m.now)) ≤ length out.old }
+    ensures { Writes (inside_text (nest_in both.now.n.now) (nest_in both.now.m.now)) out.old out.new result }
 {
-    let at = put_points(n, out);
-    at + put_second(m, &mut out[at..])
+    let at = put_points(both.n, out);
+    at + put_second(both.m, &mut out[at..])
 }
 
 // Writes the points of the second nest and the ENDDO after them.
-fn put_second(m: Nest, out: &mut [u8]) -> usize
-    requires counted { IsCounted m }
-    requires m_in_bounds { length (second_text (nest_in m)) ≤ length out.old }
-    ensures { Writes (second_text (nest_in m)) out.old out.new result }
+fn put_second(m: &Nest, out: &mut [u8]) -> usize
+    requires counted { IsCounted m.now }
+    requires room { length (second_text (nest_in m.now)) ≤ length out.old }
+    ensures { Writes (second_text (nest_in m.now)) out.old out.new result }
 {
     let at = put_points(m, out);
     at + put_frame(&mut out[at..], &[ENDDO])
@@ -176,23 +174,20 @@ fn put_second(m: Nest, out: &mut [u8]) -> usize
 
 // Writes the dependences of the joint nest, the first paper's before the second's, a line each, from the start of the
 // lent part; gives the length.
-fn put_all_deps(n: Nest, m: Nest, out: &mut [u8]) -> usize
-    requires counted { IsCounted n }
-    requires counted_2 { IsCounted m }
-    requires papers { Papers (nest_in n) (nest_in m) }
-    requires m_value { exceeds (nest_in n) (nest_in m) ≡ false }
-    requires m_in_bounds { length (deps_text (joint_in n m).deps) ≤ length out.old }
-    ensures { Writes (deps_text (joint_in n m).deps) out.old out.new result }
+fn put_all_deps(both: &Both, out: &mut [u8]) -> usize
+    requires fits { exceeds (nest_in both.now.n.now) (nest_in both.now.m.now) ≡ false }
+    requires room { length (deps_text (joint_in both.now.n.now both.now.m.now).deps) ≤ length out.old }
+    ensures { Writes (deps_text (joint_in both.now.n.now both.now.m.now).deps) out.old out.new result }
 {
-    let at = put_deps(n, 1, out);
-    at + put_deps(m, (n.count + 1) as u8, &mut out[at..])
+    let at = put_deps(both.n, 1, out);
+    at + put_deps(both.m, (both.n.count + 1) as u8, &mut out[at..])
 }
 
 // Writes the points, the flagged ones as such, a line each, from the start of the lent part; gives the length.
-fn put_points(nest: Nest, out: &mut [u8]) -> usize
-    requires counted { IsCounted nest }
-    requires nest_in_bounds { length (points_text (nest_in nest)) ≤ length out.old }
-    ensures { Writes (points_text (nest_in nest)) out.old out.new result }
+fn put_points(nest: &Nest, out: &mut [u8]) -> usize
+    requires counted { IsCounted nest.now }
+    requires room { length (points_text (nest_in nest.now)) ≤ length out.old }
+    ensures { Writes (points_text (nest_in nest.now)) out.old out.new result }
 {
     let mut at: usize = 0;
     let mut f: usize = 0;
@@ -217,11 +212,11 @@ fn is_next(flagged: &[u8], f: usize, i: usize) -> bool
 
 // Writes the dependences, moved along by so many points, a line each, from the start of the lent part; gives the
 // length.
-fn put_deps(nest: Nest, by: u8, out: &mut [u8]) -> usize
-    requires counted { IsCounted nest }
-    requires stay_bytes { StayBytes by (nest_in nest).deps }
-    requires nest_in_bounds { length (deps_text (moved_deps by (nest_in nest).deps)) ≤ length out.old }
-    ensures { Writes (deps_text (moved_deps by (nest_in nest).deps)) out.old out.new result }
+fn put_deps(nest: &Nest, by: u8, out: &mut [u8]) -> usize
+    requires counted { IsCounted nest.now }
+    requires stay_bytes { StayBytes by (nest_in nest.now).deps }
+    requires room { length (deps_text (moved_deps by (nest_in nest.now).deps)) ≤ length out.old }
+    ensures { Writes (deps_text (moved_deps by (nest_in nest.now).deps)) out.old out.new result }
 {
     let mut at: usize = 0;
     for &e in nest.dependences() {

@@ -6,9 +6,9 @@ use Rattle.call_join.proofs.deps_length.Goals as goal
 
 -- with the line of this turn
 added : (c : goal.After-dep_length-length) →
-    Summed (nest_in c.args.nest).deps (c.loop-e.length + c.dep_length-length.result) (c.loop-e.e-index + 1)
+    Summed (nest_in c.args.nest.now).deps (c.loop-e.length + c.dep_length-length.result) (c.loop-e.e-index + 1)
 added c =
-    let n = c.args.nest in
+    let n = c.args.nest.now in
     let es = c.dependences-e-items in
     summed_on c.loop-e.invariant (omega (arith, lent_deps n es.result.now c.requires es.ensures.entries))
     (next_dep n es.result.now c.requires es.ensures.entries _ c.loop-e.e-index c.loop-e-test.true)
@@ -23,4 +23,4 @@ loop-e-preserved c = added c
 pub returns : goal.returns
 returns c =
     let es = c.dependences-e-items in
-    summed_done c.loop-e.invariant (omega (arith, lent_deps c.args.nest es.result.now c.requires es.ensures.entries))
+    summed_done c.loop-e.invariant (omega (arith, lent_deps c.args.nest.now es.result.now c.requires es.ensures.entries))

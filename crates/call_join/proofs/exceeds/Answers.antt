@@ -7,8 +7,8 @@ use Rattle.call_join.proofs.exceeds.Goals as goal
 
 pub returns-then-deepest-ge-DEPTH : goal.returns-then-deepest-ge-DEPTH
 returns-then-deepest-ge-DEPTH c =
-    rw (exceeds_by (nest_in c.args.n) (nest_in c.args.m) c.requires.papers) (grind (arith, nat_tests))
+    rw (exceeds_by (nest_in c.args.both.now.n.now) (nest_in c.args.both.now.m.now) c.args.both.now.papers) (grind (arith, nat_tests))
 
 pub returns-else-deepest-ge-DEPTH : goal.returns-else-deepest-ge-DEPTH
 returns-else-deepest-ge-DEPTH c =
-    rw (exceeds_by (nest_in c.args.n) (nest_in c.args.m) c.requires.papers) (grind (arith, nat_tests))
+    rw (exceeds_by (nest_in c.args.both.now.n.now) (nest_in c.args.both.now.m.now) c.args.both.now.papers) (grind (arith, nat_tests))

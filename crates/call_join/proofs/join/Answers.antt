@@ -2,10 +2,12 @@
 use Rattle.call_join.proofs.Accepted.{accepted_papers}
 use Rattle.call_join.proofs.join.Goals as goal
 
-pub exceeds-requires-clause-papers : goal.exceeds-requires-clause-papers
-exceeds-requires-clause-papers c =
-    accepted_papers c.in-Ok.ensures c.in-Ok-read_nest.ensures c.if-n-ne0.false c.if-m-ne0.false
-
-pub write_joined-requires-clause-papers : goal.write_joined-requires-clause-papers
-write_joined-requires-clause-papers c =
-    accepted_papers c.in-Ok.ensures c.in-Ok-read_nest.ensures c.if-n-ne0.false c.if-m-ne0.false
+pub invariant_of-both : goal.invariant_of-both
+invariant_of-both c =
+    let n = c.in-Ok.ensures in
+    let m = c.in-Ok-read_nest.ensures in
+    record {
+      first_counted = n.counted;
+      second_counted = m.counted;
+      papers = accepted_papers n m c.if-n-ne0.false c.if-m-ne0.false;
+    }

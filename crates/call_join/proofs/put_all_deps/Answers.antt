@@ -18,81 +18,81 @@ use Rattle.call_join.proofs.put_all_deps.Goals as goal
 
 pub put_deps-at-requires : goal.put_deps-at-requires
 put_deps-at-requires c =
-    let at_second : ℕ = second_at (nest_in c.args.n) in
-    let whole : List ℕ = deps_text (joint_in c.args.n c.args.m).deps in
-    let first : List ℕ = deps_text (moved_deps 1 (nest_in c.args.n).deps) in
-    let second : ℕ → List ℕ = λ k. deps_text (moved_deps k (nest_in c.args.m).deps) in
-    let parts : whole ≡ first ++ second (at_second) = joint_deps (moved_deps 1 (nest_in c.args.n).deps) (moved_deps (at_second) (nest_in c.args.m).deps) in record { counted = c.requires.counted; stay_bytes = stay_first (nest_in c.args.n) (nest_in c.args.m) c.requires.papers c.requires.m_value; nest_in_bounds = first_fits (whole) (first) (second (at_second)) c.args.out.now (parts) c.requires.m_in_bounds }
+    let at_second : ℕ = second_at (nest_in c.args.both.now.n.now) in
+    let whole : List ℕ = deps_text (joint_in c.args.both.now.n.now c.args.both.now.m.now).deps in
+    let first : List ℕ = deps_text (moved_deps 1 (nest_in c.args.both.now.n.now).deps) in
+    let second : ℕ → List ℕ = λ k. deps_text (moved_deps k (nest_in c.args.both.now.m.now).deps) in
+    let parts : whole ≡ first ++ second (at_second) = joint_deps (moved_deps 1 (nest_in c.args.both.now.n.now).deps) (moved_deps (at_second) (nest_in c.args.both.now.m.now).deps) in record { counted = c.args.both.now.first_counted; stay_bytes = stay_first (nest_in c.args.both.now.n.now) (nest_in c.args.both.now.m.now) c.args.both.now.papers c.requires.fits; room = first_fits (whole) (first) (second (at_second)) c.args.out.now (parts) c.requires.room }
 
-pub overflow_add-n : goal.overflow_add-n
-overflow_add-n c =
-    let at_second : ℕ = second_at (nest_in c.args.n) in
-    let begins : c.args.n.count + 1 ≡ at_second = omega (arith, c.requires.counted.count_is) in
-    let byte : c.args.n.count + 1 ≤ 255 = omega (arith, begins, second_byte (nest_in c.args.n) (nest_in c.args.m) c.requires.papers c.requires.m_value) in
+pub overflow_add-both : goal.overflow_add-both
+overflow_add-both c =
+    let at_second : ℕ = second_at (nest_in c.args.both.now.n.now) in
+    let begins : c.args.both.now.n.now.count + 1 ≡ at_second = omega (arith, c.args.both.now.first_counted.count_is) in
+    let byte : c.args.both.now.n.now.count + 1 ≤ 255 = omega (arith, begins, second_byte (nest_in c.args.both.now.n.now) (nest_in c.args.both.now.m.now) c.args.both.now.papers c.requires.fits) in
     omega (arith, byte)
 
-pub overflow_cast-n : goal.overflow_cast-n
-overflow_cast-n c =
-    let at_second : ℕ = second_at (nest_in c.args.n) in
-    let begins : c.args.n.count + 1 ≡ at_second = omega (arith, c.requires.counted.count_is) in
-    let byte : c.args.n.count + 1 ≤ 255 = omega (arith, begins, second_byte (nest_in c.args.n) (nest_in c.args.m) c.requires.papers c.requires.m_value) in
+pub overflow_cast-both : goal.overflow_cast-both
+overflow_cast-both c =
+    let at_second : ℕ = second_at (nest_in c.args.both.now.n.now) in
+    let begins : c.args.both.now.n.now.count + 1 ≡ at_second = omega (arith, c.args.both.now.first_counted.count_is) in
+    let byte : c.args.both.now.n.now.count + 1 ≤ 255 = omega (arith, begins, second_byte (nest_in c.args.both.now.n.now) (nest_in c.args.both.now.m.now) c.args.both.now.papers c.requires.fits) in
     omega (arith, byte)
 
 pub slice_bounds-put_deps-count : goal.slice_bounds-put_deps-count
 slice_bounds-put_deps-count c =
-    let at_second : ℕ = second_at (nest_in c.args.n) in
-    let whole : List ℕ = deps_text (joint_in c.args.n c.args.m).deps in
-    let first : List ℕ = deps_text (moved_deps 1 (nest_in c.args.n).deps) in
-    let second : ℕ → List ℕ = λ k. deps_text (moved_deps k (nest_in c.args.m).deps) in
-    let parts : whole ≡ first ++ second (at_second) = joint_deps (moved_deps 1 (nest_in c.args.n).deps) (moved_deps (at_second) (nest_in c.args.m).deps) in
-    let begun : Begun (whole) (second (at_second)) c.args.out.now c.put_deps-at.new.out c.put_deps-at.result = begun_by (first) (parts) c.requires.m_in_bounds c.put_deps-at.ensures.0 c.put_deps-at.ensures.1 in
+    let at_second : ℕ = second_at (nest_in c.args.both.now.n.now) in
+    let whole : List ℕ = deps_text (joint_in c.args.both.now.n.now c.args.both.now.m.now).deps in
+    let first : List ℕ = deps_text (moved_deps 1 (nest_in c.args.both.now.n.now).deps) in
+    let second : ℕ → List ℕ = λ k. deps_text (moved_deps k (nest_in c.args.both.now.m.now).deps) in
+    let parts : whole ≡ first ++ second (at_second) = joint_deps (moved_deps 1 (nest_in c.args.both.now.n.now).deps) (moved_deps (at_second) (nest_in c.args.both.now.m.now).deps) in
+    let begun : Begun (whole) (second (at_second)) c.args.out.now c.put_deps-at.new.out c.put_deps-at.result = begun_by (first) (parts) c.requires.room c.put_deps-at.ensures.0 c.put_deps-at.ensures.1 in
     rest_within (begun)
 
 pub slice_bounds-put_deps-start : goal.slice_bounds-put_deps-start
 slice_bounds-put_deps-start c =
-    let at_second : ℕ = second_at (nest_in c.args.n) in
-    let whole : List ℕ = deps_text (joint_in c.args.n c.args.m).deps in
-    let first : List ℕ = deps_text (moved_deps 1 (nest_in c.args.n).deps) in
-    let second : ℕ → List ℕ = λ k. deps_text (moved_deps k (nest_in c.args.m).deps) in
-    let parts : whole ≡ first ++ second (at_second) = joint_deps (moved_deps 1 (nest_in c.args.n).deps) (moved_deps (at_second) (nest_in c.args.m).deps) in
-    let begun : Begun (whole) (second (at_second)) c.args.out.now c.put_deps-at.new.out c.put_deps-at.result = begun_by (first) (parts) c.requires.m_in_bounds c.put_deps-at.ensures.0 c.put_deps-at.ensures.1 in
+    let at_second : ℕ = second_at (nest_in c.args.both.now.n.now) in
+    let whole : List ℕ = deps_text (joint_in c.args.both.now.n.now c.args.both.now.m.now).deps in
+    let first : List ℕ = deps_text (moved_deps 1 (nest_in c.args.both.now.n.now).deps) in
+    let second : ℕ → List ℕ = λ k. deps_text (moved_deps k (nest_in c.args.both.now.m.now).deps) in
+    let parts : whole ≡ first ++ second (at_second) = joint_deps (moved_deps 1 (nest_in c.args.both.now.n.now).deps) (moved_deps (at_second) (nest_in c.args.both.now.m.now).deps) in
+    let begun : Begun (whole) (second (at_second)) c.args.out.now c.put_deps-at.new.out c.put_deps-at.result = begun_by (first) (parts) c.requires.room c.put_deps-at.ensures.0 c.put_deps-at.ensures.1 in
     let z = rest_within (begun) in
     search rules
 
 pub slice_bounds-put_deps-end : goal.slice_bounds-put_deps-end
 slice_bounds-put_deps-end c =
-    let at_second : ℕ = second_at (nest_in c.args.n) in
-    let whole : List ℕ = deps_text (joint_in c.args.n c.args.m).deps in
-    let first : List ℕ = deps_text (moved_deps 1 (nest_in c.args.n).deps) in
-    let second : ℕ → List ℕ = λ k. deps_text (moved_deps k (nest_in c.args.m).deps) in
-    let parts : whole ≡ first ++ second (at_second) = joint_deps (moved_deps 1 (nest_in c.args.n).deps) (moved_deps (at_second) (nest_in c.args.m).deps) in
-    let begun : Begun (whole) (second (at_second)) c.args.out.now c.put_deps-at.new.out c.put_deps-at.result = begun_by (first) (parts) c.requires.m_in_bounds c.put_deps-at.ensures.0 c.put_deps-at.ensures.1 in
+    let at_second : ℕ = second_at (nest_in c.args.both.now.n.now) in
+    let whole : List ℕ = deps_text (joint_in c.args.both.now.n.now c.args.both.now.m.now).deps in
+    let first : List ℕ = deps_text (moved_deps 1 (nest_in c.args.both.now.n.now).deps) in
+    let second : ℕ → List ℕ = λ k. deps_text (moved_deps k (nest_in c.args.both.now.m.now).deps) in
+    let parts : whole ≡ first ++ second (at_second) = joint_deps (moved_deps 1 (nest_in c.args.both.now.n.now).deps) (moved_deps (at_second) (nest_in c.args.both.now.m.now).deps) in
+    let begun : Begun (whole) (second (at_second)) c.args.out.now c.put_deps-at.new.out c.put_deps-at.result = begun_by (first) (parts) c.requires.room c.put_deps-at.ensures.0 c.put_deps-at.ensures.1 in
     let z = rest_within (begun) in
     search rules
 
 pub put_deps-requires : goal.put_deps-requires
 put_deps-requires c =
-    let at_second : ℕ = second_at (nest_in c.args.n) in
-    let begins : c.args.n.count + 1 ≡ at_second = omega (arith, c.requires.counted.count_is) in
-    let whole : List ℕ = deps_text (joint_in c.args.n c.args.m).deps in
-    let first : List ℕ = deps_text (moved_deps 1 (nest_in c.args.n).deps) in
-    let second : ℕ → List ℕ = λ k. deps_text (moved_deps k (nest_in c.args.m).deps) in
-    let parts : whole ≡ first ++ second (at_second) = joint_deps (moved_deps 1 (nest_in c.args.n).deps) (moved_deps (at_second) (nest_in c.args.m).deps) in
-    let begun : Begun (whole) (second (at_second)) c.args.out.now c.put_deps-at.new.out c.put_deps-at.result = begun_by (first) (parts) c.requires.m_in_bounds c.put_deps-at.ensures.0 c.put_deps-at.ensures.1 in
-    let n = nest_in c.args.n in
-    let m = nest_in c.args.m in
-    let stays : StayBytes (c.args.n.count + 1) m.deps =
-    rw (begins) (stay_second n m c.requires.papers c.requires.m_value) in record { counted = c.requires.counted_2; stay_bytes = stays; nest_in_bounds = omega (arith, rest_fits (begun), ap (λ (k : ℕ). length (second k)) (begins)) }
+    let at_second : ℕ = second_at (nest_in c.args.both.now.n.now) in
+    let begins : c.args.both.now.n.now.count + 1 ≡ at_second = omega (arith, c.args.both.now.first_counted.count_is) in
+    let whole : List ℕ = deps_text (joint_in c.args.both.now.n.now c.args.both.now.m.now).deps in
+    let first : List ℕ = deps_text (moved_deps 1 (nest_in c.args.both.now.n.now).deps) in
+    let second : ℕ → List ℕ = λ k. deps_text (moved_deps k (nest_in c.args.both.now.m.now).deps) in
+    let parts : whole ≡ first ++ second (at_second) = joint_deps (moved_deps 1 (nest_in c.args.both.now.n.now).deps) (moved_deps (at_second) (nest_in c.args.both.now.m.now).deps) in
+    let begun : Begun (whole) (second (at_second)) c.args.out.now c.put_deps-at.new.out c.put_deps-at.result = begun_by (first) (parts) c.requires.room c.put_deps-at.ensures.0 c.put_deps-at.ensures.1 in
+    let n = nest_in c.args.both.now.n.now in
+    let m = nest_in c.args.both.now.m.now in
+    let stays : StayBytes (c.args.both.now.n.now.count + 1) m.deps =
+    rw (begins) (stay_second n m c.args.both.now.papers c.requires.fits) in record { counted = c.args.both.now.second_counted; stay_bytes = stays; room = omega (arith, rest_fits (begun), ap (λ (k : ℕ). length (second k)) (begins)) }
 
 pub overflow_add-result : goal.overflow_add-result
 overflow_add-result c =
-    let at_second : ℕ = second_at (nest_in c.args.n) in
-    let begins : c.args.n.count + 1 ≡ at_second = omega (arith, c.requires.counted.count_is) in
-    let whole : List ℕ = deps_text (joint_in c.args.n c.args.m).deps in
-    let first : List ℕ = deps_text (moved_deps 1 (nest_in c.args.n).deps) in
-    let second : ℕ → List ℕ = λ k. deps_text (moved_deps k (nest_in c.args.m).deps) in
-    let parts : whole ≡ first ++ second (at_second) = joint_deps (moved_deps 1 (nest_in c.args.n).deps) (moved_deps (at_second) (nest_in c.args.m).deps) in
-    let begun : Begun (whole) (second (at_second)) c.args.out.now c.put_deps-at.new.out c.put_deps-at.result = begun_by (first) (parts) c.requires.m_in_bounds c.put_deps-at.ensures.0 c.put_deps-at.ensures.1 in
+    let at_second : ℕ = second_at (nest_in c.args.both.now.n.now) in
+    let begins : c.args.both.now.n.now.count + 1 ≡ at_second = omega (arith, c.args.both.now.first_counted.count_is) in
+    let whole : List ℕ = deps_text (joint_in c.args.both.now.n.now c.args.both.now.m.now).deps in
+    let first : List ℕ = deps_text (moved_deps 1 (nest_in c.args.both.now.n.now).deps) in
+    let second : ℕ → List ℕ = λ k. deps_text (moved_deps k (nest_in c.args.both.now.m.now).deps) in
+    let parts : whole ≡ first ++ second (at_second) = joint_deps (moved_deps 1 (nest_in c.args.both.now.n.now).deps) (moved_deps (at_second) (nest_in c.args.both.now.m.now).deps) in
+    let begun : Begun (whole) (second (at_second)) c.args.out.now c.put_deps-at.new.out c.put_deps-at.result = begun_by (first) (parts) c.requires.room c.put_deps-at.ensures.0 c.put_deps-at.ensures.1 in
     let size : c.put_deps.result ≡ length (second (at_second)) = c.put_deps.ensures.0 ∙ ap (λ (k : ℕ). length (second k)) (begins) in
     let written : let p = c.put_deps-at.new.out in
     c.put_deps.new.out
@@ -103,13 +103,13 @@ overflow_add-result c =
 
 pub shape_of-out : goal.shape_of-out
 shape_of-out c =
-    let at_second : ℕ = second_at (nest_in c.args.n) in
-    let begins : c.args.n.count + 1 ≡ at_second = omega (arith, c.requires.counted.count_is) in
-    let whole : List ℕ = deps_text (joint_in c.args.n c.args.m).deps in
-    let first : List ℕ = deps_text (moved_deps 1 (nest_in c.args.n).deps) in
-    let second : ℕ → List ℕ = λ k. deps_text (moved_deps k (nest_in c.args.m).deps) in
-    let parts : whole ≡ first ++ second (at_second) = joint_deps (moved_deps 1 (nest_in c.args.n).deps) (moved_deps (at_second) (nest_in c.args.m).deps) in
-    let begun : Begun (whole) (second (at_second)) c.args.out.now c.put_deps-at.new.out c.put_deps-at.result = begun_by (first) (parts) c.requires.m_in_bounds c.put_deps-at.ensures.0 c.put_deps-at.ensures.1 in
+    let at_second : ℕ = second_at (nest_in c.args.both.now.n.now) in
+    let begins : c.args.both.now.n.now.count + 1 ≡ at_second = omega (arith, c.args.both.now.first_counted.count_is) in
+    let whole : List ℕ = deps_text (joint_in c.args.both.now.n.now c.args.both.now.m.now).deps in
+    let first : List ℕ = deps_text (moved_deps 1 (nest_in c.args.both.now.n.now).deps) in
+    let second : ℕ → List ℕ = λ k. deps_text (moved_deps k (nest_in c.args.both.now.m.now).deps) in
+    let parts : whole ≡ first ++ second (at_second) = joint_deps (moved_deps 1 (nest_in c.args.both.now.n.now).deps) (moved_deps (at_second) (nest_in c.args.both.now.m.now).deps) in
+    let begun : Begun (whole) (second (at_second)) c.args.out.now c.put_deps-at.new.out c.put_deps-at.result = begun_by (first) (parts) c.requires.room c.put_deps-at.ensures.0 c.put_deps-at.ensures.1 in
     let size : c.put_deps.result ≡ length (second (at_second)) = c.put_deps.ensures.0 ∙ ap (λ (k : ℕ). length (second k)) (begins) in
     let written : let p = c.put_deps-at.new.out in
     c.put_deps.new.out
@@ -120,13 +120,13 @@ shape_of-out c =
 
 pub returns : goal.returns
 returns c =
-    let at_second : ℕ = second_at (nest_in c.args.n) in
-    let begins : c.args.n.count + 1 ≡ at_second = omega (arith, c.requires.counted.count_is) in
-    let whole : List ℕ = deps_text (joint_in c.args.n c.args.m).deps in
-    let first : List ℕ = deps_text (moved_deps 1 (nest_in c.args.n).deps) in
-    let second : ℕ → List ℕ = λ k. deps_text (moved_deps k (nest_in c.args.m).deps) in
-    let parts : whole ≡ first ++ second (at_second) = joint_deps (moved_deps 1 (nest_in c.args.n).deps) (moved_deps (at_second) (nest_in c.args.m).deps) in
-    let begun : Begun (whole) (second (at_second)) c.args.out.now c.put_deps-at.new.out c.put_deps-at.result = begun_by (first) (parts) c.requires.m_in_bounds c.put_deps-at.ensures.0 c.put_deps-at.ensures.1 in
+    let at_second : ℕ = second_at (nest_in c.args.both.now.n.now) in
+    let begins : c.args.both.now.n.now.count + 1 ≡ at_second = omega (arith, c.args.both.now.first_counted.count_is) in
+    let whole : List ℕ = deps_text (joint_in c.args.both.now.n.now c.args.both.now.m.now).deps in
+    let first : List ℕ = deps_text (moved_deps 1 (nest_in c.args.both.now.n.now).deps) in
+    let second : ℕ → List ℕ = λ k. deps_text (moved_deps k (nest_in c.args.both.now.m.now).deps) in
+    let parts : whole ≡ first ++ second (at_second) = joint_deps (moved_deps 1 (nest_in c.args.both.now.n.now).deps) (moved_deps (at_second) (nest_in c.args.both.now.m.now).deps) in
+    let begun : Begun (whole) (second (at_second)) c.args.out.now c.put_deps-at.new.out c.put_deps-at.result = begun_by (first) (parts) c.requires.room c.put_deps-at.ensures.0 c.put_deps-at.ensures.1 in
     let size : c.put_deps.result ≡ length (second (at_second)) = c.put_deps.ensures.0 ∙ ap (λ (k : ℕ). length (second k)) (begins) in
     let written : let p = c.put_deps-at.new.out in
     c.put_deps.new.out

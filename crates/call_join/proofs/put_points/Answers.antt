@@ -9,9 +9,9 @@ use Rattle.call_join.proofs.put_points.Goals.{then-is_next, else-is_next}
 
 pub put_frame-at-requires : goal.put_frame-at-requires
 put_frame-at-requires c =
-    let n = nest_in c.args.nest in
+    let n = nest_in c.args.nest.now in
     let p = c.loop-i.invariant in
-    let fits = c.requires.nest_in_bounds in
+    let fits = c.requires.room in
     let next = flagged_next n.points n.flagged c.loop-i.f c.loop-i.i
     (rw c.points-point-items.ensures at c.loop-i-test.true)
     (sym c.is_next.ensures ∙ c.if-is_next.true) in
@@ -19,9 +19,9 @@ put_frame-at-requires c =
 
 pub put_frame-at-requires-else-is_next : goal.put_frame-at-requires-else-is_next
 put_frame-at-requires-else-is_next c =
-    let n = nest_in c.args.nest in
+    let n = nest_in c.args.nest.now in
     let p = c.loop-i.invariant in
-    let fits = c.requires.nest_in_bounds in
+    let fits = c.requires.room in
     let next = plain_next n.points n.flagged c.loop-i.f c.loop-i.i
     (rw c.points-point-items.ensures at c.loop-i-test.true)
     (sym c.is_next.ensures ∙ c.if-is_next.false) in
@@ -29,9 +29,9 @@ put_frame-at-requires-else-is_next c =
 
 pub loop-i-preserved : goal.loop-i-preserved
 loop-i-preserved c =
-    let n = nest_in c.args.nest in
+    let n = nest_in c.args.nest.now in
     let p = c.loop-i.invariant in
-    let fits = c.requires.nest_in_bounds in
+    let fits = c.requires.room in
     elim c.if-is_next.branch [
       | then-is_next w ↦
           rw (w.out-is, w.at-is, w.f-is)
@@ -52,6 +52,6 @@ loop-i-preserved c =
 
 pub returns : goal.returns
 returns c =
-    let n = nest_in c.args.nest in
-    piece_done c.loop-i.invariant c.requires.nest_in_bounds
+    let n = nest_in c.args.nest.now in
+    piece_done c.loop-i.invariant c.requires.room
     (points_out n.points _ c.loop-i.i (rw c.points-point-items.ensures at c.loop-i-test.false))
