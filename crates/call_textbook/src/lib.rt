@@ -2,7 +2,8 @@
 // greedily at each first interval end, and the smallest result is kept.
 #![tactic(auto)]
 
-ghost use Rattle.std.specs.Prelude.{◌≡◌, true, ◌+◌, ◌<◌, ◌≤◌, length};
+ghost use Rattle.std.specs.Prelude.{◌≡◌, true, ◌+◌, ◌<◌, ◌≤◌, length, IfSome};
+ghost use Rattle.std.specs.Option.{unwrap_or};
 ghost use Rattle.laws.specs.Entries.{at};
 ghost use Rattle.paper_nests.specs.Ring.{one_loop};
 ghost use Rattle.paper_nests.specs.Valid.{is_valid};
@@ -22,6 +23,14 @@ use paper_refusals::Refusal;
 
 // As many places as a table has: those of the longest ring, laid out twice, and place 0.
 const PLACES: usize = 512;
+
+// A ring of m gaps laid out twice: of each place the latest start of the dependences that end there; 0 for none.
+#[derive(Clone, Copy)]
+struct Ring<'a> {
+    m: usize,
+    latest: &'a [usize; PLACES],
+    ghost few: { m < GAPS },
+}
 
 // The placement of the textbook method for the desk's nest. Numbers 10, 14, 15.
 pub fn textbook(desk: Desk) -> Chosen
@@ -57,11 +66,11 @@ fn smallest(nest: Nest, barred: Placement) -> Placement
     }
     let m = nest.count - 1;
     let latest = latest_starts(nest, barred, m);
-    let g = first_barrier(&latest, barred, m);
-    if g == 0 {
-        return Placement::empty();
+    let ring = Ring { m, latest: &latest };
+    match first_barrier(&ring, barred) {
+        None => Placement::empty(),
+        Some(g) => lay(&ring, g),
     }
-    lay(&latest, m, g)
 }
 
 // The gap at a place of a ring of m gaps laid out twice.
@@ -145,37 +154,36 @@ fn raise(latest: &mut [usize], p: usize, start: usize)
     }
 }
 
-// The first barrier whose line takes the fewest cuts, the first of equals; 0 for none.
-fn first_barrier(latest: &[usize; PLACES], barred: Placement, m: usize) -> usize
-    requires { m < GAPS }
-    ensures { result ≡ least_from (cuts_behind (at latest.now) m) 0 PLACES
-        (gaps_of (is_free (gaps_in barred.words)) m 1) }
+// The first barrier whose line takes the fewest cuts, the first of equals.
+fn first_barrier(ring: &Ring, barred: Placement) -> Option<usize>
+    ensures first { unwrap_or result 0 ≡ least_from (cuts_behind (at ring.now.latest.now) ring.now.m) 0 PLACES
+        (gaps_of (is_free (gaps_in barred.words)) ring.now.m 1) }
+    ensures found { IfSome result (λ g. 0 < g) }
 {
-    let mut best = 0;
+    let mut best = None;
     let mut least = PLACES;
-    for g in 1..m + 1 {
+    for g in 1..ring.m + 1 {
         if barred.holds(g) {
             continue;
         }
-        let cuts = count_cuts(latest, m, g);
+        let cuts = count_cuts(ring, g);
         if cuts < least {
             least = cuts;
-            best = g;
+            best = Some(g);
         }
     }
     best
 }
 
 // How many cuts the line behind g takes.
-fn count_cuts(latest: &[usize; PLACES], m: usize, g: usize) -> usize
-    requires m_bound { m < GAPS }
-    requires g_nonzero { (0 < g) × (g ≤ m) }
-    ensures { result ≡ cuts_behind (at latest.now) m g }
+fn count_cuts(ring: &Ring, g: usize) -> usize
+    requires { (0 < g) × (g ≤ ring.now.m) }
+    ensures { result ≡ cuts_behind (at ring.now.latest.now) ring.now.m g }
 {
     let mut cuts = 0;
     let mut last = g;
-    for p in g + 1..g + m {
-        if last < latest[p] {
+    for p in g + 1..g + ring.m {
+        if last < ring.latest[p] {
             cuts += 1;
             last = p;
         }
@@ -184,16 +192,15 @@ fn count_cuts(latest: &[usize; PLACES], m: usize, g: usize) -> usize
 }
 
 // The first barrier g and the cuts of the line behind it.
-fn lay(latest: &[usize; PLACES], m: usize, g: usize) -> Placement
-    requires m_bound { m < GAPS }
-    requires g_nonzero { (0 < g) × (g ≤ m) }
-    ensures { LaySays (at latest.now) m g result.words }
+fn lay(ring: &Ring, g: usize) -> Placement
+    requires { (0 < g) × (g ≤ ring.now.m) }
+    ensures { LaySays (at ring.now.latest.now) ring.now.m g result.words }
 {
     let mut placement = Placement::empty().put(g);
     let mut last = g;
-    for p in g + 1..g + m {
-        if last < latest[p] {
-            placement = placement.put(gap_at(m, p));
+    for p in g + 1..g + ring.m {
+        if last < ring.latest[p] {
+            placement = placement.put(gap_at(ring.m, p));
             last = p;
         }
     }

@@ -4,4 +4,4 @@ use Rattle.call_textbook.proofs.Cutting.{Counting}
 use Rattle.call_textbook.proofs.count_cuts.Given as goal
 
 abbrev pub invariant-loop-p : goal.invariant-loop-p
-invariant-loop-p l = Counting (at l.latest) l.m l.g l.cuts l.last l.p
+invariant-loop-p l = Counting (at l.ring.latest.now) l.ring.m l.g l.cuts l.last l.p

@@ -13,32 +13,43 @@ use Rattle.call_textbook.proofs.first_barrier.Goals.{then-cuts-least, else-cuts-
 
 pub loop-g-init : goal.loop-g-init
 loop-g-init c =
-    let a = c.args in
-    choose_start (cuts_behind (at a.latest.now) a.m) (is_free (gaps_in a.barred.words)) a.m
+    let ring = c.args.ring.now in
+    let free = is_free (gaps_in c.args.barred.words) in
+    record { chosen = choose_start (cuts_behind (at ring.latest.now) ring.m) free ring.m; found = tt }
 
 pub loop-g-preserved-then-holds : goal.loop-g-preserved-then-holds
 loop-g-preserved-then-holds c =
-    choose_barred c.loop-g.invariant (omega arith)
-    (held_barred c.args.barred.words c.loop-g.g c.holds.result (omega arith) c.holds.ensures c.if-holds.true)
+    record {
+      chosen = choose_barred c.loop-g.invariant.chosen (omega arith) (held_barred c.args.barred.words c.loop-g.g
+          c.holds.result (omega arith) c.holds.ensures c.if-holds.true);
+      found = c.loop-g.invariant.found;
+    }
 
 pub count_cuts-cuts-requires : goal.count_cuts-cuts-requires
-count_cuts-cuts-requires c = record { m_bound = omega arith; g_nonzero = (omega arith, omega arith) }
+count_cuts-cuts-requires c = (omega arith, omega arith)
 
 pub loop-g-preserved : goal.loop-g-preserved
 loop-g-preserved c =
     let ws = c.args.barred.words in
+    let l = c.loop-g.invariant in
+    let cuts = c.count_cuts-cuts in
     let tried : is_free (gaps_in ws) c.loop-g.g ≡ true =
     unheld_free ws c.loop-g.g c.holds.result (omega arith) c.holds.ensures c.if-holds.false in
     elim c.if-cuts-least.branch [
       | then-cuts-least w ↦
           rw (w.best-is, w.least-is)
-          (choose_taken c.loop-g.invariant (omega arith) tried c.count_cuts-cuts.result c.count_cuts-cuts.ensures
-          (omega arith))
+          (record {
+            chosen = choose_taken l.chosen (omega arith) tried cuts.result cuts.ensures (omega arith);
+            found = omega (arith, l.chosen.first);
+          })
       | else-cuts-least w ↦
           rw (w.best-is, w.least-is)
-          (choose_passed c.loop-g.invariant (omega arith) tried c.count_cuts-cuts.result c.count_cuts-cuts.ensures
-          (omega arith))
+          (record {
+            chosen = choose_passed l.chosen (omega arith) tried cuts.result cuts.ensures (omega arith);
+            found = l.found;
+          })
     ]
 
 pub returns : goal.returns
-returns c = choose_done c.loop-g.invariant (omega arith)
+returns c =
+    record { first = choose_done c.loop-g.invariant.chosen (omega arith); found = c.loop-g.invariant.found }

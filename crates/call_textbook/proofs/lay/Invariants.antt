@@ -4,4 +4,4 @@ use Rattle.call_textbook.proofs.Cutting.{Laying}
 use Rattle.call_textbook.proofs.lay.Given as goal
 
 abbrev pub invariant-loop-p : goal.invariant-loop-p
-invariant-loop-p l = Laying (at l.latest) l.m l.g l.placement.words l.last l.p
+invariant-loop-p l = Laying (at l.ring.latest.now) l.ring.m l.g l.placement.words l.last l.p

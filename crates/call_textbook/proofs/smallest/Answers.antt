@@ -51,34 +51,34 @@ latest_starts-latest-requires-clause-all_placed c =
     let q = c.requires in
     all_placed (nest_in n).points (nest_in n).deps (n.count - 1) (spans n q.counted q.nest_value q.nest_value_2)
 
-pub returns-then-g-eq0 : goal.returns-then-g-eq0
-returns-then-g-eq0 c =
+pub returns-in-None : goal.returns-in-None
+returns-in-None c =
     let n = c.args.nest in
     let q = c.requires in
     none_tried (nest_in n).points c.args.barred.words (nest_in n).deps (n.count - 1)
     (gaps_are n q.counted q.nest_value q.nest_value_2) (gaps_fit n q.counted q.nest_value q.nest_value_2)
     (spans n q.counted q.nest_value q.nest_value_2)
-    c.latest_starts-latest.result c.latest_starts-latest.ensures c.first_barrier-g.result c.first_barrier-g.ensures
-    (omega (arith, q.counted.many_is)) (omega arith) c.empty-then-g-eq0.result.words c.empty-then-g-eq0.ensures
+    c.latest_starts-latest.result c.latest_starts-latest.ensures 0 c.in-None.ensures.first
+    (omega (arith, q.counted.many_is)) (omega arith) c.empty-in-None.result.words c.empty-in-None.ensures
 
-pub lay-requires-clause-g_nonzero : goal.lay-requires-clause-g_nonzero
-lay-requires-clause-g_nonzero c =
+pub lay-requires : goal.lay-requires
+lay-requires c =
     let n = c.args.nest in
     let q = c.requires in
     let fits =
     barrier_fits (nest_in n).points c.args.barred.words (nest_in n).deps (n.count - 1)
     (gaps_are n q.counted q.nest_value q.nest_value_2) (gaps_fit n q.counted q.nest_value q.nest_value_2)
     (spans n q.counted q.nest_value q.nest_value_2)
-    c.latest_starts-latest.result c.latest_starts-latest.ensures c.first_barrier-g.result c.first_barrier-g.ensures
-    (omega (arith, q.counted.many_is)) (omega arith) in
-    (omega arith, fits)
+    c.latest_starts-latest.result c.latest_starts-latest.ensures c.in-Some.g c.in-Some.ensures.first
+    (omega (arith, q.counted.many_is)) c.in-Some.ensures.found in
+    (c.in-Some.ensures.found, fits)
 
-pub returns : goal.returns
-returns c =
+pub returns-in-Some : goal.returns-in-Some
+returns-in-Some c =
     let n = c.args.nest in
     let q = c.requires in
     laid_textbook (nest_in n).points c.args.barred.words (nest_in n).deps (n.count - 1)
     (gaps_are n q.counted q.nest_value q.nest_value_2) (gaps_fit n q.counted q.nest_value q.nest_value_2)
     (spans n q.counted q.nest_value q.nest_value_2)
-    c.latest_starts-latest.result c.latest_starts-latest.ensures c.first_barrier-g.result c.first_barrier-g.ensures
-    (omega (arith, q.counted.many_is)) (omega arith) c.lay.result.words c.lay.ensures
+    c.latest_starts-latest.result c.latest_starts-latest.ensures c.in-Some.g c.in-Some.ensures.first
+    (omega (arith, q.counted.many_is)) c.in-Some.ensures.found c.lay.result.words c.lay.ensures
