@@ -41,7 +41,7 @@ pub fn judge(nest: Nest, key: Placement, text: &[u8]) -> Option<usize>
     let owners = owners_of(points);
     let ends = ends_of(points);
     let counts = counts_of(points, key);
-    let barred = set_of(&nest.barred, nest.bars);
+    let barred = set_of(nest.barred_gaps());
     judge_lines(nest, points, &owners, &ends, &counts, barred, text)
 }
 

@@ -25,7 +25,7 @@ pub fn missing_runs(desk: Desk) -> Chosen
         return not_chosen(refusal);
     }
     let nest = desk.nest;
-    let flagged = set_of(&nest.flagged, nest.flags);
+    let flagged = set_of(&nest.flagged[..nest.flags]);
     Chosen {
         number: 0,
         line: 0,
@@ -41,7 +41,7 @@ pub fn listed_by(nest: Nest, p: Placement, e: Dependence) -> Placement
     ensures { gaps_in result.words ≡ listed_by (nest_in nest) (gaps_in p.words) (dep_in e) }
 {
     let ends = paper_nests::ends_of(nest.points());
-    let loops = with_barrier(&ends, set_of(&nest.flagged, nest.flags), p);
+    let loops = with_barrier(&ends, set_of(&nest.flagged[..nest.flags]), p);
     list_by(&ends, loops, p, Placement::empty(), e)
 }
 

@@ -9,7 +9,7 @@ use native.Mathlib.Omega.{arith}
 use lib.Dec.{eqb, ltb}
 use lib.ListN.{length}
 use borrow.Author.Tests.{eqb-true, eq-eqb, ltb-true, lt-ltb, not-true}
-use Rattle.laws.specs.Choice.{between, is_in}
+use Rattle.laws.specs.Choice.{is_in}
 use Rattle.laws.specs.Entries.{at}
 use Rattle.laws.proofs.Tests.{le_or, false_by, and_true, and_intro, or-true, or_left, or_right}
 use Rattle.laws.proofs.Connectives.{and_off}

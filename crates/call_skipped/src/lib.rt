@@ -73,7 +73,7 @@ fn with_end_of(nest: Nest, e: Dependence) -> Placement
         return Placement::empty();
     }
     let ends = paper_nests::ends_of(nest.points());
-    let flagged = set_of(&nest.flagged, nest.flags);
+    let flagged = set_of(&nest.flagged[..nest.flags]);
     with_one_end(&ends, flagged, e.s as usize, e.t as usize)
 }
 

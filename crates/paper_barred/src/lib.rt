@@ -14,5 +14,5 @@ pub fn barred_of(nest: Nest) -> Placement
     requires { IsCounted nest }
     ensures { (g : ℕ) → holds result.words g ≡ is_in g (nest_in nest).barred }
 {
-    paper_placements::set_of(&nest.barred, nest.bars)
+    paper_placements::set_of(nest.barred_gaps())
 }

@@ -1,6 +1,7 @@
--- The first numbers of a list one by one, from the last to the first, and the set that they make.
--- Main statements: `SetFrom`, what a turn keeps; `number_at`.
+-- The numbers of a list one by one: the set that they make, and what is behind a number among the first of a list.
+-- Main statements: `SetSoFar`, what a turn keeps; `none_behind`, `number_at`.
 use mathlib.Core.Path.{◌≡◌}
+use mathlib.Core.Bool.{◌||◌}
 use mathlib.Core.List.{List, [], ◌∷◌}
 use Prim.Native.Nat.{ℕ, suc, ◌-◌, ◌≤◌, ◌<◌}
 use native.Mathlib.Omega.{arith}
@@ -9,10 +10,9 @@ use lib.Seq.{drop-cons, get_or-take, length-take-le}
 use Rattle.laws.specs.Choice.{is_in}
 use Rattle.paper_placements.specs.Words.{holds}
 
--- what the set so far holds: the numbers from the i-th on
-pub record SetFrom (xs : List ℕ) (count i : ℕ) (ws : List ℕ) : Type 0 where
-  pub within : i ≤ count
-  pub set_is : (g : ℕ) → holds ws g ≡ is_in g (drop i (take count xs))
+-- what the set so far holds, with the numbers from the i-th on, are all
+pub record SetSoFar (xs : List ℕ) (i : ℕ) (ws : List ℕ) : Type 0 where
+  pub set_is : (g : ℕ) → (holds ws g || is_in g (drop i xs)) ≡ is_in g xs
 
 module _ (xs : List ℕ) (count : ℕ) (fits : count ≤ length xs) where
   -- behind the last there is none

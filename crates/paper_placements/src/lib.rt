@@ -1,7 +1,7 @@
 // Placements as 256 bits: gaps put and tested, the cut test, loops counted and compared.
 #![tactic(auto)]
 
-ghost use Rattle.std.specs.Prelude.{◌≡◌, true, false, ◌||◌, ◌&&◌, ℕ, ◌+◌, ◌<◌, ◌≤◌, eqb, ltb, length, take};
+ghost use Rattle.std.specs.Prelude.{◌≡◌, true, false, ◌||◌, ◌&&◌, ℕ, ◌+◌, ◌<◌, ◌≤◌, eqb, ltb, length};
 ghost use Rattle.laws.specs.Bits.{bit, tally};
 ghost use Rattle.laws.specs.Choice.{between, is_in};
 ghost use Rattle.paper_nests.specs.Loops.{is_do, end_of};
@@ -87,14 +87,13 @@ impl Placement {
     }
 }
 
-// The first numbers of a list, as a set.
-pub fn set_of(all: &[u8], count: usize) -> Placement
-    requires { count ≤ length all.now }
-    ensures { (i : ℕ) → holds result.words i ≡ is_in i (take count all.now) }
+// The numbers of a list, as a set.
+pub fn set_of(all: &[u8]) -> Placement
+    ensures { (i : ℕ) → holds result.words i ≡ is_in i all.now }
 {
     let mut set = Placement::empty();
-    for i in (0..count).rev() {
-        set = set.put(all[i] as usize);
+    for &g in all {
+        set = set.put(g as usize);
     }
     set
 }

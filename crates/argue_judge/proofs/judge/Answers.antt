@@ -1,4 +1,5 @@
 -- `judge` meets its contract: the tables are those of the nest and of the key.
+use mathlib.Core.Path.{sym}
 use borrow.Author.Rules.{rules}
 use Rattle.paper_placements.specs.Words.{gaps_in}
 use Rattle.argue_judge.proofs.Lines.{nest_shape, points_fit, tables-of, judgeable}
@@ -19,7 +20,7 @@ judge_lines-requires-clause-judgeable c =
     judgeable c.args.nest (gaps_in c.args.key.words) c.owners_of-owners.result c.ends_of-ends.result
     c.counts_of-counts.result c.requires.counted c.requires.nest_value c.requires.words_value c.points-points.result.now
     c.points-points.ensures c.owners_of-owners.ensures c.ends_of-ends.ensures c.counts_of-counts.ensures
-    c.set_of-barred.result.words c.set_of-barred.ensures (search rules) (search rules) (search rules)
+    c.set_of-barred.result.words (rw (sym c.barred_gaps.ensures) c.set_of-barred.ensures) (search rules) (search rules) (search rules)
 
 pub returns-clause-first : goal.returns-clause-first
 returns-clause-first c =

@@ -1,6 +1,6 @@
--- `set_of` meets its contract: from the last number to the first, each is put into the set (`SetFrom`).
-use Rattle.paper_placements.proofs.Sets.{SetFrom}
+-- `set_of` meets its contract: each number in turn is put into the set (`SetSoFar`).
+use Rattle.paper_placements.proofs.Sets.{SetSoFar}
 use Rattle.paper_placements.proofs.set_of.Given as goal
 
-abbrev pub invariant-loop-i : goal.invariant-loop-i
-invariant-loop-i l = SetFrom l.all l.count l.i l.set.words
+abbrev pub invariant-loop-g : goal.invariant-loop-g
+invariant-loop-g l = SetSoFar l.all l.g-index l.set.words
