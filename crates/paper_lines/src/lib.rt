@@ -33,7 +33,8 @@ const BASE: u8 = 16;
 // The bytes that there are.
 const BYTES: usize = 256;
 
-// The value of each byte that is a digit, by the byte; the others have BASE.
+// The value of each byte that is a digit, by the byte; the others have BASE. No type stands for such tables in place
+// of `AreValues` in the contracts below: `read_line` takes any array that is one, and a type would ask more of its callers.
 pub fn digit_values() -> [u8; BYTES]
     ensures { AreValues result }
 {
@@ -104,20 +105,15 @@ fn digits_in(text: &[u8], values: &[u8; BYTES]) -> usize
         }
         i += 4;
     }
-    digits_from(text, i, values)
+    i + digits_from(&text[i..], values)
 }
 
-// The same, where the first ones are known to be digits.
-fn digits_from(text: &[u8], known: usize, values: &[u8; BYTES]) -> usize
-    requires are_values { AreValues values.now }
-    requires known_in_bounds { known ≤ length text.now }
-    ensures { result ≡ known + length (take_digits (drop known text.now)) }
+// The same, a byte a turn, for what is left of a text.
+fn digits_from(text: &[u8], values: &[u8; BYTES]) -> usize
+    requires { AreValues values.now }
+    ensures { result ≡ length (take_digits text.now) }
 {
-    known
-        + text[known..]
-            .iter()
-            .take_while(|&&b| is_hex(b, values))
-            .count()
+    text.iter().take_while(|&&b| is_hex(b, values)).count()
 }
 
 // The digits are those of whole bytes, and there are some.

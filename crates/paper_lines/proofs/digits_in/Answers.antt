@@ -1,11 +1,11 @@
-use mathlib.Core.Path.{◌≡◌, sym}
+use mathlib.Core.Path.{◌≡◌, sym, ◌∙◌}
 use mathlib.Core.Bool.{true}
 use mathlib.Core.List.{List}
 use Prim.Native.Nat.{ℕ, ◌+◌, ◌<◌}
 use native.Mathlib.Omega.{arith}
-use lib.ListN.{length, get_or}
+use lib.ListN.{length, get_or, drop, length-drop}
 use Rattle.paper_lines.specs.Lines.{is_hex}
-use Rattle.paper_lines.proofs.Reading.{Digits-to, to_next, to_end}
+use Rattle.paper_lines.proofs.Reading.{Digits-to, to_next, to_end, end_in_part, digits_fit}
 use Rattle.paper_lines.proofs.digits_in.Goals as goal
 
 -- each digit of a turn leads to the next byte
@@ -44,3 +44,18 @@ loop-i-preserved c = (
   to_next _ _ _ (omega arith) c.loop-i-test.true (sym c.if-not-is_hex-4.ensures)
       (fourth _ _ c.loop-i-test.true c.loop-i.invariant.1 c.if-not-is_hex.ensures c.if-not-is_hex-2.ensures c.if-not-is_hex-3.ensures),
 )
+
+pub overflow_add-result-2 : goal.overflow_add-result-2
+overflow_add-result-2 c =
+    let text = c.args.text.now in
+    let i = c.loop-i.i in
+    omega (
+      arith,
+      end_in_part text i c.digits_from.result c.digits_from.ensures,
+      digits_fit (drop i text),
+      length-drop i text,
+      c.well_formed,
+    )
+
+pub returns : goal.returns
+returns c = end_in_part c.args.text.now c.loop-i.i c.digits_from.result c.digits_from.ensures ∙ c.loop-i.invariant.1
