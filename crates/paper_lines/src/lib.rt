@@ -34,7 +34,7 @@ const BASE: u8 = 16;
 const BYTES: usize = 256;
 
 // The value of each byte that is a digit, by the byte; the others have BASE. No type stands for such tables in place
-// of `AreValues` in the contracts below: `read_line` takes any array that is one, and a type would ask more of its callers.
+// of `AreValues` in the contracts: `read_line` takes any array that is one, and a type would ask more of its callers.
 pub fn digit_values() -> [u8; BYTES]
     ensures { AreValues result }
 {

@@ -12,14 +12,15 @@ ghost use Rattle.paper_nests.specs.Stored.{dep_in, nest_in, IsCounted, IsEmpty, 
 
 use paper_refusals::Refusal;
 
-// The kinds of points.
+// The kinds of points. These and the next are bytes and no enum: desk.h lays points and dependences out as bytes, and a
+// lent record may bring any byte.
 pub const DO: u8 = 1;
 
 pub const ENDDO: u8 = 2;
 
 pub const STATEMENT: u8 = 3;
 
-// The kind of a DO whose loop may not run; as a point it is a DO.
+// The kind of a DO whose loop may not run, in the texts; as a point it is a DO.
 pub const FLAGGED: u8 = 4;
 
 // The kinds of dependences.
@@ -27,7 +28,7 @@ pub const INDEPENDENT: u8 = 17;
 
 pub const CARRIED: u8 = 18;
 
-// The kind of barred gaps.
+// The kind of barred gaps, in the texts.
 pub const BARRED: u8 = 19;
 
 // A dependence from point s to point t, independent or carried by the loop of DO d.

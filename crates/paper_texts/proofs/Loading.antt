@@ -10,7 +10,7 @@ use Prim.Native.Nat.{ℕ, suc, ◌+◌, ◌^◌, ◌≤◌, ◌<◌}
 use native.Mathlib.Numerals.{add-one}
 use native.Mathlib.Omega.{arith}
 use lib.Dec.{eqb, leb}
-use lib.ListN.{length, take, drop, set, length-take, length-set}
+use lib.ListN.{length, take, drop, set, length-set}
 use borrow.Author.Rules.{rules}
 use borrow.Author.Tests.{leb-false, ne_eqb}
 use Rattle.laws.specs.Choice.{pick, when, first_of}
@@ -167,20 +167,6 @@ module _
     abbrev ps : List ℕ
     ps = take n.count n.points
 
-    numbers : HasNumbers (nest_in n) n.count n.many n.bars deep
-    numbers =
-        let c = p.counted in
-        record {
-          count_is = sym c.count_is;
-          many_is = sym c.many_is;
-          bars_is = sym c.bars_is;
-          depth_is = sym p.deep_is;
-        }
-
-    -- the points that are counted are there
-    pub count-inside : n.count ≤ length n.points
-    count-inside = omega (arith, p.counted.count_is, length-take n.count n.points)
-
     pub deep_fits : deep + 1 < 2 ^ 64
     deep_fits = omega (arith, p.deep_is, depth_bound 0 ps, p.counted.count_is, p.counted.count_fits)
 
@@ -211,20 +197,13 @@ module _
           counted = search rules;
         }
 
--- a turn that comes to a frame: the nest so far, the frame of a good line, and the piece that it tells
-pub record Turn (s : List ℕ) (n : DN.Nest) (ends : List ℕ) (single : Bool) (deep at line : ℕ) (f : Frame)
-    (x : DP.Piece) : Type 0 where
+-- a turn that comes to a frame: the nest so far, its points, the frame of a good line, and the piece that it tells
+pub record Turn (s : List ℕ) (n : DN.Nest) (ends : List ℕ) (single : Bool) (deep at line : ℕ) (ps : List ℕ)
+    (f : Frame) (x : DP.Piece) : Type 0 where
   pub so_far : Loading s n ends single deep at line
   pub frame_is : line_at s at ≡ Ok (Some f)
+  pub points_are : ps ≡ (nest_in n).points
   pub piece_is : IsPiece f x
-
-pub turned
-    : (f : Frame) (x : DP.Piece) {s : List ℕ} {n : DN.Nest} {ends : List ℕ} {single : Bool} {deep at line : ℕ}
-    → Loading s n ends single deep at line
-    → line_at s at ≡ Ok (Some f)
-    → IsPiece f x
-    → Turn s n ends single deep at line f x
-turned f x p h i = record { so_far = p; frame_is = h; piece_is = i }
 
 module _
     {s : List ℕ}
@@ -232,12 +211,22 @@ module _
     {ends : List ℕ}
     {single : Bool}
     {deep at line : ℕ}
+    {ps : List ℕ}
     {f : Frame}
     {x : DP.Piece}
-    (turn : Turn s n ends single deep at line f x)
+    (turn : Turn s n ends single deep at line ps f x)
   where
     abbrev p : Loading s n ends single deep at line
     p = turn.so_far
+
+    numbers : HasNumbers (nest_in n) (length ps) n.many n.bars deep
+    numbers =
+        record {
+          count_is = ap length (sym turn.points_are);
+          many_is = sym p.counted.many_is;
+          bars_is = sym p.counted.bars_is;
+          depth_is = sym p.deep_is;
+        }
 
     good : Good-line s at f
     good = good_line s at f turn.frame_is
@@ -312,9 +301,9 @@ module _
     at_unknown is = at_fault WrongKind (rw is)
 
     -- a point, with its refusal e
-    module _ (k e : ℕ) (is : x ≡ PV.Point k) (fault : PointFault n.count n.many n.bars deep k e) where
+    module _ (k e : ℕ) (is : x ≡ PV.Point k) (fault : PointFault (length ps) n.many n.bars deep k e) where
       point_told : e ≡ told_fault (nest_in n) (told_in x)
-      point_told = fault (nest_in n) (numbers s n ends single deep at line p) ∙ rw is
+      point_told = fault (nest_in n) numbers ∙ rw is
 
       pub at_point : (r : Refusal) → e ≡ number_of r → IsRead s (Err (record { refusal = r; line = line }))
       at_point r h = at_fault r (sym h ∙ point_told)
@@ -323,6 +312,10 @@ module _
       room_for_point z =
           let none : told_fault (nest_in n) (told_in x) ≡ 0 = sym point_told ∙ z in
           omega (arith, p.counted.count_is, point_room (nest_in n) k (rw is at none))
+
+      -- the nest with the point, and the points that it has then
+      pub counted_point : e ≡ 0 → IsCounted (stored.with-point n p.counted k)
+      counted_point z = (stored.point_added n p.counted k (room_for_point z) p.wide).counted
 
       pub on_point
           : (ends' : List ℕ) (single' : Bool) (d : ℕ)
@@ -353,9 +346,9 @@ module _
           u
 
     -- the DO of a flagged loop, with its refusal e
-    module _ (e : ℕ) (is : x ≡ PV.Flagged) (fault : PointFault n.count n.many n.bars deep DO e) where
+    module _ (e : ℕ) (is : x ≡ PV.Flagged) (fault : PointFault (length ps) n.many n.bars deep DO e) where
       flagged_told : e ≡ told_fault (nest_in n) (told_in x)
-      flagged_told = fault (nest_in n) (numbers s n ends single deep at line p) ∙ rw is
+      flagged_told = fault (nest_in n) numbers ∙ rw is
 
       pub at_flagged : (r : Refusal) → e ≡ number_of r → IsRead s (Err (record { refusal = r; line = line }))
       at_flagged r h = at_fault r (sym h ∙ flagged_told)
@@ -388,23 +381,16 @@ module _
           (record { long = p.knows.long; has_ends = λ w. absurd (omega (arith, w)) })
           (λ w. absurd (omega (arith, w)))
 
-    -- the count is that of the points themselves
-    of_points
-        : HasNumbers (nest_in n) n.count n.many n.bars deep
-        → HasNumbers (nest_in n) (length (nest_in n).points) n.many n.bars deep
-    of_points h =
-        record { count_is = refl; many_is = h.many_is; bars_is = h.bars_is; depth_is = h.depth_is }
-
     -- a dependence, with its refusal e
     module _
         (g : Dependence)
         (e : ℕ)
         (is : x ≡ PV.Dependence g)
-        (fault : DependenceFault (take n.count n.points) n.many deep g e)
+        (fault : DependenceFault ps n.many deep g e)
       where
         dependence_told : e ≡ told_fault (nest_in n) (told_in x)
         dependence_told =
-            fault (nest_in n) n.bars refl (of_points (numbers s n ends single deep at line p)) ∙ rw is
+            fault (nest_in n) n.bars (sym turn.points_are) numbers ∙ rw is
 
         pub at_dependence : (r : Refusal) → e ≡ number_of r → IsRead s (Err (record { refusal = r; line = line }))
         at_dependence r h = at_fault r (sym h ∙ dependence_told)
@@ -438,10 +424,10 @@ module _
     module _
         (g e : ℕ)
         (is : x ≡ PV.Barred g)
-        (fault : BarredFault (take n.count n.points) n.bars deep g e)
+        (fault : BarredFault ps n.bars deep g e)
       where
         bar_told : e ≡ told_fault (nest_in n) (told_in x)
-        bar_told = fault (nest_in n) n.many refl (of_points (numbers s n ends single deep at line p)) ∙ rw is
+        bar_told = fault (nest_in n) n.many (sym turn.points_are) numbers ∙ rw is
 
         pub at_barred : (r : Refusal) → e ≡ number_of r → IsRead s (Err (record { refusal = r; line = line }))
         at_barred r h = at_fault r (sym h ∙ bar_told)

@@ -26,7 +26,8 @@ use paper_nests::{
 use paper_placements::Placement;
 use paper_refusals::{Fault, Refusal};
 
-// What a frame of a nest text tells: a point, a dependence, a barred gap, a flagged DO, or nothing that is known.
+// What a frame of a nest text tells: a point, a dependence, a barred gap, a flagged DO, or nothing that is known. The kind
+// of a point is a byte here, as it is in the text before and in the nest's points after.
 #[derive(Clone, Copy)]
 pub enum Piece {
     Point(u8),
@@ -36,7 +37,19 @@ pub enum Piece {
     Unknown,
 }
 
-// The kind of barriers.
+// What is known of the nest that the lines so far have told: its points, how many dependences and barred gaps, how many
+// loops are open; and where none is, the ENDDO of every DO, and whether there is one loop only.
+#[derive(Clone, Copy)]
+struct SoFar<'a> {
+    points: &'a [u8],
+    many: usize,
+    bars: usize,
+    depth: usize,
+    ends: &'a [usize],
+    single: bool,
+}
+
+// The kind of barriers. This and the next are bytes of the texts: an enum would only be turned into them to be written.
 pub const BARRIER: u8 = 33;
 
 // The kind of counts.
@@ -64,64 +77,66 @@ pub fn read_nest(text: &[u8]) -> Result<Nest, Fault>
                 let here = line;
                 at = f.next;
                 line += 1;
+                let so_far = SoFar {
+                    points: nest.points(),
+                    many: nest.many,
+                    bars: nest.bars,
+                    depth,
+                    ends: &ends,
+                    single,
+                };
                 match piece_of(f) {
                     Piece::Point(kind) => {
-                        let count = nest.count;
-                        let fault = point_fault(count, nest.many, nest.bars, depth, kind);
+                        let fault = point_fault(&so_far, kind);
                         if let Err(refusal) = fault {
                             return Err(Fault {
                                 refusal,
                                 line: here,
                             });
                         }
+                        let count = nest.count;
                         nest.points[count] = kind;
                         nest.count = count + 1;
                         depth = deeper(depth, kind);
                         if depth == 0 {
-                            ends = ends_within(&nest.points, nest.count);
-                            single = is_single(&nest.points, nest.count);
+                            let points = nest.points();
+                            ends = ends_of(points);
+                            single = is_one_loop(points);
                         }
                     }
                     Piece::Dependence(e) => {
-                        let many = nest.many;
-                        let fault = dependence_fault(
-                            &nest.points,
-                            &ends,
-                            nest.count,
-                            many,
-                            depth,
-                            e,
-                        );
+                        let fault = dependence_fault(&so_far, e);
                         if let Err(refusal) = fault {
                             return Err(Fault {
                                 refusal,
                                 line: here,
                             });
                         }
+                        let many = nest.many;
                         nest.deps[many] = e;
                         nest.many = many + 1;
                     }
                     Piece::Barred(g) => {
-                        let bars = nest.bars;
-                        let fault = barred_fault(&nest.points, single, nest.count, bars, depth, g);
+                        let fault = barred_fault(&so_far, g);
                         if let Err(refusal) = fault {
                             return Err(Fault {
                                 refusal,
                                 line: here,
                             });
                         }
+                        let bars = nest.bars;
                         nest.barred[bars] = g;
                         nest.bars = bars + 1;
                     }
                     Piece::Flagged => {
-                        let count = nest.count;
-                        let fault = point_fault(count, nest.many, nest.bars, depth, DO);
+                        let fault = point_fault(&so_far, DO);
                         if let Err(refusal) = fault {
                             return Err(Fault {
                                 refusal,
                                 line: here,
                             });
                         }
+                        let count = nest.count;
                         let flags = nest.flags;
                         nest.points[count] = DO;
                         nest.count = count + 1;
@@ -231,69 +246,54 @@ fn piece_of(f: Frame) -> Piece
 }
 
 // Whether a point may come next, else its refusal, 3, 4 or 5.
-fn point_fault(
-    count: usize,
-    many: usize,
-    bars: usize,
-    depth: usize,
-    kind: u8,
-) -> Result<(), Refusal>
-    ensures { PointFault count many bars depth kind (number_in result) }
+fn point_fault(so_far: &SoFar, kind: u8) -> Result<(), Refusal>
+    ensures { PointFault
+        (length so_far.now.points.now)
+        so_far.now.many
+        so_far.now.bars
+        so_far.now.depth
+        kind
+        (number_in result) }
 {
-    if 1 <= many || 1 <= bars {
+    let count = so_far.points.len();
+    if 1 <= so_far.many || 1 <= so_far.bars {
         return Err(Refusal::LatePoint);
     }
-    if is_misplaced(count, depth, kind) {
+    if is_misplaced(count, so_far.depth, kind) {
         return Err(Refusal::Misplaced);
     }
-    if is_too_many(count, depth, kind) {
+    if is_too_many(count, so_far.depth, kind) {
         return Err(Refusal::TooMany);
     }
     Ok(())
 }
 
-// Whether a dependence may come after the first points, else its refusal, 4 to 7.
-fn dependence_fault(
-    all: &[u8],
-    ends: &[usize],
-    count: usize,
-    many: usize,
-    depth: usize,
-    e: Dependence,
-) -> Result<(), Refusal>
-    requires count_in_bounds { count ≤ length all.now }
-    requires knows_ends { KnowsEnds (take count all.now) depth ends.now }
-    ensures { DependenceFault (take count all.now) many depth e (number_in result) }
+// Whether a dependence may come next, else its refusal, 4 to 7.
+fn dependence_fault(so_far: &SoFar, e: Dependence) -> Result<(), Refusal>
+    requires { KnowsEnds so_far.now.points.now so_far.now.depth so_far.now.ends.now }
+    ensures { DependenceFault so_far.now.points.now so_far.now.many so_far.now.depth e (number_in result) }
 {
-    if !is_closed(count, depth) {
+    if !is_closed(so_far.points.len(), so_far.depth) {
         return Err(Refusal::Misplaced);
     }
-    if Nest::DEPENDENCES <= many {
+    if Nest::DEPENDENCES <= so_far.many {
         return Err(Refusal::TooMany);
     }
-    dep_fault(&all[..count], ends[e.d as usize], e)
+    dep_fault(so_far.points, so_far.ends[e.d as usize], e)
 }
 
-// Whether a barred gap may come after the first points, else its refusal, 4, 5, 8 or 14.
-fn barred_fault(
-    all: &[u8],
-    single: bool,
-    count: usize,
-    bars: usize,
-    depth: usize,
-    g: u8,
-) -> Result<(), Refusal>
-    requires count_in_bounds { count ≤ length all.now }
-    requires knows_one { KnowsOne (take count all.now) depth single }
-    ensures { BarredFault (take count all.now) bars depth g (number_in result) }
+// Whether a barred gap may come next, else its refusal, 4, 5, 8 or 14.
+fn barred_fault(so_far: &SoFar, g: u8) -> Result<(), Refusal>
+    requires { KnowsOne so_far.now.points.now so_far.now.depth so_far.now.single }
+    ensures { BarredFault so_far.now.points.now so_far.now.bars so_far.now.depth g (number_in result) }
 {
-    if !is_closed(count, depth) {
+    if !is_closed(so_far.points.len(), so_far.depth) {
         return Err(Refusal::Misplaced);
     }
-    if Nest::BARS <= bars {
+    if Nest::BARS <= so_far.bars {
         return Err(Refusal::TooMany);
     }
-    bar_fault(&all[..count], single, g)
+    bar_fault(so_far.points, so_far.single, g)
 }
 
 // All points are there.
@@ -315,25 +315,6 @@ fn is_too_many(count: usize, depth: usize, kind: u8) -> bool
     ensures { result ≡ too_many_by count depth kind }
 {
     Nest::POINTS <= count || (kind == DO && Nest::DEPTH <= depth)
-}
-
-// The ENDDO of every DO among the first points, by the DO's point.
-fn ends_within(all: &[u8], count: usize) -> [usize; Nest::POINTS]
-    requires count_in_bounds { count ≤ length all.now }
-    requires count_bound { count ≤ POINTS }
-    ensures { HasEnds (take count all.now) result }
-{
-    let points = &all[..count];
-    ends_of(points)
-}
-
-// The first points are those of one loop.
-fn is_single(all: &[u8], count: usize) -> bool
-    requires { count ≤ length all.now }
-    ensures { result ≡ one_loop (take count all.now) }
-{
-    let points = &all[..count];
-    is_one_loop(points)
 }
 
 // The length of a placement's text.
