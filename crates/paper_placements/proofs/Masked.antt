@@ -13,7 +13,7 @@ use Rattle.paper_nests.specs.Nests.{Nest}
 use Rattle.paper_nests.specs.Loops.{owner_of}
 use Rattle.paper_placements.specs.Placements.{loop_count, are_gaps_from}
 use Rattle.paper_placements.specs.Words.{GAPS, holds, kept, gaps_of, gaps_in}
-use Rattle.paper_placements.specs.Answers.{IsMask}
+use Rattle.paper_placements.specs.Answers.{IsMask, LoopCountSays}
 use Rattle.paper_placements.proofs.Words.{in_gaps}
 use Rattle.paper_placements.proofs.Lowest.{at_word}
 use Rattle.paper_placements.proofs.Rising.{rising_in}
@@ -90,6 +90,15 @@ count_masked n ws ms d h m =
         let z = rising_in 0 (length n.points) (gaps_in ws) j h (in_gaps ws j l ∙ e) in
         m j z.0 z.1
     go j l false e = refl
+
+-- so the ones under the mask are the count of the loop in each nest with these points
+pub masked_count
+    : (ps ws ms : List ℕ) (d r : ℕ)
+    → are_gaps_from 0 (length ps) (gaps_in ws) ≡ true
+    → IsMask ps d ms
+    → r ≡ tally (λ (g : ℕ). holds ws g && holds ms g) GAPS 0
+    → LoopCountSays ps d ws r
+masked_count ps ws ms d r h m e n same = e ∙ count_masked n ws ms d (rw same h) (rw same m)
 
 -- how many gaps there are
 size_of : (x : ℕ → Bool) (k g : ℕ) → length (gaps_of x k g) ≡ tally x k g

@@ -57,7 +57,8 @@ impl Placement {
         (self.words[g / 64] >> (g % 64)) & 1 == 1
     }
 
-    // The lowest gap at or above lo; 256 for none.
+    // The lowest gap at or above lo; 256 for none. An Option would be turned into that number again: ranges end with it,
+    // the lower of two such gaps is their `min`, and the laws of loops over gaps count up to it.
     pub fn lowest_from(self, lo: usize) -> usize
         ensures { LowestFrom self.words lo result }
     {
