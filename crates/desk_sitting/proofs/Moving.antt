@@ -1,7 +1,6 @@
 -- A move goes through the dependences from the last to the first and writes the counts of those that have its gap.
--- Main statements: `Moving`, what a turn keeps; `Move-start`, `move_past`, `move_done`; where the count rises,
--- `rise_fits`, `rise_uncut`, `rise_first`, `rise_more`; where it falls, `fall_fits`, `fall_uncut`, `fall_last`,
--- `fall_more`.
+-- Main statements: `Moving`, what a turn keeps; `Move-start`, `move_past`, `move_on`, `move_done`; `uncut_least`,
+-- `uncut_most`.
 use mathlib.Core.Path.{◌≡◌, refl, sym, ap, ◌∙◌}
 use mathlib.Core.List.{List, ◌∷◌}
 use mathlib.Core.Logic.{⊎_elim}
@@ -10,13 +9,12 @@ use native.Mathlib.Omega.{arith}
 use lib.Dec.{eqb}
 use lib.ListN.{length, get_or, set, take, drop, length-set, length-drop}
 use lib.Seq.{get_or-set_same, get_or-set_other, take-length, drop-length, length-take-le}
-use borrow.Author.Tests.{eq-eqb, ne_eqb}
 use Rattle.laws.specs.Bits.{one}
 use Rattle.laws.proofs.Tests.{le_or}
 use Rattle.paper_nests.specs.Kinds.{DEPENDENCES}
 use Rattle.paper_nests.specs.Nests.{Dep, Nest}
 use Rattle.desk_sitting.specs.Counts.{cut_count, count_at, uncut_count}
-use Rattle.desk_sitting.proofs.Counts.{count-at, count_beyond, count_short, uncut_take, uncut_drop, uncut_few}
+use Rattle.desk_sitting.proofs.Counts.{count-at, count_beyond, uncut_take, uncut_drop, uncut_few}
 
 -- from i on the counts are those of the barriers after the move, before i those of the barriers before it
 pub record Moving (n : Nest) (before after : List ℕ) (i : ℕ) (counts : List ℕ) (uncut : ℕ) : Type 0 where
@@ -139,7 +137,7 @@ module _
     turn : Moving n before after (suc (i - 1)) counts uncut
     turn = let z : suc (i - 1) ≡ i = omega (arith, t.some) in rw z t.moving
 
-    kept_is : get_or counts (i - 1) 0 ≡ old_count
+    pub kept_is : get_or counts (i - 1) 0 ≡ old_count
     kept_is = kept_now n before after (i - 1) counts uncut turn e t.here
 
     inside : i - 1 < DEPENDENCES
@@ -149,68 +147,30 @@ module _
     pub move_past : new_count ≡ old_count → Moving n before after (i - 1) counts uncut
     move_past = past n before after (i - 1) counts uncut turn e t.here
 
-    written_as
+    -- it is among the uncut if no barrier cuts it
+    pub uncut_least : one (eqb (get_or counts (i - 1) 0) 0) ≤ uncut
+    uncut_least =
+        let y : one (eqb (get_or counts (i - 1) 0) 0) ≡ one (eqb old_count 0) = ap (λ (x : ℕ). one (eqb x 0)) kept_is in
+        omega (arith, y, uncut_now n before after (i - 1) counts uncut turn e t.here)
+
+    pub uncut_most : uncut ≤ DEPENDENCES
+    uncut_most =
+        omega (
+          arith,
+          t.moving.uncut_is,
+          uncut_few n.points (take i n.deps) before,
+          uncut_few n.points (drop i n.deps) after,
+          length-take-le i n.deps t.moving.within,
+          length-drop i n.deps,
+          t.few,
+        )
+
+    -- its new count is written, and the uncut told by both counts
+    pub move_on
         : (c uncut' : ℕ)
         → c ≡ new_count
-        → uncut' + one (eqb old_count 0) ≡ uncut + one (eqb new_count 0)
+        → uncut' + one (eqb (get_or counts (i - 1) 0) 0) ≡ uncut + one (eqb c 0)
         → Moving n before after (i - 1) (set counts (i - 1) c) uncut'
-    written_as c uncut' = write n before after (i - 1) counts uncut turn e t.here c uncut' inside
-
-    -- one more barrier cuts it
-    module _ (more : new_count ≡ old_count + 1) where
-      pub rise_fits : length after < 256 → get_or counts (i - 1) 0 + 1 < 256
-      rise_fits h = omega (arith, kept_is, count_short n.points e after)
-
-      pub rise_uncut : get_or counts (i - 1) 0 ≡ 0 → 1 ≤ uncut
-      rise_uncut z =
-          let y : one (eqb old_count 0) ≡ 1 = ap one (eq-eqb old_count 0 (sym kept_is ∙ z)) in
-          omega (arith, uncut_now n before after (i - 1) counts uncut turn e t.here)
-
-      pub rise_first
-          : get_or counts (i - 1) 0 ≡ 0
-          → Moving n before after (i - 1) (set counts (i - 1) (get_or counts (i - 1) 0 + 1)) (uncut - 1)
-      rise_first z =
-          let y : one (eqb old_count 0) ≡ 1 = ap one (eq-eqb old_count 0 (sym kept_is ∙ z)) in
-          let x : one (eqb new_count 0) ≡ 0 = ap one (ne_eqb new_count 0 (λ w. omega arith)) in
-          written_as (get_or counts (i - 1) 0 + 1) (uncut - 1) (omega (arith, kept_is)) (omega (arith, rise_uncut z))
-
-      pub rise_more
-          : (get_or counts (i - 1) 0 ≡ 0 → ⊥)
-          → Moving n before after (i - 1) (set counts (i - 1) (get_or counts (i - 1) 0 + 1)) uncut
-      rise_more z =
-          let y : one (eqb old_count 0) ≡ 0 = ap one (ne_eqb old_count 0 (λ w. z (kept_is ∙ w))) in
-          let x : one (eqb new_count 0) ≡ 0 = ap one (ne_eqb new_count 0 (λ w. omega arith)) in
-          written_as (get_or counts (i - 1) 0 + 1) uncut (omega (arith, kept_is)) (omega arith)
-
-    -- one barrier less cuts it
-    module _ (less : old_count ≡ new_count + 1) where
-      pub fall_fits : 1 ≤ get_or counts (i - 1) 0
-      fall_fits = omega (arith, kept_is)
-
-      pub fall_uncut : uncut ≤ DEPENDENCES
-      fall_uncut =
-          omega (
-            arith,
-            t.moving.uncut_is,
-            uncut_few n.points (take i n.deps) before,
-            uncut_few n.points (drop i n.deps) after,
-            length-take-le i n.deps t.moving.within,
-            length-drop i n.deps,
-            t.few,
-          )
-
-      pub fall_last
-          : get_or counts (i - 1) 0 ≡ 1
-          → Moving n before after (i - 1) (set counts (i - 1) (get_or counts (i - 1) 0 - 1)) (uncut + 1)
-      fall_last z =
-          let y : one (eqb old_count 0) ≡ 0 = ap one (ne_eqb old_count 0 (λ w. omega arith)) in
-          let x : one (eqb new_count 0) ≡ 1 = ap one (eq-eqb new_count 0 (omega (arith, kept_is))) in
-          written_as (get_or counts (i - 1) 0 - 1) (uncut + 1) (omega (arith, kept_is)) (omega arith)
-
-      pub fall_more
-          : (get_or counts (i - 1) 0 ≡ 1 → ⊥)
-          → Moving n before after (i - 1) (set counts (i - 1) (get_or counts (i - 1) 0 - 1)) uncut
-      fall_more z =
-          let y : one (eqb old_count 0) ≡ 0 = ap one (ne_eqb old_count 0 (λ w. omega arith)) in
-          let x : one (eqb new_count 0) ≡ 0 = ap one (ne_eqb new_count 0 (λ w. z (omega (arith, kept_is)))) in
-          written_as (get_or counts (i - 1) 0 - 1) uncut (omega (arith, kept_is)) (omega arith)
+    move_on c uncut' is both =
+        write n before after (i - 1) counts uncut turn e t.here c uncut' inside is
+        (rw (is, kept_is) at both)

@@ -5,10 +5,10 @@ ghost use Rattle.std.specs.Prelude.{◌≡◌, true, false, ◌&&◌, not, ℕ, 
 ghost use Rattle.paper_nests.specs.Kinds.{POINTS};
 ghost use Rattle.paper_nests.specs.Valid.{is_shape};
 ghost use Rattle.paper_nests.specs.Stored.{nest_in};
-ghost use Rattle.paper_placements.specs.Words.{GAPS, holds};
+ghost use Rattle.paper_placements.specs.Words.{GAPS, holds, gaps_in};
 ghost use Rattle.desk_sitting.specs.Around.{AreAround, GapSays};
 ghost use Rattle.desk_sitting.specs.Kept.{barriers, Ready, EmptySays, PutSays, LiftSays};
-ghost use Rattle.desk_sitting.specs.Recounts.{after_move, CountsAre};
+ghost use Rattle.desk_sitting.specs.Recounts.{Steps, CountsAre};
 
 use paper_nests::{Dependence, Nest};
 use paper_placements::Placement;
@@ -42,10 +42,7 @@ pub fn put(nest: Nest, s: Sitting, g: usize) -> Sitting
     requires g_value { holds s.placement.words g ≡ false }
     ensures { PutSays (nest_in nest) g s result }
 {
-    Sitting {
-        placement: s.placement.put(g),
-        ..recounted(nest, s, g, true)
-    }
+    recounted(nest, s, g, s.placement.put(g), |c| c + 1)
 }
 
 // The sitting without the barrier at gap g.
@@ -54,17 +51,20 @@ pub fn lift(nest: Nest, s: Sitting, g: usize) -> Sitting
     requires g_value { holds s.placement.words g ≡ true }
     ensures { LiftSays (nest_in nest) g s result }
 {
-    Sitting {
-        placement: lifted(s.placement, g),
-        ..recounted(nest, s, g, false)
-    }
+    recounted(nest, s, g, lifted(s.placement, g), |c| c - 1)
 }
 
-// The sitting with the counts of one more barrier, at gap g, or of one less; its placement is still the old one.
-fn recounted(nest: Nest, s: Sitting, g: usize, put: bool) -> Sitting
+// The sitting with this placement, which differs at gap g: `step` makes the new count of each dependence that has the gap.
+fn recounted<F: Fn(u8) -> u8>(
+    nest: Nest,
+    s: Sitting,
+    g: usize,
+    placement: Placement,
+    step: F,
+) -> Sitting
     requires ready { Ready nest s g }
-    requires g_value { holds s.placement.words g ≡ not put }
-    ensures { CountsAre (nest_in nest) (after_move put g (barriers s)) result }
+    requires steps { Steps (nest_in nest) g (barriers s) (gaps_in placement.words) (F.pre step) (F.post step) }
+    ensures { CountsAre (nest_in nest) placement result }
 {
     let around = loops_around(nest.points(), g);
     let mut counts = s.counts;
@@ -73,20 +73,16 @@ fn recounted(nest: Nest, s: Sitting, g: usize, put: bool) -> Sitting
         let e = nest.deps[i];
         if has_gap(e, g, around[e.d as usize]) {
             let c = counts[i];
-            if put {
-                counts[i] = c + 1;
-                if c == 0 {
-                    uncut -= 1;
-                }
-            } else {
-                counts[i] = c - 1;
-                if c == 1 {
-                    uncut += 1;
-                }
-            }
+            let next = step(c);
+            counts[i] = next;
+            uncut = uncut + usize::from(next == 0) - usize::from(c == 0);
         }
     }
-    Sitting { counts, uncut, ..s }
+    Sitting {
+        placement,
+        counts,
+        uncut,
+    }
 }
 
 // Of each DO before gap g, whether its loop is around the gap: one walk back from the gap.

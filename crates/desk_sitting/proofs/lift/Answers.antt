@@ -1,11 +1,21 @@
--- `lift` meets its contract: the counts are those of `recounted`, the placement has a gap less (`lift_says`).
-use Rattle.desk_sitting.proofs.Outcome.{lift_says}
+-- `lift` meets its contract: the placement has a gap less (`lift_says`), and the step fits it (`lift_steps`).
+use native.Mathlib.Omega.{arith}
+use borrow.Author.Rules.{rules}
+use Rattle.desk_sitting.proofs.Outcome.{lift_says, lift_steps}
 use Rattle.desk_sitting.proofs.lift.Goals as goal
+
+pub recounted-requires : goal.recounted-requires
+recounted-requires c =
+    let q = c.requires in
+    record {
+      ready = q.ready;
+      steps =
+          lift_steps q.ready q.g_value c.lifted.result c.lifted.ensures
+          (λ x h k p m r. omega (arith, h))
+          (λ x y e. search rules);
+    }
 
 pub returns : goal.returns
 returns c =
-    let r = c.recounted in
-    lift_says c.requires.ready c.requires.g_value
-    (record { placement = c.lifted.result; counts = r.result.counts; uncut = r.result.uncut })
-    c.lifted.ensures
-    (record { counts_are = r.ensures.counts_are; uncut_is = r.ensures.uncut_is })
+    let q = c.requires in
+    lift_says q.ready q.g_value c.lifted.result c.lifted.ensures c.recounted.result c.recounted.ensures

@@ -1,11 +1,21 @@
--- `put` meets its contract: the counts are those of `recounted`, the placement has a gap more (`put_says`).
-use Rattle.desk_sitting.proofs.Outcome.{put_says}
+-- `put` meets its contract: the placement has a gap more (`put_says`), and the step fits it (`put_steps`).
+use native.Mathlib.Omega.{arith}
+use borrow.Author.Rules.{rules}
+use Rattle.desk_sitting.proofs.Outcome.{put_says, put_steps}
 use Rattle.desk_sitting.proofs.put.Goals as goal
+
+pub recounted-requires : goal.recounted-requires
+recounted-requires c =
+    let q = c.requires in
+    record {
+      ready = q.ready;
+      steps =
+          put_steps q.ready q.g_value c.put.result c.put.ensures
+          (λ x h k p m r. omega (arith, h))
+          (λ x y e. search rules);
+    }
 
 pub returns : goal.returns
 returns c =
-    let r = c.recounted in
-    put_says c.requires.ready c.requires.g_value
-    (record { placement = c.put.result; counts = r.result.counts; uncut = r.result.uncut })
-    c.put.ensures
-    (record { counts_are = r.ensures.counts_are; uncut_is = r.ensures.uncut_is })
+    let q = c.requires in
+    put_says q.ready q.g_value c.put.result c.put.ensures c.recounted.result c.recounted.ensures
