@@ -23,7 +23,7 @@ pub struct Lines<'a> {
 }
 
 // The row of the loop d with its ENDDO e, from the row of the loops directly inside it, which is the one before; four
-// lists are lent for what is made on the way.
+// lists are lent for what is made on the way. What is written stands beside each other for the reasons at `follow_all`.
 pub fn make_row(
     chart: &Chart,
     lines: &Lines,
@@ -124,26 +124,24 @@ fn choose(
     ensures kept { Kept left.old left.new (base + d) (base + e) }
     ensures kept_2 { Kept choice.old choice.new (base + d) (base + e) }
 {
-    let mut f = 0;
-    let mut at = 0;
+    let mut best = Leftmost { f: 0, at: 0 };
     for q in (d + 1..e + 1).rev() {
-        let best = better(f, at, m, q as u16, cs[q], fs[q]);
-        f = best.f;
-        at = best.at;
-        left[base + q] = f;
-        choice[base + q] = at;
+        let v = Front { c: cs[q], f: fs[q] };
+        best = better(best, m, q as u16, v);
+        left[base + q] = best.f;
+        choice[base + q] = best.at;
     }
 }
 
 // The front so far, or that of the suffix q where it has m barriers and its front is no further right.
 #[tactic(auto, unfolding(plan_method::specs::Sweep::better))]
-fn better(f: u16, at: u16, m: u16, q: u16, c: u16, here: u16) -> Leftmost
-    ensures { BetterSays f at m q c here result.f result.at }
+fn better(best: Leftmost, m: u16, q: u16, v: Front) -> Leftmost
+    ensures { BetterSays best.f best.at m q v.c v.f result.f result.at }
 {
-    if c == m && (f == 0 || here <= f) {
-        Leftmost { f: here, at: q }
+    if v.c == m && (best.f == 0 || v.f <= best.f) {
+        Leftmost { f: v.f, at: q }
     } else {
-        Leftmost { f, at }
+        best
     }
 }
 
@@ -179,7 +177,7 @@ fn values(
         }
     }
     for q in late..e + 1 {
-        let v = closed(cs[q], fs[q], limit[base + q], d);
+        let v = closed(Front { c: cs[q], f: fs[q] }, limit[base + q], d);
         cs[q] = v.c;
         fs[q] = v.f;
         m = m.min(v.c);
@@ -200,16 +198,16 @@ fn ceiling(c: u16, d: usize, e: usize, first: usize) -> u16
 
 // A sweep's barriers and front, with a barrier right after the DO where the front lies beyond the limit.
 #[tactic(auto, unfolding(plan_method::specs::Sweep::close, plan_method::specs::Sweep::put))]
-fn closed(c: u16, f: u16, limit: u16, d: usize) -> Front
-    requires c_bound { c < 256 }
+fn closed(v: Front, limit: u16, d: usize) -> Front
+    requires c_bound { v.c < 256 }
     requires d_bound { d < 256 }
-    ensures { CloseSays d limit c f result.c result.f }
+    ensures { CloseSays d limit v.c v.f result.c result.f }
 {
-    if f <= limit {
-        Front { c, f }
+    if v.f <= limit {
+        v
     } else {
         Front {
-            c: c + 1,
+            c: v.c + 1,
             f: (d + 1) as u16,
         }
     }

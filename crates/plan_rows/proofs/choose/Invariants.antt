@@ -5,4 +5,4 @@ use Rattle.plan_rows.proofs.choose.Given as goal
 
 abbrev pub invariant-loop-q : goal.invariant-loop-q
 invariant-loop-q l =
-    Choosing l.cs l.fs l.m l.initial.left l.initial.choice l.base l.d l.e l.left l.choice l.f l.at (l.q - 1)
+    Choosing l.cs l.fs l.m l.initial.left l.initial.choice l.base l.d l.e l.left l.choice l.best.f l.best.at (l.q - 1)
