@@ -1,5 +1,5 @@
 -- A loop in which nothing is to be cut, nor in the loops inside it: its rows are 0, as they were.
--- Main statements: `quiet_row`, `quiet_done`; for the search `quiet_more`, `quiet_all`, `quiet_not`.
+-- Main statements: `quiet_row`, `quiet_done`.
 use mathlib.Core.Path.{◌≡◌, refl, sym, ◌∙◌}
 use mathlib.Core.Bool.{Bool, true, false}
 use mathlib.Core.List.{List}
@@ -18,22 +18,9 @@ use Rattle.plan_method.proofs.World.{LoopLaws}
 use Rattle.plan_method.proofs.Instance.{loop_laws}
 use Rattle.plan_method.proofs.Rows.{Holder, some_home, row_idle}
 use Rattle.plan_sweeps.specs.Listed.{row}
-use Rattle.plan_settle.specs.Settled.{HasHeight, LinesAt, Quiet, QuietSays, Unset, SettleSays}
+use Rattle.plan_settle.specs.Settled.{HasHeight, LinesAt, Quiet, Unset, SettleSays}
 use Rattle.plan_settle.proofs.Heights.{height_low, height_high}
 use Rattle.plan_settle.proofs.Calls.{Call}
-
--- the loops before i are no homes
-pub quiet_more : (has : List ℕ) (d i : ℕ) → Quiet has d i → at has i ≡ 0 → Quiet has d (i + 1)
-quiet_more has d i s h l a b = ⊎_elim
-    (λ (z : l ≡ i). rw z h)
-    (λ (z : l ≡ i → ⊥). s l a (omega arith))
-    (eq_or l i)
-
-pub quiet_all : (has : List ℕ) (d e i : ℕ) → Quiet has d i → e ≤ i → QuietSays has d e true
-quiet_all has d e i s h = record { none = λ z l a b. s l a (omega arith); all = λ z. refl }
-
-pub quiet_not : (has : List ℕ) (d e i : ℕ) → d ≤ i → i < e → (at has i ≡ 0 → ⊥) → QuietSays has d e false
-quiet_not has d e i a b h = record { none = λ z. never_both z refl; all = λ s. absurd (h (s i a b)) }
 
 -- what is no home
 one_none : (b : Bool) → one b ≡ 0 → b ≡ false
