@@ -20,6 +20,7 @@ pub struct Rows<'a> {
 
 // What the loop d lays for the suffix that starts at q, added to a placement. The loops inside write to their own part
 // of the row that is swept, which the sweep has passed by then.
+#[tactic(auto, using(paper_nests::proofs::Loops::end_there))]
 pub fn lay(
     chart: &Chart,
     lines: &Lines,

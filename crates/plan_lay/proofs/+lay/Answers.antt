@@ -29,41 +29,21 @@ still
     → 256 ≤ length now
 still need copy now last m room sized same = omega (arith, length-set copy last m)
 
-pub overflow_add-base : goal.overflow_add-base
-overflow_add-base t c =
-    let r = c.requires in
-    let a = called r.charts r.lay_room r.d_value r.has_height r.d_lt_q r.q_bound r.choices in
-    omega arith
-
-pub offset_bounds-rows-base : goal.offset_bounds-rows-base
-offset_bounds-rows-base t c =
-    let r = c.requires in
-    let a = called r.charts r.lay_room r.d_value r.has_height r.d_lt_q r.q_bound r.choices in
-    omega arith
-
-pub bounds-rows-base : goal.bounds-rows-base
-bounds-rows-base t c =
-    let r = c.requires in
-    let a = called r.charts r.lay_room r.d_value r.has_height r.d_lt_q r.q_bound r.choices in
-    omega arith
-
 pub returns-then-rows-base-eq0-clause-lay_says : goal.returns-then-rows-base-eq0-clause-lay_says
 returns-then-rows-base-eq0-clause-lay_says t c =
     let r = c.requires in
     let a = called r.charts r.lay_room r.d_value r.has_height r.d_lt_q r.q_bound r.choices in
     blank a c.args.key.words c.if-rows-base-eq0.true
 
-pub bounds-rows-base-2 : goal.bounds-rows-base-2
-bounds-rows-base-2 t c =
-    let r = c.requires in
-    let a = called r.charts r.lay_room r.d_value r.has_height r.d_lt_q r.q_bound r.choices in
-    omega arith
-
 pub copy_row-requires : goal.copy_row-requires
 copy_row-requires t c =
     let r = c.requires in
     let a = called r.charts r.lay_room r.d_value r.has_height r.d_lt_q r.q_bound r.choices in
-    record { e_in_bounds = omega arith; e_in_bounds_2 = omega (arith, c.requires.in_bounds, a.short, a.charts.few); d_lt_e = omega (arith, a.long) }
+    record {
+      e_in_bounds = omega arith;
+      e_in_bounds_2 = omega (arith, c.requires.in_bounds, a.short, a.charts.few);
+      d_lt_e = omega (arith, a.long);
+    }
 
 pub bounds-need-last : goal.bounds-need-last
 bounds-need-last t c =
@@ -79,23 +59,11 @@ bounds-need-last-2 t c =
     let x = picked a c.if-rows-base-eq0.false in
     omega (arith, c.requires.in_bounds, a.short, a.charts.few, c.copy_row.auto.xs)
 
-pub overflow_add-f : goal.overflow_add-f
-overflow_add-f t c =
-    let r = c.requires in
-    let a = called r.charts r.lay_room r.d_value r.has_height r.d_lt_q r.q_bound r.choices in
-    omega arith
-
 pub loop-p-init : goal.loop-p-init
 loop-p-init t c =
     let r = c.requires in
     let a = called r.charts r.lay_room r.d_value r.has_height r.d_lt_q r.q_bound r.choices in
     begin a
-
-pub bounds-chart-before : goal.bounds-chart-before
-bounds-chart-before t c =
-    let r = c.requires in
-    let a = called r.charts r.lay_room r.d_value r.has_height r.d_lt_q r.q_bound r.choices in
-    omega arith
 
 pub overflow_sub-base : goal.overflow_sub-base
 overflow_sub-base t c =
@@ -108,13 +76,12 @@ step_child-s-requires t c =
     let r = c.requires in
     let a = called r.charts r.lay_room r.d_value r.has_height r.d_lt_q r.q_bound r.choices in
     let room = still _ _ _ _ _ r.in_bounds c.copy_row.auto.xs c.loop-p.invariant.shared.size in
-    record { p_in_bounds = omega arith; p_in_bounds_2 = omega arith; l_le_p = a.charts.own_low (c.loop-p.p - 1); c_in_bounds = omega (arith, c.loop-p.invariant.small) }
-
-pub put_where-more-requires : goal.put_where-more-requires
-put_where-more-requires t c =
-    let r = c.requires in
-    let a = called r.charts r.lay_room r.d_value r.has_height r.d_lt_q r.q_bound r.choices in
-    omega arith
+    record {
+      p_in_bounds = omega arith;
+      p_in_bounds_2 = omega arith;
+      l_le_p = a.charts.own_low (c.loop-p.p - 1);
+      c_in_bounds = omega (arith, c.loop-p.invariant.small);
+    }
 
 pub overflow_sub-h : goal.overflow_sub-h
 overflow_sub-h t c =
@@ -143,24 +110,12 @@ loop-p-preserved-then-chart-before-eq-ENDDO t c =
     c.step_child-s.ensures c.put_where-more.result.words c.put_where-more.ensures c.lay-k.ensures.lay_says c.lay-k.auto.need
     c.lay-k.ensures.kept
 
-pub offset_bounds-need-p : goal.offset_bounds-need-p
-offset_bounds-need-p t c =
-    let r = c.requires in
-    let a = called r.charts r.lay_room r.d_value r.has_height r.d_lt_q r.q_bound r.choices in
-    omega arith
-
 pub bounds-need-p : goal.bounds-need-p
 bounds-need-p t c =
     let r = c.requires in
     let a = called r.charts r.lay_room r.d_value r.has_height r.d_lt_q r.q_bound r.choices in
     let room = still _ _ _ _ _ r.in_bounds c.copy_row.auto.xs c.loop-p.invariant.shared.size in
     omega (arith, room, c.loop-p.invariant.high, a.short, a.charts.few)
-
-pub put-k-requires : goal.put-k-requires
-put-k-requires t c =
-    let r = c.requires in
-    let a = called r.charts r.lay_room r.d_value r.has_height r.d_lt_q r.q_bound r.choices in
-    omega arith
 
 pub loop-p-preserved-then-need-p : goal.loop-p-preserved-then-need-p
 loop-p-preserved-then-need-p t c =
