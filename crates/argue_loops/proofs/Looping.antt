@@ -1,5 +1,5 @@
 -- The claims of all loops, from the last DO to the first.
--- Main definition: `Looping`, what a turn keeps. Main statements: `loops_begin`, `loops-on`, `loops_done`.
+-- Main definition: `Looping`, what a turn keeps. Main statements: `loops_begin`, `loops_on`, `loops_done`.
 use mathlib.Core.Path.{◌≡◌, refl, sym, ◌∙◌, ap}
 use mathlib.Core.List.{List, [], ◌++◌, append-nil, append_assoc}
 use Prim.Native.Nat.{ℕ, zero, suc, ◌+◌, ◌-◌, ◌*◌, ◌≤◌, ◌<◌}
@@ -9,9 +9,9 @@ use Rattle.paper_nests.specs.declared.Nest as DN
 use Rattle.paper_nests.specs.Stored.{nest_in}
 use Rattle.plan_method.specs.Sweep.{Tables}
 use Rattle.argue_texts.specs.ArgumentTexts.{argument_text}
+use Rattle.argue_texts.specs.declared.Claimed.{Claimed}
 use Rattle.argue_key.specs.Laps.{Head, loop_heads, heads_from}
 use Rattle.argue_spell.proofs.Adding.{added_none}
-use Rattle.argue_trace.specs.Traced.{claims_at}
 use Rattle.argue_give.specs.Given.{bare_all, Gives}
 use Rattle.argue_give.proofs.Giving.{gives_none, gives_then}
 use Rattle.argue_loops.specs.Whole.{TableGround, ListsRoom, GivenAll}
@@ -27,25 +27,29 @@ heads_top ps T (suc k) d hs =
 
 pub record Looping
     (nest : DN.Nest)
-    (ps own left reach numbers costs loops₀ froms₀ uptos₀ out₀ need sets loops froms uptos out : List ℕ)
+    (ps own left reach numbers costs : List ℕ)
+    (claims₀ : List Claimed)
+    (out₀ need sets : List ℕ)
+    (claims : List Claimed)
+    (out : List ℕ)
     (at many d : ℕ)
     : Type 0 where
   pub high : d ≤ length ps
-  pub room : ListsRoom need sets loops froms uptos
+  pub room : ListsRoom need sets claims
   pub size : length out ≡ length out₀
   pub fewer : many + 258 * d ≤ 258 * length ps
   pub done : Tables → List Head
   pub gives
-      : Gives ps (nest_in nest).deps (TableGround nest ps own left reach numbers costs) done out₀ 0 loops₀ froms₀ uptos₀
-      0 out at loops froms uptos many
+      : Gives ps (nest_in nest).deps (TableGround nest ps own left reach numbers costs) done out₀ 0 claims₀
+      0 out at claims many
   pub rest
       : (T : Tables)
       → TableGround nest ps own left reach numbers costs T
       → done T ++ heads_from ps T d 0 [] ≡ heads_from ps T (length ps) 0 []
 
-module _ {nest : DN.Nest} {ps own left reach numbers costs loops₀ froms₀ uptos₀ out₀ : List ℕ} where
-  pub loops_begin : {need sets : List ℕ} → ListsRoom need sets loops₀ froms₀ uptos₀ →
-      Looping nest ps own left reach numbers costs loops₀ froms₀ uptos₀ out₀ need sets loops₀ froms₀ uptos₀ out₀ 0 0
+module _ {nest : DN.Nest} {ps own left reach numbers costs : List ℕ} {claims₀ : List Claimed} {out₀ : List ℕ} where
+  pub loops_begin : {need sets : List ℕ} → ListsRoom need sets claims₀ →
+      Looping nest ps own left reach numbers costs claims₀ out₀ need sets claims₀ out₀ 0 0
       (length ps)
   loops_begin r =
       record {
@@ -58,16 +62,16 @@ module _ {nest : DN.Nest} {ps own left reach numbers costs loops₀ froms₀ upt
         rest = λ T g. refl;
       }
 
-  module _ {need sets loops froms uptos out : List ℕ} {at many d : ℕ}
-      (p : Looping nest ps own left reach numbers costs loops₀ froms₀ uptos₀ out₀ need sets loops froms uptos out at many d)
+  module _ {need sets : List ℕ} {claims : List Claimed} {out : List ℕ} {at many d : ℕ}
+      (p : Looping nest ps own left reach numbers costs claims₀ out₀ need sets claims out at many d)
     where
-      pub loops-on : {need' sets' loops' froms' uptos' out' : List ℕ} {at' many' : ℕ} → 0 < d →
+      pub loops_on : {need' sets' : List ℕ} {claims' : List Claimed} {out' : List ℕ} {at' many' : ℕ} → 0 < d →
           Gives ps (nest_in nest).deps (TableGround nest ps own left reach numbers costs)
-          (λ T. loop_heads ps T (d - 1)) out at loops froms uptos many out' at' loops' froms' uptos' many' →
-          ListsRoom need' sets' loops' froms' uptos' → length out' ≡ length out → many' ≤ many + 258 →
-          Looping nest ps own left reach numbers costs loops₀ froms₀ uptos₀ out₀ need' sets' loops' froms' uptos' out'
+          (λ T. loop_heads ps T (d - 1)) out at claims many out' at' claims' many' →
+          ListsRoom need' sets' claims' → length out' ≡ length out → many' ≤ many + 258 →
+          Looping nest ps own left reach numbers costs claims₀ out₀ need' sets' claims' out'
           at' many' (d - 1)
-      loops-on l g r o m =
+      loops_on l g r o m =
           record {
             high = omega (arith, p.high);
             room = r;
@@ -87,7 +91,7 @@ module _ {nest : DN.Nest} {ps own left reach numbers costs loops₀ froms₀ upt
               rw (z, y) at (heads_top ps T (d - 1) 0 [])
 
       pub loops_done : d ≤ 0 → GivenAll nest ps own left reach numbers costs out₀ out many at
-      unfolding heads_from bare_all claims_at argument_text
+      unfolding heads_from bare_all argument_text
       loops_done l =
           record {
             many_is = λ T g. rw (← whole T g) (p.gives.many_is T g ∙ omega arith);

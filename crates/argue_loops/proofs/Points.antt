@@ -1,10 +1,13 @@
 -- The claims of the loop at a point, from the tables of the nest.
--- Main statements: `point_other`, `point_idle`, `point_heads`, `point_room`, `point_row`, `point_ground`.
+-- Main definition: `Placed`. Main statements: `point_other`, `lists_after`, `placed`, `point_row`,
+-- `point_room`, `point_idle`, `point_heads`, `point_ground`.
 use mathlib.Core.Path.{◌≡◌, ◌∙◌, ap}
 use mathlib.Core.Bool.{true}
 use mathlib.Core.List.{List, [], ◌++◌}
 use mathlib.Core.Logic.{⊎_elim}
 use Prim.Native.Nat.{ℕ, suc, ◌+◌, ◌-◌, ◌*◌, ◌≤◌, ◌<◌}
+use mir.Syntax.{w16}
+use mir.Val.{Fits}
 use native.Mathlib.Omega.{arith}
 use lib.Dec.{ltb}
 use lib.ListN.{length, get_or}
@@ -23,6 +26,7 @@ use Rattle.plan_starts.specs.Grounds.{Kept}
 use Rattle.plan_rows.specs.Made.{Copied}
 use Rattle.plan_settle.specs.Settled.{HasHeight}
 use Rattle.plan_settle.proofs.Heights.{height_low, height_high, child_height}
+use Rattle.argue_texts.specs.declared.Claimed.{Claimed}
 use Rattle.argue_key.specs.Laps.{low_heads, side_heads, loop_heads}
 use Rattle.argue_spell.specs.Added.{WORD}
 use Rattle.argue_give.specs.Given.{GiveRoom, RowRoom, RowGround}
@@ -35,20 +39,24 @@ point_other ps T d n = rw (ne_eqb (get_or ps d 0) 1 n)
 
 -- the lists have room as before
 pub lists_after : {nest : DN.Nest} {ps own left : List ℕ} {kids : ℕ}
-    {need sets loops froms uptos need₁ sets₁ need' sets' loops' froms' uptos' : List ℕ} {d e : ℕ} →
-    ListsRoom need sets loops froms uptos →
-    GiveRoom nest ps own left kids need₁ sets₁ loops froms uptos d e → need' ≡ need₁ → sets' ≡ sets₁ →
-    length need₁ ≡ length need → length sets₁ ≡ length sets → length loops' ≡ length loops →
-    length froms' ≡ length froms → length uptos' ≡ length uptos → ListsRoom need' sets' loops' froms' uptos'
-lists_after r w a b n s l f u =
+    {need sets need₁ sets₁ need' sets' : List ℕ} {claims claims' : List Claimed} {d e : ℕ} →
+    ListsRoom need sets claims → GiveRoom nest ps own left kids need₁ sets₁ claims d e → need' ≡ need₁ →
+    sets' ≡ sets₁ → length need₁ ≡ length need → length sets₁ ≡ length sets → length claims' ≡ length claims →
+    ListsRoom need' sets' claims'
+lists_after r w a b n s l =
     record {
       need_room = omega (arith, r.need_room, n, ap length a);
       sets_room = omega (arith, r.sets_room, s, ap length b);
       sets_small = λ i. rw b (w.sets_room.small i);
-      loops_room = omega (arith, r.loops_room, l);
-      froms_room = omega (arith, r.froms_room, f);
-      uptos_room = omega (arith, r.uptos_room, u);
+      claims_room = omega (arith, r.claims_room, l);
     }
+
+-- a row behind the first, which starts at base, with the loop from d to e in it
+pub record Placed (base d e : ℕ) : Type 0 where
+  pub low : 256 ≤ base
+  pub room : base + e < 2304
+  pub long : d < e
+  pub short : e < 256
 
 module _
     {nest : DN.Nest} {ps own ends heights left reach numbers costs : List ℕ}
@@ -60,20 +68,30 @@ module _
     height : HasHeight ps d (at heights d)
     height = w.heights_are d is-do
 
-    pub low : 0 < at heights d
+    low : 0 < at heights d
     low = height_low ps w.charts.shape d (at heights d) is-do height
 
-    pub high : at heights d ≤ 8
+    high : at heights d ≤ 8
     high = height_high ps d (at heights d) height
 
     e_is : at ends d ≡ end_of ps d
     e_is = w.charts.ends_is d is-do
 
-    pub long : d < at ends d
+    long : d < at ends d
     long = omega (arith, e_is, end-after ps w.charts.shape d is-do)
 
-    pub short : at ends d < length ps
+    short : at ends d < length ps
     short = omega (arith, e_is, end_there ps w.charts.shape d is-do)
+
+    -- its row in a table, as far as its ENDDO
+    pub placed : Placed (at heights d * 256) d (at ends d)
+    placed =
+        record {
+          low = omega (arith, low);
+          room = omega (arith, high, short, w.charts.few);
+          long = long;
+          short = omega (arith, short, w.charts.few);
+        }
 
     pub point_row : RowRoom left (at heights d * 256) d (at ends d)
     point_row =
@@ -83,10 +101,10 @@ module _
           high = λ q i j. rw e_is (w.fronts d (at heights d) q is-do height i (omega (arith, e_is)));
         }
 
-    pub point_room : {need sets loops froms uptos need' sets' : List ℕ} → ListsRoom need sets loops froms uptos →
-        length need' ≡ length need → length sets' ≡ length sets → ((i : ℕ) → at numbers i ≤ WORD) →
+    pub point_room : {need sets need' sets' : List ℕ} {claims : List Claimed} → ListsRoom need sets claims →
+        length need' ≡ length need → length sets' ≡ length sets → ((i : ℕ) → Fits w16 (at numbers i)) →
         Copied numbers (at heights d * 256) d (at ends d) sets' → Kept sets sets' d (at ends d) →
-        GiveRoom nest ps own left (at heights d * 256 - 256) need' sets' loops froms uptos d (at ends d)
+        GiveRoom nest ps own left (at heights d * 256 - 256) need' sets' claims d (at ends d)
     point_room {sets = sets} {sets' = sets'} r a b n c k =
         record {
           counted = w.counted;
@@ -106,16 +124,14 @@ module _
               };
           sets_room =
               record { room = omega (arith, short, w.charts.few, r.sets_room); small = small };
-          loops_room = r.loops_room;
-          froms_room = r.froms_room;
-          uptos_room = r.uptos_room;
+          claims_room = r.claims_room;
         }
       where
         small : (i : ℕ) → at sets' i ≤ WORD
         small i = ⊎_elim
             (λ (x : i ≤ d). rw (k i (λ y. omega arith)) (r.sets_small i))
             (λ (x : d < i). ⊎_elim
-            (λ (y : i ≤ at ends d). rw (c i x y) (n (at heights d * 256 + i)))
+            (λ (y : i ≤ at ends d). rw (c i x y) (omega (arith, n (at heights d * 256 + i))))
             (λ (y : at ends d < i). rw (k i (λ z. y)) (r.sets_small i))
             (le_or i (at ends d)))
             (le_or i d)

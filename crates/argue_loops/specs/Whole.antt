@@ -12,6 +12,7 @@ use Rattle.plan_tables.specs.Charts.{HeightsAre}
 use Rattle.plan_sweeps.specs.Listed.{row}
 use Rattle.plan_settle.specs.Settled.{HasHeight, Charts}
 use Rattle.argue_texts.specs.ArgumentTexts.{CLAIMS, argument_text}
+use Rattle.argue_texts.specs.declared.Claimed.{Claimed}
 use Rattle.argue_key.specs.Laps.{heads_from, made}
 use Rattle.argue_sets.specs.Numbered.{line_set}
 use Rattle.argue_spell.specs.Added.{WORD, Added}
@@ -32,7 +33,8 @@ pub record GiveTables
   pub numbers_room : 2304 ≤ length numbers
   pub costs_room : 256 ≤ length costs
   pub fronts
-      : (l h q : ℕ) → is_do ps l ≡ true → HasHeight ps l h → l < q → q ≤ end_of ps l → row left (h * 256) q ≤ end_of ps l
+      : (l h q : ℕ) → is_do ps l ≡ true → HasHeight ps l h → l < q → q ≤ end_of ps l → row left (h * 256) q ≤
+      end_of ps l
 
 -- they hold the tables T, with the lines of each loop and their sets
 pub record TableGround
@@ -51,13 +53,11 @@ pub record TableGround
   pub costs_are : (d : ℕ) → is_do ps d ≡ true → at costs d ≡ T.cost d
 
 -- room for a row of needs and one of sets, and for the claims
-pub record ListsRoom (need sets loops froms uptos : List ℕ) : Type 0 where
+pub record ListsRoom (need sets : List ℕ) (claims : List Claimed) : Type 0 where
   pub need_room : 256 ≤ length need
   pub sets_room : 256 ≤ length sets
   pub sets_small : (a : ℕ) → at sets a ≤ WORD
-  pub loops_room : CLAIMS ≤ length loops
-  pub froms_room : CLAIMS ≤ length froms
-  pub uptos_room : CLAIMS ≤ length uptos
+  pub claims_room : CLAIMS ≤ length claims
 
 -- all claims: how many they are, and, if they are not too many, their text from the start of the buffer on
 pub record GivenAll
@@ -66,7 +66,8 @@ pub record GivenAll
     (many at : ℕ)
     : Type 0 where
   pub many_is
-      : (T : Tables) → TableGround nest ps own left reach numbers costs T → many ≡ length (heads_from ps T (length ps) 0 [])
+      : (T : Tables) → TableGround nest ps own left reach numbers costs T → many ≡
+      length (heads_from ps T (length ps) 0 [])
   pub text_is
       : (T : Tables)
       → TableGround nest ps own left reach numbers costs T

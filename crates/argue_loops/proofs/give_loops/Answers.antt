@@ -1,5 +1,5 @@
 use native.Mathlib.Omega.{arith}
-use Rattle.argue_loops.proofs.Looping.{loops_begin, loops-on, loops_done}
+use Rattle.argue_loops.proofs.Looping.{loops_begin, loops_on, loops_done}
 use Rattle.argue_loops.proofs.give_loops.Goals as goal
 
 pub loop-d-init : goal.loop-d-init
@@ -19,7 +19,8 @@ give_point-s-requires c =
 pub loop-d-preserved : goal.loop-d-preserved
 loop-d-preserved c =
     let w = c.give_point-s in
-    loops-on c.loop-d.invariant (omega arith) w.ensures.gives w.ensures.lists_room_2.0 w.auto.out w.ensures.lists_room_2.1
+    let r = w.ensures.lists_room_2 in
+    loops_on c.loop-d.invariant (omega arith) w.ensures.gives r.0 w.auto.out r.1
 
 pub returns : goal.returns
 returns c = loops_done c.loop-d.invariant (omega arith)

@@ -4,4 +4,7 @@ use Rattle.argue_loops.proofs.give_loops.Given as goal
 
 abbrev pub invariant-loop-d : goal.invariant-loop-d
 invariant-loop-d l =
-    Looping l.nest l.points l.own l.left l.reach l.numbers l.costs l.initial.loops l.initial.froms l.initial.uptos l.initial.out l.need l.sets l.loops l.froms l.uptos l.out l.s.at l.s.many l.d
+    let c = l.chart in
+    let t = l.tables in
+    Looping l.nest c.points.now c.own.now t.left.now t.reach.now l.numbers t.costs.now l.initial.claims
+    l.initial.out l.need l.sets l.claims l.out l.s.at l.s.many l.d
