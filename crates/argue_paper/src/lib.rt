@@ -11,13 +11,12 @@ ghost use Rattle.argue_key.specs.Laps.{plain_argument, argument_of};
 ghost use Rattle.argue_paper.specs.Spelled.{CostsAre, Spelled};
 
 use argue_give::Sofar;
-use argue_texts::CLAIMS;
+use argue_loops::Tables;
+use argue_texts::{CLAIMS, Claimed};
 use paper_nests::Nest;
-
-// The entries of a row, one for each point, and those of a table, with a row for each height and one that is spare.
-const ROW: usize = 256;
-
-const TABLE: usize = 2304;
+use plan_nest::TABLE;
+use plan_rows::{Lines, ROW};
+use plan_tables::Chart;
 
 // The argument of a nest that is not blocked; where gaps are barred, that of the nest of the others.
 pub fn give_argument(nest: Nest, out: &mut [u8]) -> Sofar
@@ -27,8 +26,7 @@ pub fn give_argument(nest: Nest, out: &mut [u8]) -> Sofar
     ensures { Spelled (argument_of (nest_in nest)) out.old out.new result.many result.at }
 {
     if nest.bars == 0 {
-        let costs = costs_of(nest);
-        return give_tables(nest, &costs, out);
+        return give_plain(nest, out);
     }
     let ranks = plan_paper::ranks_of(nest);
     let ring = plan_paper::reduce(nest, &ranks).unwrap();
@@ -52,10 +50,7 @@ fn costs_of(nest: Nest) -> [usize; Nest::POINTS]
     requires nest_value { is_valid (nest_in nest) ≡ true }
     ensures { CostsAre (nest_in nest) result }
 {
-    let key = plan_nest::plan(nest);
-    let n = nest.count;
-    let points = nest.points;
-    paper_counts::counts_of(&points[..n], key)
+    paper_counts::counts_of(nest.points(), plan_nest::plan(nest))
 }
 
 // The tables of the nest, the rows of all loops, the numbers of the lines, and the claims of all loops.
@@ -66,9 +61,8 @@ fn give_tables(nest: Nest, costs: &[usize], out: &mut [u8]) -> Sofar
     ensures { Spelled (plain_argument (nest_in nest).points (nest_in nest).deps) out.old
         out.new result.many result.at }
 {
-    // n is above every gap, and no dependence has the number behind the last.
-    let n = nest.count;
-    let high = n as u16;
+    // The count is above every gap, and no dependence has the number behind the last.
+    let high = nest.count as u16;
     let beyond = (nest.many + 2) as u16;
     let mut own = [0; ROW];
     let mut ends = [0; ROW];
@@ -85,7 +79,17 @@ fn give_tables(nest: Nest, costs: &[usize], out: &mut [u8]) -> Sofar
         &mut limit,
         &mut has,
     );
-    let points = nest.points;
+    let chart = Chart {
+        points: nest.points(),
+        own: &own,
+        ends: &ends,
+        heights: &heights,
+    };
+    let lines = Lines {
+        reach: &reach,
+        limit: &limit,
+        has: &has,
+    };
     let mut left = [0; TABLE];
     let mut choice = [0; TABLE];
     let mut need = [0; ROW];
@@ -93,12 +97,8 @@ fn give_tables(nest: Nest, costs: &[usize], out: &mut [u8]) -> Sofar
     let mut fs = [0; ROW];
     let mut link = [0; ROW];
     plan_settle::settle(
-        &points[..n],
-        &own,
-        &ends,
-        &reach,
-        &limit,
-        &has,
+        &chart,
+        &lines,
         &mut left,
         &mut choice,
         &mut need,
@@ -109,43 +109,23 @@ fn give_tables(nest: Nest, costs: &[usize], out: &mut [u8]) -> Sofar
         Nest::DEPTH,
     );
     // The choice has served: the numbers of the lines take its place.
-    fill(&mut choice, beyond);
-    argue_sets::number_lines(
-        nest,
-        &points[..n],
-        &own,
-        &ends,
-        &heights,
-        &reach,
-        &mut choice,
-    );
+    choice.fill(beyond);
+    argue_sets::number_lines(nest, &chart, &reach, &mut choice);
+    let tables = Tables {
+        left: &left,
+        reach: &reach,
+        costs,
+    };
     let mut sets = [0; ROW];
-    let mut loops = [0; CLAIMS];
-    let mut froms = [0; CLAIMS];
-    let mut uptos = [0; CLAIMS];
+    let mut claims = [Claimed { d: 0, a: 0, b: 0 }; CLAIMS];
     argue_loops::give_loops(
         nest,
-        &points[..n],
-        &own,
-        &ends,
-        &heights,
-        &left,
-        &reach,
+        &chart,
+        &tables,
         &choice,
-        costs,
         &mut need,
         &mut sets,
-        &mut loops,
-        &mut froms,
-        &mut uptos,
+        &mut claims,
         out,
     )
-}
-
-// Every entry of a table set to one number.
-fn fill(table: &mut [u16], number: u16)
-    requires { length table.old ≡ TABLE }
-    ensures { (i : ℕ) → i < TABLE → at table.new i ≡ number }
-{
-    table.fill(number);
 }

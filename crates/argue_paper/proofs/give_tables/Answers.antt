@@ -1,106 +1,75 @@
 -- The tables are what settling, numbering and giving ask, and what is given is the argument (Tables).
-use mathlib.Core.Path.{sym}
 use native.Mathlib.Omega.{arith}
 use lib.ListN.{length}
 use Rattle.laws.proofs.Copies.{copies}
 use Rattle.paper_nests.specs.Stored.{nest_in}
-use Rattle.paper_nests.proofs.Levels.{starts_with_do}
-use Rattle.plan_tables.proofs.Preparing.{count_there, unowned_filled, blank_filled, points_of, fits_of}
-use Rattle.plan_nest.proofs.Planning.{charts, top_height}
+use Rattle.plan_tables.proofs.Preparing.{unowned_filled, blank_filled, points_of, fits_of}
+use Rattle.plan_nest.proofs.Planning.{charts}
 use Rattle.argue_paper.proofs.Tables.{unset_filled, small_filled, fine, spelled}
 use Rattle.argue_paper.proofs.give_tables.Goals as goal
 
-pub prepare-requires : goal.prepare-requires
+pub prepare-requires-clause-points : goal.prepare-requires-clause-points
+prepare-requires-clause-points c = points_of (nest_in c.args.nest) c.requires.nest_value
+
+pub prepare-requires-clause-all_fit : goal.prepare-requires-clause-all_fit
+prepare-requires-clause-all_fit c = fits_of (nest_in c.args.nest) c.requires.nest_value
+
+pub prepare-requires-clause-unowned : goal.prepare-requires-clause-unowned
 unfolding copies
-prepare-requires c =
-    let n = c.args.nest in record { counted = c.requires.counted; points = points_of (nest_in n) c.requires.nest_value; all_fit = fits_of (nest_in n) c.requires.nest_value; chart_room = record { own_room = omega arith; ends_room = omega arith; heights_room = omega arith }; lines_room = record { reach_room = omega arith; limit_room = omega arith; has_room = omega arith }; unowned = unowned_filled; blank = blank_filled n.count (length (nest_in n).points) c.requires.counted.count_is }
+prepare-requires-clause-unowned c = unowned_filled
 
-pub slice_bounds-points-end : goal.slice_bounds-points-end
-slice_bounds-points-end c = count_there c.args.nest.count c.args.nest.points c.requires.counted.count_is
-
-pub settle-requires : goal.settle-requires
+pub prepare-requires-clause-blank : goal.prepare-requires-clause-blank
 unfolding copies
-settle-requires c =
-    let n = c.args.nest in
-    let ps = (nest_in n).points in
-    let w = points_of (nest_in n) c.requires.nest_value in record {
-      lists_room = record { need_room = omega arith; cs_room = omega arith; fs_room = omega arith; link_room = omega arith };
-      charts = charts ps (nest_in n).deps c.prepare.new.own c.prepare.new.ends c.prepare.new.heights c.prepare.new.reach
-          c.prepare.new.limit c.prepare.new.has w c.prepare.ensures (omega (arith, c.prepare.auto.own))
-          (omega (arith, c.prepare.auto.ends));
-      room = record {
-        reach_room = omega (arith, c.prepare.auto.reach);
-        limit_room = omega (arith, c.prepare.auto.limit);
-        has_room = omega (arith, c.prepare.auto.has);
-        left_room = omega arith;
-        choice_room = omega arith;
-      };
-      d_value = starts_with_do ps w.shape;
-      has_height = top_height ps;
-      unset = unset_filled;
-      unset_2 = unset_filled;
-    }
+prepare-requires-clause-blank c =
+    let n = c.args.nest in blank_filled n.count (length (nest_in n).points) c.requires.counted.count_is
 
-pub slice_bounds-points-end-2 : goal.slice_bounds-points-end-2
-slice_bounds-points-end-2 c = count_there c.args.nest.count c.args.nest.points c.requires.counted.count_is
+pub settle-requires-clause-charts : goal.settle-requires-clause-charts
+settle-requires-clause-charts c =
+    let n = nest_in c.args.nest in
+    let w = points_of n c.requires.nest_value in
+    let p = c.prepare.new in
+    rw c.points.ensures
+    (charts n.points n.deps p.own p.ends p.heights p.reach p.limit p.has w c.prepare.ensures
+    (omega (arith, c.prepare.auto.own)) (omega (arith, c.prepare.auto.ends)))
 
-pub slice_bounds-number_lines-end : goal.slice_bounds-number_lines-end
-slice_bounds-number_lines-end c = c.requires.counted.count_is
-
-pub number_lines-requires : goal.number_lines-requires
+pub settle-requires-clause-unset : goal.settle-requires-clause-unset
 unfolding copies
-number_lines-requires c =
-    let n = c.args.nest in record {
-      counted = c.requires.counted;
-      points = points_of (nest_in n) c.requires.nest_value;
-      all_fit = fits_of (nest_in n) c.requires.nest_value;
-      charted = c.prepare.ensures.charted;
-      chart_room = record {
-        own_room = omega (arith, c.prepare.auto.own);
-        ends_room = omega (arith, c.prepare.auto.ends);
-        heights_room = omega (arith, c.prepare.auto.heights);
-      };
-      in_bounds = (omega (arith, c.prepare.auto.reach), omega arith);
-      rows = c.prepare.ensures.reach_is;
-      unnumbered = c.fill.ensures;
-    }
+settle-requires-clause-unset c = unset_filled
 
-pub slice_bounds-points-end-3 : goal.slice_bounds-points-end-3
-slice_bounds-points-end-3 c = count_there c.args.nest.count c.args.nest.points c.requires.counted.count_is
-
-pub slice_bounds-give_loops-end : goal.slice_bounds-give_loops-end
-slice_bounds-give_loops-end c = c.requires.counted.count_is
-
-pub slice_bounds-give_loops-end-2 : goal.slice_bounds-give_loops-end-2
-slice_bounds-give_loops-end-2 c = sym c.prepare.auto.own
-
-pub slice_bounds-give_loops-end-3 : goal.slice_bounds-give_loops-end-3
-slice_bounds-give_loops-end-3 c = sym c.prepare.auto.ends
-
-pub slice_bounds-give_loops-end-4 : goal.slice_bounds-give_loops-end-4
-slice_bounds-give_loops-end-4 c = sym c.prepare.auto.heights
-
-pub slice_bounds-give_loops-end-6 : goal.slice_bounds-give_loops-end-6
-slice_bounds-give_loops-end-6 c = sym c.prepare.auto.reach
-
-pub give_loops-requires : goal.give_loops-requires
+pub settle-requires-clause-unset_2 : goal.settle-requires-clause-unset_2
 unfolding copies
-give_loops-requires c =
+settle-requires-clause-unset_2 c = unset_filled
+
+pub number_lines-requires-clause-points : goal.number_lines-requires-clause-points
+number_lines-requires-clause-points c =
+    rw c.points.ensures (points_of (nest_in c.args.nest) c.requires.nest_value)
+
+pub number_lines-requires-clause-all_fit : goal.number_lines-requires-clause-all_fit
+number_lines-requires-clause-all_fit c =
+    rw c.points.ensures (fits_of (nest_in c.args.nest) c.requires.nest_value)
+
+pub give_loops-requires-clause-give_tables : goal.give_loops-requires-clause-give_tables
+give_loops-requires-clause-give_tables c =
+    let p = c.prepare.auto in
+    let s = c.settle.auto in
+    rw c.points.ensures
+    (fine c.requires.counted c.requires.nest_value c.prepare.ensures (rw c.points.ensures at c.settle.ensures)
+    (omega (arith, p.own)) (omega (arith, p.ends)) (omega (arith, p.heights)) (omega (arith, s.left))
+    (omega (arith, p.reach)) (omega (arith, c.number_lines.auto.sets, c.fill.auto.self, s.choice))
+    c.requires.in_bounds.0)
+
+pub give_loops-requires-clause-lists_room : goal.give_loops-requires-clause-lists_room
+unfolding copies
+give_loops-requires-clause-lists_room c =
     record {
-      give_tables = fine c.requires.counted c.requires.nest_value c.prepare.ensures c.settle.ensures (omega (arith, c.prepare.auto.own)) (omega (arith, c.prepare.auto.ends))
-          (omega (arith, c.prepare.auto.heights)) (omega (arith, c.settle.auto.left)) (omega (arith, c.prepare.auto.reach))
-          (omega (arith, c.number_lines.auto.sets, c.fill.auto.table, c.settle.auto.choice)) c.requires.in_bounds.0;
-      lists_room = record {
-        need_room = omega (arith, c.settle.auto.need);
-        sets_room = omega arith;
-        sets_small = small_filled;
-        loops_room = omega arith;
-        froms_room = omega arith;
-        uptos_room = omega arith;
-      };
+      need_room = omega (arith, c.settle.auto.need);
+      sets_room = omega arith;
+      sets_small = small_filled;
+      claims_room = omega arith;
     }
 
 pub returns : goal.returns
 returns c =
-    spelled c.requires.counted c.requires.nest_value c.prepare.ensures c.settle.ensures c.number_lines.ensures
-    c.requires.in_bounds.1 c.give_loops.ensures
+    let z = c.points.ensures in
+    spelled c.requires.counted c.requires.nest_value c.prepare.ensures (rw z at c.settle.ensures)
+    (rw z at c.number_lines.ensures) c.requires.in_bounds.1 (rw z at c.give_loops.ensures)
