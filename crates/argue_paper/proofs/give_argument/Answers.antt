@@ -1,4 +1,9 @@
 -- Of a paper with barred gaps the nest of the others is given (Papers).
+use mathlib.Core.Path.{◌≡◌}
+use mathlib.Core.Bool.{true}
+use borrow.Author.Rules.{rules}
+use Rattle.paper_nests.specs.Valid.{is_valid}
+use Rattle.paper_nests.specs.Stored.{nest_in}
 use Rattle.plan_paper.proofs.Papers.{one_loop_paper, ring_valid}
 use Rattle.argue_paper.proofs.Papers.{spelled_open, ring_there, spelled_ring}
 use Rattle.argue_paper.proofs.give_argument.Goals as goal
@@ -15,8 +20,10 @@ unwrap-ring-requires c = ring_there c.args.nest c.reduce.result c.reduce.ensures
 
 pub give_plain-requires-2-clause-nest_value : goal.give_plain-requires-2-clause-nest_value
 give_plain-requires-2-clause-nest_value c =
+    let ring : is_valid (nest_in c.unwrap-ring.result) ≡ true =
     ring_valid c.args.nest c.requires.counted c.requires.nest_value c.if-nest-eq0.false c.unwrap-ring.result
-    (rw c.unwrap-ring.ensures at c.reduce.ensures)
+    (rw c.unwrap-ring.ensures at c.reduce.ensures) in
+    search rules
 
 pub returns : goal.returns
 returns c =
