@@ -1,6 +1,8 @@
 -- The open claim closed over tables, as the definition closes it.
 -- Main definition: `Standing`. Main statements: `closes_is`, `known-now`, `low_now`, `all_low_now`.
 use mathlib.Core.Path.{◌≡◌, refl, sym, ap, ◌∙◌}
+use Rattle.std.proofs.Common.{Option, Some, None}
+use Rattle.std.specs.Option.{is_some, IfSome}
 use mathlib.Core.Bool.{Bool, true, false, ◌&&◌, ◌||◌, not}
 use mathlib.Core.List.{List, [], ◌∷◌, ◌++◌}
 use mathlib.Core.Logic.{◌⊎◌, inl, inr, ⊎_elim}
@@ -34,7 +36,7 @@ use Rattle.argue_weigh.specs.Taking.{claim_at, KnownTables, OpenTables, CountTab
 use Rattle.argue_weigh.proofs.Excluding.{strike_excludes, excludes_says}
 use Rattle.argue_judge.specs.Ends.{low_by, shown_by, exact_by, Closed, all_low_in}
 use Rattle.argue_judge.specs.Opened.{open_of}
-use Rattle.argue_judge.specs.Judging.{NestTables}
+use Rattle.argue_judge.specs.Judging.{NestTables, line_in}
 
 greatest_alike
     : (f h : ℕ → ℕ) (m : ℕ) → ((g : ℕ) → 0 < g → g ≤ m → f g ≡ h g) → greatest f m ≡ greatest h m
@@ -121,8 +123,10 @@ eqb_turned i j =
 
 -- the tables say what the definition has before a line: the open claim, its steps, the claims before it
 pub record Standing (n : Nest) (key : List ℕ) (last : ℕ) (ends : List ℕ) (x : Judging) (head : Claimed)
-    (opened steps c known : ℕ) (low gone : List ℕ) (claims : List Claimed) (struck times : List ℕ) : Type 0 where
-  pub opened_is : opened ≡ x.line
+    (opened : Option ℕ) (steps c known : ℕ) (low gone : List ℕ) (claims : List Claimed) (struck times : List ℕ)
+    : Type 0 where
+  pub opened_is : line_in opened ≡ x.line
+  pub opened_late : IfSome opened (λ (l : ℕ). 0 < l)
   pub opens : OpenTables n key x.open_is (open_of ends head)
   pub counts : CountTables n key x.count last steps c times gone
   pub few_sets : c ≤ steps
@@ -130,7 +134,15 @@ pub record Standing (n : Nest) (key : List ℕ) (last : ℕ) (ends : List ℕ) (
   pub count_is : known ≡ length x.known
   pub knows : KnownTables n key x.known (take known claims) struck
   pub lows : (d : ℕ) → d < POINTS → holds low d ≡ has_low x.known d
-  pub fresh : opened ≡ 0 → x.known ≡ []
+  pub fresh : is_some opened ≡ false → x.known ≡ []
+
+-- a claim is open, or none is
+pub open_or
+    : (opened : Option ℕ)
+    → IfSome opened (λ (l : ℕ). 0 < l)
+    → ((is_some opened ≡ false) × (line_in opened ≡ 0)) ⊎ ((is_some opened ≡ true) × (line_in opened ≡ 0 → ⊥))
+open_or None h = inl (refl, refl)
+open_or (Some l) h = inr (refl, λ z. omega (arith, h, z))
 
 module _ {n : Nest} {key : List ℕ} {last : ℕ} {ends owners counts : List ℕ}
     (t : NestTables n key last ends owners counts) where
@@ -154,9 +166,20 @@ module _ {n : Nest} {key : List ℕ} {last : ℕ} {ends owners counts : List ℕ
       ap (greatest x.times) t.paper.all in
       greatest_alike (at times) x.times last h.times_are ∙ sym past ∙ sym all
 
-  module _ {x : Judging} {head : Claimed} {opened steps c known : ℕ}
+  module _ {x : Judging} {head : Claimed} {opened : Option ℕ} {steps c known : ℕ}
       {low gone : List ℕ} {claims : List Claimed} {struck times : List ℕ}
       (s : Standing n key last ends x head opened steps c known low gone claims struck times) where
+    -- a claim is open, or none is, in the definition too
+    pub opens_or : ((is_some opened ≡ false) × (x.line ≡ 0)) ⊎ ((is_some opened ≡ true) × (x.line ≡ 0 → ⊥))
+    opens_or = rw s.opened_is at (open_or opened s.opened_late)
+
+    none_open : not (is_some opened) ≡ eqb x.line 0
+    none_open =
+        ⊎_elim
+        (λ (z : (is_some opened ≡ false) × (x.line ≡ 0)). rw (z.0, eq-eqb x.line 0 z.1) refl)
+        (λ (z : (is_some opened ≡ true) × (x.line ≡ 0 → ⊥)). rw (z.0, ne_eqb x.line 0 z.1) refl)
+        opens_or
+
     -- the open claim's loop is one
     pub head_do : is_do n.points head.d ≡ true
     head_do = ap (is_do n.points) s.opens.loop_is ∙ s.opens.loop_do
@@ -200,13 +223,13 @@ module _ {n : Nest} {key : List ℕ} {last : ℕ} {ends owners counts : List ℕ
     pub closes_is
         : (r : Bool)
         → r
-        ≡ (eqb opened 0 ||
+        ≡ (not (is_some opened) ||
         shown_by (low_by head.a head.b) c (greatest (at times) last) (at counts head.d))
         → r ≡ closes n key x
     closes_is r e =
         e ∙
-        ap (λ (i : ℕ). eqb i 0 || shown_by (low_by head.a head.b) c (greatest (at times) last) (at counts head.d))
-        s.opened_is ∙
+        ap (λ (b : Bool). b || shown_by (low_by head.a head.b) c (greatest (at times) last) (at counts head.d))
+        none_open ∙
         ap (λ (b : Bool). eqb x.line 0 || b) shown_is
 
     -- what is excluded now is what the claim says
@@ -240,7 +263,7 @@ module _ {n : Nest} {key : List ℕ} {last : ℕ} {ends owners counts : List ℕ
         (cl : Closed opened head.d (at ends head.d) head.a head.b c (at counts head.d) last owners times
         struck new) where
       struck_says
-          : (opened ≡ 0 → ⊥)
+          : is_some opened ≡ true
           → Struck (says n key (known_of n key x.open_is x.count)) x.open_is.loop
           (end_of n.points x.open_is.loop) struck new
       struck_says z =
@@ -278,7 +301,7 @@ module _ {n : Nest} {key : List ℕ} {last : ℕ} {ends owners counts : List ℕ
           outer g (inr p) d e = inr (omega (arith, p, e))
 
       more
-          : (opened ≡ 0 → ⊥)
+          : is_some opened ≡ true
           → known < length claims
           → KnownTables n key (x.known ++ (known_of n key x.open_is x.count ∷ []))
           (take (known + 1) (set claims known head)) new
@@ -319,22 +342,21 @@ module _ {n : Nest} {key : List ℕ} {last : ℕ} {ends owners counts : List ℕ
       pub known-now
           : known < length claims
           → KnownTables n key (known_now n key x)
-          (take (pick (eqb opened 0) known (known + 1)) (set claims known head)) new
-      known-now fits = go (eq_or opened 0)
+          (take (pick (is_some opened) (known + 1) known) (set claims known head)) new
+      known-now fits = go opens_or
         where
           go
-              : (opened ≡ 0) ⊎ ((opened ≡ 0) → ⊥)
+              : ((is_some opened ≡ false) × (x.line ≡ 0)) ⊎ ((is_some opened ≡ true) × (x.line ≡ 0 → ⊥))
               → KnownTables n key (known_now n key x)
-              (take (pick (eqb opened 0) known (known + 1)) (set claims known head)) new
+              (take (pick (is_some opened) (known + 1) known) (set claims known head)) new
           go (inl z) =
-              let l : x.line ≡ 0 = sym s.opened_is ∙ z in
-              let none : x.known ≡ [] = s.fresh z in
+              let none : x.known ≡ [] = s.fresh z.0 in
               let zero_known : known ≡ 0 = s.count_is ∙ ap length none in
               let zero_long : length (take known (set claims known head)) ≡ 0 =
               omega (arith, length-take known (set claims known head), zero_known) in
               let same : Excludes n key [] new =
-              rw (cl.none z) (rw none at s.knows.excluded) in
-              rw (eq-eqb opened 0 z, eq-eqb x.line 0 l)
+              rw (cl.none z.0) (rw none at s.knows.excluded) in
+              rw (z.0, eq-eqb x.line 0 z.1)
               (record {
                 count_is = zero_long;
                 loops_are = λ m p. absurd (omega (arith, p, zero_long));
@@ -343,18 +365,16 @@ module _ {n : Nest} {key : List ℕ} {last : ℕ} {ends owners counts : List ℕ
                 loops_do = λ m p. absurd (omega (arith, p, zero_long));
                 excluded = same;
               })
-          go (inr z) =
-              let l : x.line ≡ 0 → ⊥ = λ (e : x.line ≡ 0). z (s.opened_is ∙ e) in
-              rw (ne_eqb opened 0 z, ne_eqb x.line 0 l) (more z fits)
+          go (inr z) = rw (z.0, ne_eqb x.line 0 z.1) (more z.0 fits)
 
     -- the loops with a low claim, as a set
     pub low_now
         : (ws : List ℕ)
-        → ((i : ℕ) → holds ws i ≡ ((not (eqb opened 0) && (low_by head.a head.b && eqb i head.d)) || holds low i))
+        → ((i : ℕ) → holds ws i ≡ ((is_some opened && (low_by head.a head.b && eqb i head.d)) || holds low i))
         → (d : ℕ)
         → d < POINTS
         → holds ws d ≡ has_low (known_now n key x) d
-    low_now ws h d small = go (eq_or opened 0)
+    low_now ws h d small = go opens_or
       where
         turn : (a b c : Bool) → ((b && a) || c) ≡ ((a && b) || c)
         turn true true c = refl
@@ -362,21 +382,21 @@ module _ {n : Nest} {key : List ℕ} {last : ℕ} {ends owners counts : List ℕ
         turn false true c = refl
         turn false false c = refl
 
-        go : (opened ≡ 0) ⊎ ((opened ≡ 0) → ⊥) → holds ws d ≡ has_low (known_now n key x) d
+        go
+            : ((is_some opened ≡ false) × (x.line ≡ 0)) ⊎ ((is_some opened ≡ true) × (x.line ≡ 0 → ⊥))
+            → holds ws d ≡ has_low (known_now n key x) d
         go (inl z) =
-            let l : x.line ≡ 0 = sym s.opened_is ∙ z in
-            let none : x.known ≡ [] = s.fresh z in
-            let here : holds ws d ≡ holds low d = h d ∙ rw (eq-eqb opened 0 z) refl in
-            here ∙ s.lows d small ∙ rw (none, eq-eqb x.line 0 l) refl
+            let none : x.known ≡ [] = s.fresh z.0 in
+            let here : holds ws d ≡ holds low d = h d ∙ rw z.0 refl in
+            here ∙ s.lows d small ∙ rw (none, eq-eqb x.line 0 z.1) refl
         go (inr z) =
-            let l : x.line ≡ 0 → ⊥ = λ (e : x.line ≡ 0). z (s.opened_is ∙ e) in
             let k = x.open_is in
             let here : holds ws d ≡ ((low_by head.a head.b && eqb d head.d) || holds low d) =
-            h d ∙ rw (ne_eqb opened 0 z) refl in
+            h d ∙ rw z.0 refl in
             let same : eqb d head.d ≡ eqb k.loop d =
             eqb_turned d head.d ∙ ap (λ (i : ℕ). eqb i d) s.opens.loop_is in
             let now : has_low (known_now n key x) d ≡ has_low (x.known ++ (known_of n key k x.count ∷ [])) d =
-            rw (ne_eqb x.line 0 l) refl in
+            rw (ne_eqb x.line 0 z.1) refl in
             here ∙
             ap (λ (b : Bool). (b && eqb d head.d) || holds low d) low_is ∙
             ap (λ (b : Bool). (is_low k && b) || holds low d) same ∙

@@ -2,5 +2,6 @@
 pub mod Starts
 pub mod Ends
 pub mod Closing
+pub mod Sizes
 pub mod Turns
 pub mod Lines

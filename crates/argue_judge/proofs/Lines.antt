@@ -115,7 +115,7 @@ module _ {nest : DN.Nest} {ps owners ends counts barred : List ℕ}
       → ((g : ℕ) → at times g ≡ 0)
       → (key : List ℕ)
       → NestTables (nest_in nest) key (length ps - 1) ends owners counts
-      → Judges (nest_in nest) key s (length ps - 1) ends head 0 0 0 0 low gone claims struck times 0 1
+      → Judges (nest_in nest) key s (length ps - 1) ends head None 0 0 0 low gone claims struck times 0 1
   lines_begun s head low gone claims struck times d a b lows goes first zeros key t =
       judges_begun (nest_in nest) key s t head low gone claims struck times d a b lows
       (first_excludes (nest_in nest) key (length ps) barred owners counts struck
@@ -141,7 +141,10 @@ module _ {nest : DN.Nest} {ps owners ends counts barred : List ℕ}
     dep_is : (m : ℕ) → m < nest.many → (ended_at deps ends m).e ≡ L.dep_at nest m
     dep_is m q = rw deps_are (get_or-take nest.many nest.deps m (record { kind = 0; d = 0; s = 0; t = 0 }) q)
 
-    there : (m : ℕ) → set_in set ≡ suc (suc m) → is_some (dependence_of set deps ends) ≡ ltb m (length (nest_in nest).deps)
+    there
+        : (m : ℕ)
+        → set_in set ≡ suc (suc m)
+        → is_some (dependence_of set deps ends) ≡ ltb m (length (nest_in nest).deps)
     there m p = go set p
       where
         some : (b : Bool) (x : Ended) → is_some (pick b (Some x) None) ≡ b
@@ -200,7 +203,7 @@ module _ {nest : DN.Nest} {ps owners ends counts barred : List ℕ}
     asked_lies m p = of_each m (λ (x : Ended). LiesTo x.e x.end) p
         (λ q. subst (λ (d : DE.Dependence). LiesTo d (at ends d.d)) (sym (dep_is m q)) (L.found_lies with_ends q))
 
-  module _ {s : List ℕ} (sound : (argument_fault s).number ≡ 0) {head : Claimed} {begins c by known : ℕ}
+  module _ {s : List ℕ} (sound : (argument_fault s).number ≡ 0) {head : Claimed} {begins : Option ℕ} {c by known : ℕ}
       {low gone : List ℕ} {claims : List Claimed} {struck times : List ℕ} {place line : ℕ}
       (j : Judges (nest_in nest) w.key s (length ps - 1) ends head begins c by known low gone claims struck
       times place line) where
@@ -282,15 +285,15 @@ module _ {nest : DN.Nest} {ps owners ends counts barred : List ℕ}
   -- ---- the end of the text, and the loop of a claim, by the points that the code has
 
   module _ {key s : List ℕ} (t : NestTables (nest_in nest) key (length ps - 1) ends owners counts)
-      (sound : (argument_fault s).number ≡ 0) {head : Claimed} {begins c by known : ℕ}
+      (sound : (argument_fault s).number ≡ 0) {head : Claimed} {begins : Option ℕ} {c by known : ℕ}
       {low gone : List ℕ} {claims : List Claimed} {struck times : List ℕ} {place line : ℕ}
       (j : Judges (nest_in nest) key s (length ps - 1) ends head begins c by known low gone claims struck
       times place line) (h : line_at s place ≡ Ok None) (o : Open) (oe : o ≡ open_of ends head) (r : Bool)
-      (e : r ≡ (eqb begins 0 ||
+      (e : r ≡ (not (is_some begins) ||
       shown_by (low_by o.a o.b) c (greatest (at times) (length ps - 1)) (at counts o.d)))
       (z : r ≡ true) (ws : List ℕ)
       (lw : (i : ℕ) → holds ws i ≡
-      ((not (eqb begins 0) && (low_by head.a head.b && eqb i head.d)) || holds low i))
+      ((is_some begins && (low_by head.a head.b && eqb i head.d)) || holds low i))
       (b : Bool) (q : b ≡ all_low_in ps counts ws (length ps)) where
     ended_by : pick b 0 line ≡ judged (nest_in nest) key (parts_of (lines_of s))
     ended_by =
@@ -309,7 +312,8 @@ module _ {nest : DN.Nest} {ps owners ends counts barred : List ℕ}
   -- ---- a step, as it was asked
 
   module _ {key s : List ℕ} (t : NestTables (nest_in nest) key (length ps - 1) ends owners counts) {head : Claimed}
-      {begins c by known : ℕ} {low : List ℕ} {claims : List Claimed} {struck times : List ℕ} {gone : Placement} {place line : ℕ}
+      {begins : Option ℕ} {c by known : ℕ} {low : List ℕ} {claims : List Claimed} {struck times : List ℕ}
+      {gone : Placement} {place line : ℕ}
       (j : Judges (nest_in nest) key s (length ps - 1) ends head begins c by known low gone.words claims
       struck times place line) (o : Open) (oe : o ≡ open_of ends head) (set : DS.Set) (led : Option ℕ)
       (led_is : led_in led ≡ by) {deps : List DE.Dependence} (deps_are : deps ≡ take nest.many nest.deps) (q : Asked)

@@ -1,8 +1,9 @@
 -- An argument text judged line by line: what a turn keeps, and one law for each way through a turn.
--- Main definitions: `Judges`, `JudgesAll`, `Turn`. Main statements: `judges_begun`; `end_unshown`, `end_shown`; of a turn
--- that comes to a frame `claim_unshown`, `claim_of_none`, `claim_on`; `Led-on`; `step_not`, `step_on`.
+-- Main definitions: `Judges`, `JudgesAll`, `Turn`. Main statements: `judges_begun`; `end_unshown`, `end_shown`; of a
+-- turn that comes to a frame `claim_unshown`, `claim_of_none`, `claim_on`; `Led-on`; `step_not`, `step_on`.
 use mathlib.Core.Path.{◌≡◌, refl, sym, ap, ◌∙◌, subst}
-use Rattle.std.proofs.Common.{Some, None, Ok, Err}
+use Rattle.std.specs.Option.{is_some}
+use Rattle.std.proofs.Common.{Option, Some, None, Ok, Err}
 use mathlib.Core.Bool.{Bool, true, false, ◌&&◌, ◌||◌, not}
 use mathlib.Core.List.{List, [], ◌∷◌}
 use mathlib.Core.Logic.{◌⊎◌, inl, inr, ⊎_elim}
@@ -10,13 +11,12 @@ use Prim.Native.Nat.{ℕ, zero, suc, ◌+◌, ◌≤◌, ◌<◌}
 use native.Mathlib.Numerals.{add-one}
 use native.Mathlib.Omega.{arith}
 use lib.Dec.{eqb}
-use lib.ListN.{length, take, drop, set, length-append, length-take, length-set}
+use lib.ListN.{length, take, drop, set, length-append, length-take}
 use borrow.Author.Tests.{eq-eqb, ne_eqb}
 use Rattle.laws.specs.Choice.{pick}
 use Rattle.laws.specs.Entries.{at}
-use Rattle.laws.proofs.Tests.{eq_or}
+use Rattle.laws.proofs.Tests.{never}
 use Rattle.paper_refusals.specs.declared.Refusal.{Refusal}
-use Rattle.paper_nests.specs.Kinds.{POINTS}
 use Rattle.paper_nests.specs.Nests.{Nest}
 use Rattle.paper_nests.specs.Loops.{is_do}
 use Rattle.paper_lines.specs.declared.Frame.{Frame}
@@ -34,15 +34,17 @@ use Rattle.argue_texts.specs.ArgumentTexts.{parts_of, rest_of}
 use Rattle.argue_texts.specs.Parts.{set_in, part_in, IsPart}
 use Rattle.argue_texts.specs.Judged.{Judging, unbegun, led_by, closes, known_now, opened, counting, stepped, judge_from}
 use Rattle.argue_texts.specs.Judged.{judged}
-use Rattle.argue_texts.proofs.Walking.{Walk, walk_begun, walk_on, never_bad, part_fine, next_inside, parts_end, parts_on}
+use Rattle.argue_texts.proofs.Walking.{Walk, walk_begun, walk_on, never_bad, part_fine, next_inside, parts_end}
+use Rattle.argue_texts.proofs.Walking.{parts_on}
 use Rattle.argue_texts.proofs.PartFaults.{claims_fine, names_fine, unknown_fault}
 use Rattle.argue_weigh.specs.declared.Open.{Open}
 use Rattle.argue_weigh.specs.Excluding.{Excludes}
 use Rattle.argue_weigh.specs.Taking.{KnownTables, CountTables}
 use Rattle.argue_judge.specs.Ends.{low_by, shown_by, Closed, all_low_in}
 use Rattle.argue_judge.specs.Opened.{open_of}
-use Rattle.argue_judge.specs.Judging.{NestTables}
-use Rattle.argue_judge.proofs.Closing.{Standing, shape, closes_is, known-now, low_now, all_low_now}
+use Rattle.argue_judge.specs.Judging.{NestTables, line_in}
+use Rattle.argue_judge.proofs.Sizes.{Long}
+use Rattle.argue_judge.proofs.Closing.{Standing, opens_or, shape, closes_is, known-now, low_now, all_low_now}
 
 -- a step counts one set at most
 counted_few : (v c : ℕ) → counted v c ≤ suc c
@@ -50,8 +52,8 @@ counted_few zero c = omega arith
 counted_few (suc v) c = omega arith
 
 -- the tables stand for what the definition has here, and the rest of the lines judges as the whole text does
-pub record Judges (n : Nest) (key s : List ℕ) (last : ℕ) (ends : List ℕ) (head : Claimed) (begins c by known : ℕ)
-    (low gone : List ℕ) (claims : List Claimed) (struck times : List ℕ) (place line : ℕ) : Type 0 where
+pub record Judges (n : Nest) (key s : List ℕ) (last : ℕ) (ends : List ℕ) (head : Claimed) (begins : Option ℕ)
+    (c by known : ℕ) (low gone : List ℕ) (claims : List Claimed) (struck times : List ℕ) (place line : ℕ) : Type 0 where
   pub now : Judging
   pub many : ℕ
   pub steps : ℕ
@@ -59,7 +61,7 @@ pub record Judges (n : Nest) (key s : List ℕ) (last : ℕ) (ends : List ℕ) (
   pub rest : judge_from n key line now (parts_of (lines_of (drop place s))) ≡ judged n key (parts_of (lines_of s))
   pub by_is : by ≡ now.by
   pub stands : Standing n key last ends now head begins steps c known low gone claims struck times
-  pub room : (begins ≡ 0 → ⊥) → suc known ≤ many
+  pub room : is_some begins ≡ true → suc known ≤ many
   pub few_claims : many ≤ CLAIMS
   pub pos : 0 < line
 
@@ -74,7 +76,7 @@ module _ (n : Nest) (key s : List ℕ) {last : ℕ} {ends owners counts : List �
       → ((i : ℕ) → holds low i ≡ false)
       → Excludes n key [] struck
       → CountTables n key begun last 0 0 times gone
-      → Judges n key s last ends head 0 0 0 0 low gone claims struck times 0 1
+      → Judges n key s last ends head None 0 0 0 low gone claims struck times 0 1
   unfolding judged
   judges_begun head low gone claims struck times d a b none excluded counts =
       record {
@@ -87,6 +89,7 @@ module _ (n : Nest) (key s : List ℕ) {last : ℕ} {ends owners counts : List �
         stands =
             record {
               opened_is = refl;
+              opened_late = tt;
               opens =
                   record {
                     loop_is = d;
@@ -111,7 +114,7 @@ module _ (n : Nest) (key s : List ℕ) {last : ℕ} {ends owners counts : List �
               lows = λ i p. none i;
               fresh = λ z. refl;
             };
-        room = λ z. absurd (z refl);
+        room = λ z. never z;
         few_claims = omega arith;
         pos = omega arith;
       }
@@ -119,7 +122,7 @@ module _ (n : Nest) (key s : List ℕ) {last : ℕ} {ends owners counts : List �
       none-yet : length (take 0 claims) ≡ 0
       none-yet = omega (arith, length-take 0 claims)
 
-  module _ (sound : (argument_fault s).number ≡ 0) {head : Claimed} {begins c by known : ℕ}
+  module _ (sound : (argument_fault s).number ≡ 0) {head : Claimed} {begins : Option ℕ} {c by known : ℕ}
       {low gone : List ℕ} {claims : List Claimed} {struck times : List ℕ} {place line : ℕ}
       (j : Judges n key s last ends head begins c by known low gone claims struck times place line) where
     pub few_sets : c ≤ STEPS
@@ -131,13 +134,13 @@ module _ (n : Nest) (key s : List ℕ) {last : ℕ} {ends owners counts : List �
     -- ---- the text's end
 
     module _ (h : line_at s place ≡ Ok None) (o : Open) (oe : o ≡ open_of ends head) (r : Bool)
-        (e : r ≡ (eqb begins 0 || shown_by (low_by o.a o.b) c (greatest (at times) last) (at counts o.d))) where
+        (e : r ≡ (not (is_some begins) || shown_by (low_by o.a o.b) c (greatest (at times) last) (at counts o.d))) where
       closed : r ≡ closes n key j.now
       closed =
           closes_is t j.stands r
           (subst
           (λ (p : Open). r
-          ≡ (eqb begins 0 || shown_by (low_by p.a p.b) c (greatest (at times) last) (at counts p.d))) oe e)
+          ≡ (not (is_some begins) || shown_by (low_by p.a p.b) c (greatest (at times) last) (at counts p.d))) oe e)
 
       ends_as
           : pick (closes n key j.now) (pick (all_low n key (known_now n key j.now) (length n.points)) 0 line)
@@ -146,7 +149,7 @@ module _ (n : Nest) (key s : List ℕ) {last : ℕ} {ends owners counts : List �
       unfolding judge_from
       ends_as = ap (judge_from n key line j.now) (sym (parts_end s place h)) ∙ j.rest
 
-      pub end_unshown : r ≡ false → begins ≡ judged n key (parts_of (lines_of s))
+      pub end_unshown : r ≡ false → line_in begins ≡ judged n key (parts_of (lines_of s))
       end_unshown z =
           let no : closes n key j.now ≡ false = sym closed ∙ z in
           j.stands.opened_is ∙ sym (rw no refl) ∙ ends_as
@@ -155,7 +158,7 @@ module _ (n : Nest) (key s : List ℕ) {last : ℕ} {ends owners counts : List �
           : r ≡ true
           → (ws : List ℕ)
           → ((i : ℕ) → holds ws i ≡
-          ((not (eqb begins 0) && (low_by head.a head.b && eqb i head.d)) || holds low i))
+          ((is_some begins && (low_by head.a head.b && eqb i head.d)) || holds low i))
           → (b : Bool)
           → b ≡ all_low_in n.points counts ws (length n.points)
           → pick b 0 line ≡ judged n key (parts_of (lines_of s))
@@ -172,15 +175,10 @@ module _ (n : Nest) (key s : List ℕ) {last : ℕ} {ends owners counts : List �
     pub never_refused : (k : Refusal) → line_at s place ≡ Err k → ⊥
     never_refused k h = never_bad s (progress j.many j.steps by) place line j.walk sound k h
 
--- how long the lists are
-pub record Long (claims : List Claimed) (struck times : List ℕ) : Type 0 where
-  pub claims_long : length claims ≡ CLAIMS
-  pub struck_long : length struck ≡ POINTS
-  pub times_long : length times ≡ POINTS
-
 -- the same for every placement of which they are the tables
 pub record JudgesAll (n : Nest) (s : List ℕ) (last : ℕ) (ends owners counts : List ℕ) (head : Claimed)
-    (begins c by known : ℕ) (low gone : List ℕ) (claims : List Claimed) (struck times : List ℕ) (place line : ℕ) : Type 0 where
+    (begins : Option ℕ) (c by known : ℕ) (low gone : List ℕ) (claims : List Claimed) (struck times : List ℕ)
+    (place line : ℕ) : Type 0 where
   pub long : Long claims struck times
   pub judges
       : (key : List ℕ)
@@ -189,8 +187,8 @@ pub record JudgesAll (n : Nest) (s : List ℕ) (last : ℕ) (ends owners counts 
 
 -- a turn that comes to a frame: the tables stand, and the frame is that of a good line and tells the part p
 pub record Turn (n : Nest) (key s : List ℕ) (last : ℕ) (ends owners counts : List ℕ) (head : Claimed)
-    (begins c by known : ℕ) (low gone : List ℕ) (claims : List Claimed) (struck times : List ℕ) (place line : ℕ) (f : Frame)
-    (p : DP.Part) : Type 0 where
+    (begins : Option ℕ) (c by known : ℕ) (low gone : List ℕ) (claims : List Claimed) (struck times : List ℕ)
+    (place line : ℕ) (f : Frame) (p : DP.Part) : Type 0 where
   pub tables : NestTables n key last ends owners counts
   pub sound : (argument_fault s).number ≡ 0
   pub judges : Judges n key s last ends head begins c by known low gone claims struck times place line
@@ -198,7 +196,8 @@ pub record Turn (n : Nest) (key s : List ℕ) (last : ℕ) (ends owners counts :
   pub tells : IsPart f p
 
 pub turned
-    : {n : Nest} {s : List ℕ} {last : ℕ} {ends owners counts : List ℕ} {head : Claimed} {begins c by known : ℕ}
+    : {n : Nest} {s : List ℕ} {last : ℕ} {ends owners counts : List ℕ} {head : Claimed} {begins : Option ℕ}
+    → {c by known : ℕ}
     → {low gone : List ℕ} {claims : List Claimed} {struck times : List ℕ} {place line : ℕ} (f : Frame) (p : DP.Part)
     → JudgesAll n s last ends owners counts head begins c by known low gone claims struck times place line
     → (argument_fault s).number ≡ 0
@@ -210,7 +209,8 @@ pub turned
 turned f p v sound h i key t =
     record { tables = t; sound = sound; judges = v.judges key t; framed = h; tells = i }
 
-module _ {n : Nest} {key s : List ℕ} {last : ℕ} {ends owners counts : List ℕ} {head : Claimed} {begins c by known : ℕ}
+module _ {n : Nest} {key s : List ℕ} {last : ℕ} {ends owners counts : List ℕ} {head : Claimed} {begins : Option ℕ}
+    {c by known : ℕ}
     {low gone : List ℕ} {claims : List Claimed} {struck times : List ℕ} {place line : ℕ} {f : Frame} {p : DP.Part}
     (u : Turn n key s last ends owners counts head begins c by known low gone claims struck times place line f
     p) where
@@ -268,6 +268,7 @@ module _ {n : Nest} {key s : List ℕ} {last : ℕ} {ends owners counts : List �
         stands =
             record {
               opened_is = j.stands.opened_is;
+              opened_late = j.stands.opened_late;
               opens = j.stands.opens;
               counts = j.stands.counts;
               few_sets = j.stands.few_sets;
@@ -301,7 +302,10 @@ module _ {n : Nest} {key s : List ℕ} {last : ℕ} {ends owners counts : List �
     unfolding judge_from
     steps_as = judges_as (PV.Names q) i
 
-    fine_as : (b : Bool) → b ≡ (step n key j.now.open_is j.now.known (st m by) j.now.count).fine → (counting n key m j.now).fine ≡ b
+    fine_as
+        : (b : Bool)
+        → b ≡ (step n key j.now.open_is j.now.known (st m by) j.now.count).fine
+        → (counting n key m j.now).fine ≡ b
     fine_as b e = ap (λ (x : Count). x.fine) (sym stepping) ∙ sym e
 
     pub step_not
@@ -334,6 +338,7 @@ module _ {n : Nest} {key s : List ℕ} {last : ℕ} {ends owners counts : List �
           stands =
               record {
                 opened_is = j.stands.opened_is;
+                opened_late = j.stands.opened_late;
                 opens = j.stands.opens;
                 counts = subst (λ (x : Count). CountTables n key x last (suc j.steps) c' times' gone') stepping
                     counts;
@@ -364,19 +369,20 @@ module _ {n : Nest} {key s : List ℕ} {last : ℕ} {ends owners counts : List �
     store_room =
         let room = claims_fine (progress j.many j.steps by) (PV.Claims k) refl (fine_part (PV.Claims k) i) in
         ⊎_elim
-        (λ (z : begins ≡ 0). omega (arith, j.stands.count_is ∙ ap length (j.stands.fresh z)))
-        (λ (z : begins ≡ 0 → ⊥). omega (arith, j.room z, room.1))
-        (eq_or begins 0)
+        (λ (z : (is_some begins ≡ false) × (j.now.line ≡ 0)).
+        omega (arith, j.stands.count_is ∙ ap length (j.stands.fresh z.0)))
+        (λ (z : (is_some begins ≡ true) × (j.now.line ≡ 0 → ⊥)). omega (arith, j.room z.0, room.1))
+        (opens_or u.tables j.stands)
 
     module _ (o : Open) (oe : o ≡ open_of ends head) (r : Bool)
-        (e : r ≡ (eqb begins 0 || shown_by (low_by o.a o.b) c (greatest (at times) last) (at counts o.d)))
+        (e : r ≡ (not (is_some begins) || shown_by (low_by o.a o.b) c (greatest (at times) last) (at counts o.d)))
       where
         shut : r ≡ closes n key j.now
         shut =
             closes_is u.tables j.stands r
             (subst
             (λ (p : Open). r
-            ≡ (eqb begins 0 || shown_by (low_by p.a p.b) c (greatest (at times) last) (at counts p.d))) oe e)
+            ≡ (not (is_some begins) || shown_by (low_by p.a p.b) c (greatest (at times) last) (at counts p.d))) oe e)
 
         -- what is opened
         next : Judging
@@ -392,7 +398,7 @@ module _ {n : Nest} {key s : List ℕ} {last : ℕ} {ends owners counts : List �
         unfolding judge_from next
         opens_as = judges_as (PV.Claims k) i
 
-        pub claim_unshown : r ≡ false → begins ≡ judged n key (parts_of (lines_of s))
+        pub claim_unshown : r ≡ false → line_in begins ≡ judged n key (parts_of (lines_of s))
         claim_unshown z =
             let no : closes n key j.now ≡ false = sym shut ∙ z in
             j.stands.opened_is ∙ sym (rw no refl) ∙ opens_as
@@ -409,11 +415,12 @@ module _ {n : Nest} {key s : List ℕ} {last : ℕ} {ends owners counts : List �
               → is_do n.points k.d ≡ true
               → Closed begins o.d o.e o.a o.b c (at counts o.d) last owners times struck struck'
               → length claims ≡ CLAIMS
-              → known' ≡ pick (eqb begins 0) known (known + 1)
+              → known' ≡ pick (is_some begins) (known + 1) known
               → ((g : ℕ) → holds low' g ≡
-              ((not (eqb begins 0) && (low_by head.a head.b && eqb g head.d)) || holds low g))
+              ((is_some begins && (low_by head.a head.b && eqb g head.d)) || holds low g))
               → CountTables n key begun last 0 0 times' gone'
-              → Judges n key s last ends k line 0 0 known' low' gone' (set claims known head) struck' times' f.next (line + 1)
+              → Judges n key s last ends k (Some line) 0 0 known' low' gone' (set claims known head) struck' times'
+              f.next (line + 1)
           unfolding next
           claim_on known' low' gone' struck' times' q cl long ke lw clean =
               let ps = parts_of (lines_of (drop f.next s)) in
@@ -436,6 +443,7 @@ module _ {n : Nest} {key s : List ℕ} {last : ℕ} {ends owners counts : List �
                 stands =
                     record {
                       opened_is = refl;
+                      opened_late = j.pos;
                       opens =
                           record {
                             loop_is = refl;
@@ -447,53 +455,37 @@ module _ {n : Nest} {key s : List ℕ} {last : ℕ} {ends owners counts : List �
                       counts = clean;
                       few_sets = omega arith;
                       few_steps = omega arith;
-                      count_is = counts_on (eq_or begins 0);
+                      count_is = counts_on (opens_or u.tables j.stands);
                       knows =
                           subst
-                          (λ (p : ℕ). KnownTables n key (known_now n key j.now) (take p (set claims known head)) struck')
-                          (sym ke) knows;
+                          (λ (p : ℕ). KnownTables n key (known_now n key j.now) (take p (set claims known head))
+                          struck') (sym ke) knows;
                       lows = low_now u.tables j.stands low' lw;
-                      fresh = λ y. absurd (omega (arith, y, j.pos));
+                      fresh = λ y. never (sym y);
                     };
-                room = λ y. few (eq_or begins 0);
+                room = λ y. few (opens_or u.tables j.stands);
                 few_claims = omega (arith, room.1);
                 pos = omega arith;
               }
             where
-              none_known : begins ≡ 0 → known ≡ 0
-              none_known y = j.stands.count_is ∙ ap length (j.stands.fresh y)
+              -- where none was open there is none known, else there is one more
+              none_known : is_some begins ≡ false → (known ≡ 0) × (known' ≡ known)
+              none_known y = (j.stands.count_is ∙ ap length (j.stands.fresh y), ke ∙ rw y refl)
 
-              same_known : begins ≡ 0 → known' ≡ known
-              same_known y = ke ∙ rw (eq-eqb begins 0 y) refl
+              more_known : is_some begins ≡ true → known' ≡ known + 1
+              more_known y = ke ∙ rw y refl
 
-              more_known : (begins ≡ 0 → ⊥) → known' ≡ known + 1
-              more_known y = ke ∙ rw (ne_eqb begins 0 y) refl
-
-              counts_on : (begins ≡ 0) ⊎ ((begins ≡ 0) → ⊥) → known' ≡ length (known_now n key j.now)
-              counts_on (inl y) =
-                  let l : j.now.line ≡ 0 = sym j.stands.opened_is ∙ y in
-                  rw (eq-eqb j.now.line 0 l) (same_known y ∙ none_known y)
+              counts_on
+                  : ((is_some begins ≡ false) × (j.now.line ≡ 0)) ⊎ ((is_some begins ≡ true) × (j.now.line ≡ 0 → ⊥))
+                  → known' ≡ length (known_now n key j.now)
+              counts_on (inl y) = rw (eq-eqb j.now.line 0 y.1) (omega (arith, none_known y.0))
               counts_on (inr y) =
-                  let l : j.now.line ≡ 0 → ⊥ = λ (e : j.now.line ≡ 0). y (j.stands.opened_is ∙ e) in
                   let one = known_of n key j.now.open_is j.now.count in
-                  rw (ne_eqb j.now.line 0 l)
-                  (omega (arith, more_known y, j.stands.count_is, length-append j.now.known (one ∷ [])))
+                  rw (ne_eqb j.now.line 0 y.1)
+                  (omega (arith, more_known y.0, j.stands.count_is, length-append j.now.known (one ∷ [])))
 
-              few : (begins ≡ 0) ⊎ ((begins ≡ 0) → ⊥) → suc known' ≤ suc j.many
-              few (inl y) =
-                  omega (arith, none_known y, same_known y)
-              few (inr y) =
-                  omega (arith, more_known y, j.room y)
-
-module _ {claims : List Claimed} {struck times : List ℕ} (l : Long claims struck times) where
-  pub long_named : (new : List ℕ) → length new ≡ length times → Long claims struck new
-  long_named new e =
-      record { claims_long = l.claims_long; struck_long = l.struck_long; times_long = e ∙ l.times_long }
-
-  pub long_closed
-      : (i : ℕ) (k : Claimed) (new clean : List ℕ)
-      → length new ≡ length struck
-      → length clean ≡ POINTS
-      → Long (set claims i k) new clean
-  long_closed i k new clean e z =
-      record { claims_long = length-set claims i k ∙ l.claims_long; struck_long = e ∙ l.struck_long; times_long = z }
+              few
+                  : ((is_some begins ≡ false) × (j.now.line ≡ 0)) ⊎ ((is_some begins ≡ true) × (j.now.line ≡ 0 → ⊥))
+                  → suc known' ≤ suc j.many
+              few (inl y) = omega (arith, none_known y.0)
+              few (inr y) = omega (arith, more_known y.0, j.room y.0)

@@ -1,6 +1,7 @@
 -- The end of a claim over tables, and the low claims at the end of an argument.
 -- Main definitions: `low_by`, `shown_by`, `exact_by`, `ShownRoom`, `ClosingRoom`, `Closed`, `low_at`, `all_low_in`.
-use Rattle.std.specs.Prelude.{◌≡◌, Bool, true, ◌&&◌, ◌||◌, not, List, ℕ, zero, suc, ◌+◌, ◌≤◌, ◌<◌, eqb, ltb}
+use Rattle.std.specs.Prelude.{◌≡◌, Bool, true, false, ◌&&◌, ◌||◌, not, List, ℕ, zero, suc, ◌+◌, ◌≤◌, ◌<◌, eqb, ltb}
+use Rattle.std.specs.Prelude.{Option, is_some}
 use Rattle.laws.specs.Choice.{when}
 use Rattle.laws.specs.Entries.{at}
 use Rattle.paper_nests.specs.Kinds.{POINTS}
@@ -35,14 +36,14 @@ pub record ClosingRoom (last c count : ℕ) (times : List ℕ) : Type 0 where
   pub few_times : (g : ℕ) → at times g ≤ STEPS
   pub few_barriers : count ≤ POINTS
 
--- the claim of loop d, with ENDDO e, excludes what it says; where none is open, `line` is 0 and nothing is excluded
-pub record Closed (line d e a b c count last : ℕ) (owners times old new : List ℕ) : Type 0 where
-  pub none : line ≡ 0 → new ≡ old
+-- the claim of loop d, with ENDDO e, excludes what it says; where none is open, it has no line and nothing is excluded
+pub record Closed (line : Option ℕ) (d e a b c count last : ℕ) (owners times old new : List ℕ) : Type 0 where
+  pub none : is_some line ≡ false → new ≡ old
   pub struck
-      : (line ≡ 0 → ⊥)
+      : is_some line ≡ true
       → Struck
-      (excludes_at a b (exact_by (low_by a b) c (greatest (at times) last) count) (greatest (at times) last) owners times d)
-      d e old new
+      (excludes_at a b (exact_by (low_by a b) c (greatest (at times) last) count) (greatest (at times) last) owners
+      times d) d e old new
 
 -- the point is no loop's DO, or the loop has count 0, or its low claim is among those known
 abbrev pub low_at : List ℕ → List ℕ → List ℕ → ℕ → Bool

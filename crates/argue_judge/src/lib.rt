@@ -1,7 +1,7 @@
 // An argument judged: the claims of a text in turn, each by its steps, over tables of the nest.
 #![tactic(auto)]
 
-ghost use Rattle.std.specs.Prelude.{◌≡◌, true, ◌&&◌, ◌||◌, not, ℕ, ◌+◌, ◌≤◌, ◌<◌, eqb, length, IfSome};
+ghost use Rattle.std.specs.Prelude.{◌≡◌, true, ◌&&◌, ◌||◌, not, ℕ, ◌+◌, ◌≤◌, ◌<◌, eqb, length, is_some, IfSome};
 ghost use Rattle.laws.specs.Choice.{pick};
 ghost use Rattle.laws.specs.Entries.{at};
 ghost use Rattle.paper_nests.specs.Kinds.{POINTS};
@@ -71,7 +71,7 @@ fn judge_lines(
     let mut low = Placement::empty();
     let mut gone = Placement::empty();
     let mut head = Claimed { d: 0, a: 0, b: 0 };
-    let mut opened: usize = 0;
+    let mut opened: Option<usize> = None;
     let mut c: usize = 0;
     let mut by: Option<usize> = None;
     let mut known: usize = 0;
@@ -92,7 +92,7 @@ fn judge_lines(
                     &times,
                     &mut struck,
                 ) {
-                    return Some(opened);
+                    return opened;
                 }
                 let lows = with_low(opened, head, low);
                 if !all_low(points, counts, lows) {
@@ -114,7 +114,7 @@ fn judge_lines(
                             &times,
                             &mut struck,
                         ) {
-                            return Some(opened);
+                            return opened;
                         }
                         if !is_do(points, k.d as usize) {
                             return Some(line);
@@ -125,7 +125,7 @@ fn judge_lines(
                         times = no_times();
                         gone = Placement::empty();
                         head = k;
-                        opened = line;
+                        opened = Some(line);
                         c = 0;
                         by = None;
                     }
@@ -219,19 +219,19 @@ fn open_of(k: Claimed, ends: &[usize]) -> Open
 }
 
 // The claims known once the open one is; where none is open, as before.
-fn with_known(line: usize, known: usize) -> usize
+fn with_known(line: Option<usize>, known: usize) -> usize
     requires { known < CLAIMS }
-    ensures { result ≡ pick (eqb line 0) known (known + 1) }
+    ensures { result ≡ pick (is_some line) (known + 1) known }
 {
-    if line == 0 { known } else { known + 1 }
+    if line.is_some() { known + 1 } else { known }
 }
 
 // The loops with a low claim, once the open claim is known.
-fn with_low(line: usize, k: Claimed, low: Placement) -> Placement
+fn with_low(line: Option<usize>, k: Claimed, low: Placement) -> Placement
     ensures { (i : ℕ) → holds result.words i
-        ≡ ((not (eqb line 0) && (low_by k.a k.b && eqb i k.d)) || holds low.words i) }
+        ≡ ((is_some line && (low_by k.a k.b && eqb i k.d)) || holds low.words i) }
 {
-    if line != 0 && is_low(k.a as usize, k.b as usize) {
+    if line.is_some() && is_low(k.a as usize, k.b as usize) {
         return low.put(k.d as usize);
     }
     low
@@ -272,7 +272,7 @@ fn first_at(barred: bool, owner: usize, count: usize) -> usize
 
 // The open claim ends: whether its steps show it; what it excludes is then noted. Where none is open, nothing is.
 fn close(
-    line: usize,
+    line: Option<usize>,
     claim: Open,
     c: usize,
     count: usize,
@@ -284,11 +284,11 @@ fn close(
     requires striking_room { StrikingRoom claim.d claim.e owners.now times.now struck.old }
     requires closing_room { ClosingRoom last c count times.now }
     ensures value { result
-        ≡ (eqb line 0 || shown_by (low_by claim.a claim.b) c (greatest (at times.now) last) count) }
+        ≡ (not (is_some line) || shown_by (low_by claim.a claim.b) c (greatest (at times.now) last) count) }
     ensures closed { result ≡ true → Closed line claim.d claim.e claim.a claim.b c count last owners.now
         times.now struck.old struck.new }
 {
-    if line == 0 {
+    if line.is_none() {
         return true;
     }
     let most = most_of(last, times);

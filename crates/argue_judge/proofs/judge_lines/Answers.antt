@@ -10,7 +10,9 @@ use Rattle.paper_gaps.specs.Lies.{LiesTo}
 use Rattle.argue_texts.specs.Parts.{set_in}
 use Rattle.argue_weigh.specs.declared.Ended.{Ended}
 use Rattle.argue_weigh.specs.declared.Asked.{Asked}
-use Rattle.argue_judge.proofs.Turns.{long_named, long_closed, end_unshown, never_refused, turned, goes-on, never_unknown}
+use Rattle.argue_judge.proofs.Sizes.{long_named, long_closed}
+use Rattle.argue_judge.proofs.Turns.{end_unshown, never_refused, turned, goes-on}
+use Rattle.argue_judge.proofs.Turns.{never_unknown}
 use Rattle.argue_judge.proofs.Turns.{Led-on, claim_unshown, claim_of_none, claim_on, step_not, step_on}
 use Rattle.argue_judge.proofs.Lines.{first_room, lines_begun, striking_room, closing_room, count_begun}
 use Rattle.argue_judge.proofs.Lines.{end_holds, end_lacks, is_loop, step_room, stepped_as, asked_lies}
@@ -56,6 +58,11 @@ returns-then-not-close-clause-first c = λ key t.
     (sym (rw c.in-Ok-None.field-0-is at c.in-Ok-None.ensures)) c.open_of-claim.result c.open_of-claim.ensures.value
     c.close.result c.close.ensures.value c.if-not-close.true
 
+pub returns-then-not-close-clause-found : goal.returns-then-not-close-clause-found
+returns-then-not-close-clause-found c =
+    let w = c.requires.judgeable in
+    (c.loop-times.invariant.judges w.key w.tables).stands.opened_late
+
 pub returns-then-not-all_low-clause-first : goal.returns-then-not-all_low-clause-first
 returns-then-not-all_low-clause-first c = λ key t.
     end_lacks c.requires.judgeable t c.requires.text_value (c.loop-times.invariant.judges key t)
@@ -73,8 +80,8 @@ returns-in-Ok-None-clause-first c = λ key t.
 pub returns-in-Err-clause-first : goal.returns-in-Err-clause-first
 returns-in-Err-clause-first c = λ key t.
     absurd
-    (never_refused (nest_in c.args.nest) key c.args.text.now t c.requires.text_value (c.loop-times.invariant.judges key t)
-    c.in-Err.field-0 (sym c.in-Err.ensures))
+    (never_refused (nest_in c.args.nest) key c.args.text.now t c.requires.text_value
+    (c.loop-times.invariant.judges key t) c.in-Err.field-0 (sym c.in-Err.ensures))
 
 -- ---- a claim
 
@@ -98,6 +105,11 @@ returns-then-not-close-2-clause-first c =
     λ key t.
     claim_unshown (turn key t) c.in-Claims.is c.open_of-claim.result c.open_of-claim.ensures.value
     c.close-in-Claims.result c.close-in-Claims.ensures.value c.if-not-close-2.true
+
+pub returns-then-not-close-2-clause-found : goal.returns-then-not-close-2-clause-found
+returns-then-not-close-2-clause-found c =
+    let w = c.requires.judgeable in
+    (c.loop-times.invariant.judges w.key w.tables).stands.opened_late
 
 pub returns-then-not-is_do-clause-first : goal.returns-then-not-is_do-clause-first
 returns-then-not-is_do-clause-first c =
@@ -170,10 +182,12 @@ loop-times-preserved c =
           (record {
             judges = λ key t.
                 claim_on (turn key t) w.in-Claims.is c.open_of-claim.result c.open_of-claim.ensures.value
-                w.close-in-Claims.result w.close-in-Claims.ensures.value w.if-not-close-2.false w.with_known-known.result
-                w.with_low-low.result.words w.empty-gone-in-Claims.result.words w.close-in-Claims.new.struck clean.result
+                w.close-in-Claims.result w.close-in-Claims.ensures.value w.if-not-close-2.false
+                w.with_known-known.result w.with_low-low.result.words w.empty-gone-in-Claims.result.words
+                w.close-in-Claims.new.struck clean.result
                 (is_loop c.requires.judgeable w.is_do.result w.in-Claims.k.d true w.is_do.ensures w.if-not-is_do.false)
-                (w.close-in-Claims.ensures.closed w.if-not-close-2.false) v.long.claims_long w.with_known-known.ensures w.with_low-low.ensures
+                (w.close-in-Claims.ensures.closed w.if-not-close-2.false) v.long.claims_long
+                w.with_known-known.ensures w.with_low-low.ensures
                 (count_begun (nest_in c.args.nest) key (length c.args.points.now - 1) clean.result
                 w.empty-gone-in-Claims.result.words clean.ensures.by_index w.empty-gone-in-Claims.ensures);
             long = long_closed v.long c.loop-times.known c.loop-times.head w.close-in-Claims.new.struck clean.result

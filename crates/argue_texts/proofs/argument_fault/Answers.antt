@@ -23,7 +23,8 @@ returns-in-Err c =
     let l = c.loop-f in
     record {
       fault_is =
-          walk_bad c.args.text.now (progress_in l.sofar) l.at l.line l.invariant c.in-Err.refusal (sym c.in-Err.ensures);
+          walk_bad c.args.text.now (progress_in l.sofar) l.at l.line l.invariant c.in-Err.refusal
+          (sym c.in-Err.ensures);
     }
 
 pub returns-in-Err-part_fault : goal.returns-in-Err-part_fault
