@@ -1,6 +1,6 @@
 -- The gaps of a step, one after the other from the last to the first: what a turn keeps, and one law for each way
 -- through it.
--- Main statements: `number_when`; `fine_by`; `Naming`, `name_start`, `name_on`, `name_stop`, `name_done`.
+-- Main statements: `number_when`; `fine_by`; `Naming`, `name_on`, `name_stop`.
 use mathlib.Core.Path.{◌≡◌, refl, sym, ap, ◌∙◌}
 use mathlib.Core.Bool.{Bool, true, false}
 use mathlib.Core.List.{List}
@@ -13,7 +13,7 @@ use Rattle.laws.specs.Choice.{when}
 use Rattle.laws.specs.Entries.{at}
 use Rattle.laws.proofs.Stores.{stored}
 use Rattle.argue_claims.specs.Arguments.{every, named}
-use Rattle.argue_weigh.specs.Naming.{left_at, lies_at, fine_at, Named}
+use Rattle.argue_weigh.specs.Naming.{left_at, lies_at, fine_at}
 
 -- a test as a number
 pub number_when : (b : Bool) → bool_byte b ≡ when b 1
@@ -36,16 +36,6 @@ pub record Naming (fine left : ℕ → Bool) (last : ℕ) (old : List ℕ) (g : 
   pub long : length new ≡ length old
   pub more : (i : ℕ) → g < i → i ≤ last → at new i ≡ named left (at old) i
   pub rest : (i : ℕ) → (i ≤ g) ⊎ (last < i) → at new i ≡ at old i
-
-pub name_start : (fine left : ℕ → Bool) (last : ℕ) (old : List ℕ) → Naming fine left last old last old
-name_start fine left last old =
-    record {
-      inside = omega arith;
-      on = refl;
-      long = refl;
-      more = λ i p q. absurd (omega arith);
-      rest = λ i p. refl;
-    }
 
 every_on : (fine : ℕ → Bool) (g : ℕ) → 0 < g → fine g ≡ true → every fine g ≡ every fine (g - 1)
 every_on fine zero p h = absurd (omega arith)
@@ -93,25 +83,3 @@ module _ {fine left : ℕ → Bool} {last : ℕ} {old : List ℕ} {g : ℕ} {new
       below : (i : ℕ) → (i ≤ g - 1) ⊎ (last < i) → (i ≤ g) ⊎ (last < i)
       below i (inl p) = inl (omega (arith, p))
       below i (inr p) = inr p
-
-module _ {fine left : ℕ → Bool} {last : ℕ} {old : List ℕ} {g : ℕ} {new : List ℕ}
-    (n : Naming fine left last old g new) (end : g ≤ 0) where
-  at_end : every fine g ≡ true
-  at_end =
-      let z : g ≡ 0 = omega (arith, end) in
-      rw z refl
-
-  pub name_all : true ≡ every fine last
-  name_all = sym (n.on ∙ at_end)
-
-  pub name_done : Named left last old new
-  name_done =
-      record {
-        long = n.long;
-        more = λ i p q. n.more i (omega (arith, end, p)) q;
-        rest = λ i p. n.rest i (other i p);
-      }
-    where
-      other : (i : ℕ) → (i ≤ 0) ⊎ (last < i) → (i ≤ g) ⊎ (last < i)
-      other i (inl p) = inl (omega (arith, p))
-      other i (inr p) = inr p

@@ -1,6 +1,6 @@
--- The end of a claim over tables: the greatest number, and what is excluded, gap by gap.
--- Main statements: `larger_max`, `most_on`; `Striking`, `strike_start`, `strike_on`, `strike_off`, `strike_done`.
-use mathlib.Core.Path.{◌≡◌, refl, ap, ◌∙◌}
+-- The end of a claim over tables: what is excluded, gap by gap.
+-- Main statements: `larger_max`; `Striking`, `strike_on`, `strike_off`.
+use mathlib.Core.Path.{◌≡◌, refl, ◌∙◌}
 use mathlib.Core.Bool.{Bool, true, false}
 use mathlib.Core.List.{List}
 use mathlib.Core.Logic.{◌⊎◌, inl, inr, ⊎_elim}
@@ -13,8 +13,7 @@ use Rattle.laws.specs.Choice.{pick}
 use Rattle.laws.specs.Entries.{at}
 use Rattle.laws.proofs.Stores.{stored}
 use Rattle.laws.proofs.Tests.{eq_or}
-use Rattle.argue_claims.specs.Arguments.{greatest}
-use Rattle.argue_weigh.specs.Striking.{larger, Struck}
+use Rattle.argue_weigh.specs.Striking.{larger}
 
 pub larger_max : (a b : ℕ) → max a b ≡ larger a b
 larger_max a b = go (leb a b) refl
@@ -23,16 +22,6 @@ larger_max a b = go (leb a b) refl
     go true h = omega (arith, leb-true a b h)
     go false h = omega (arith, leb-false a b h)
 
-pub most_on
-    : (t : ℕ → ℕ) (i most r : ℕ) → most ≡ greatest t i → r ≡ larger most (t (i + 1)) → r ≡ greatest t (i + 1)
-most_on t i most r e h =
-    let z : i + 1 ≡ suc i = omega arith in
-    h ∙ rw (e, z) refl
-
--- at the end
-pub greatest_to : (t : ℕ → ℕ) (i last most : ℕ) → i ≡ last → most ≡ greatest t i → most ≡ greatest t last
-greatest_to t i last most z e = e ∙ ap (greatest t) z
-
 -- the gaps from g + 1 to e are done
 pub record Striking (excluded : ℕ → Bool) (d e : ℕ) (old : List ℕ) (g : ℕ) (new : List ℕ) : Type 0 where
   pub low : d ≤ g
@@ -40,16 +29,6 @@ pub record Striking (excluded : ℕ → Bool) (d e : ℕ) (old : List ℕ) (g : 
   pub long : length new ≡ length old
   pub done : (i : ℕ) → g < i → i ≤ e → at new i ≡ pick (excluded i) (larger (at old i) (suc d)) (at old i)
   pub rest : (i : ℕ) → (i ≤ g) ⊎ (e < i) → at new i ≡ at old i
-
-pub strike_start : (excluded : ℕ → Bool) (d e : ℕ) (old : List ℕ) → d ≤ e → Striking excluded d e old e old
-strike_start excluded d e old h =
-    record {
-      low = h;
-      high = omega arith;
-      long = refl;
-      done = λ i p q. absurd (omega arith);
-      rest = λ i p. refl;
-    }
 
 module _ {excluded : ℕ → Bool} {d e : ℕ} {old : List ℕ} {g : ℕ} {new : List ℕ}
     (n : Striking excluded d e old g new) where
@@ -102,15 +81,3 @@ module _ {excluded : ℕ → Bool} {d e : ℕ} {old : List ℕ} {g : ℕ} {new :
       below : (i : ℕ) → (i ≤ g - 1) ⊎ (e < i) → (i ≤ g) ⊎ (e < i)
       below i (inl p) = inl (omega (arith, p))
       below i (inr p) = inr p
-
-  pub strike_done : g ≤ d → Struck excluded d e old new
-  strike_done h =
-      record {
-        long = n.long;
-        inside = λ i p q. n.done i (omega (arith, p, h)) q;
-        outside = λ i p. n.rest i (outer i p);
-      }
-    where
-      outer : (i : ℕ) → (i ≤ d) ⊎ (e < i) → (i ≤ g) ⊎ (e < i)
-      outer i (inl p) = inl (omega (arith, p, n.low))
-      outer i (inr p) = inr p

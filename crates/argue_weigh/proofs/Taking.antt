@@ -1,6 +1,6 @@
 -- A step that the code takes is the step of the definition: whether it holds, and the count after it.
 -- Main statements: `known_ends`; `unfit`, `unled`, `step_tables`, `fine_is`, `count_after`; `says_unfit`, `says_unled`,
--- `says_unnamed`, `says_taken`; `set_room`, `lead_room`.
+-- `says_unnamed`, `says_taken`.
 use mathlib.Core.Path.{◌≡◌, refl, sym, ap, ◌∙◌}
 use Rattle.std.proofs.Common.{Option, Some, None}
 use Rattle.std.specs.Option.{is_some, IfSome}
@@ -39,8 +39,8 @@ use Rattle.argue_weigh.specs.declared.Ended as DX
 use Rattle.argue_weigh.specs.declared.Asked as DA
 use Rattle.argue_weigh.specs.declared.Taken as DT
 use Rattle.argue_weigh.specs.Naming.{left_at, fine_at, Named}
-use Rattle.argue_weigh.specs.Taking.{claim_at, set_fits, SetRoom, gap_of, set_at, IsSetOf, leads_on, led_at, leads_at}
-use Rattle.argue_weigh.specs.Taking.{gone_after, LeadRoom, StepRoom}
+use Rattle.argue_weigh.specs.Taking.{claim_at, set_fits, gap_of, set_at, IsSetOf, leads_on, led_at, leads_at}
+use Rattle.argue_weigh.specs.Taking.{gone_after}
 use Rattle.argue_weigh.specs.Taking.{PaperTables, KnownTables, OpenTables, AskedTables, CountTables, StepSays}
 use Rattle.argue_weigh.proofs.Stepping.{asked, StepTables, step_fine, step_named}
 
@@ -367,23 +367,3 @@ module _ (last : ℕ) (o : DO.Open) (s : DA.Asked) (c : ℕ) (gone : DP.Placemen
       sym (fine_is p q w a t fits led ws us set_is with_led true h),
       count_after p q w a t fits led ws us set_is with_led new r.gone.words r.c h m more after,
     )
-
-module _ {last : ℕ} {o : DO.Open} {s : DA.Asked} {c : ℕ} {claims : List DC.Claimed} {ends owners struck times : List ℕ}
-    (r : StepRoom last o s c claims ends owners struck times) where
-  pub set_room : SetRoom o s
-  set_room =
-      record {
-        low = omega (arith, r.rises, r.ends_there, r.naming.small);
-        end_low = omega (arith, r.ends_there, r.naming.small);
-        upto_low = r.upto_low;
-        lies = r.lies;
-      }
-
-  pub lead_room : led_at o claims (led_in s.by) ≡ true → LeadRoom (led_in s.by) claims ends
-  lead_room led =
-      let there : led_in s.by ≤ length claims = led_there o claims (led_in s.by) led in
-      record {
-        claims_long = there;
-        ends_long = r.ends_long;
-        low = λ m e. r.loops_end m (omega (arith, there, e));
-      }

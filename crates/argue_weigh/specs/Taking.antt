@@ -4,7 +4,7 @@
 -- `KnownTables`, `OpenTables`, `AskedTables`, `CountTables`, `StepSays`.
 use Rattle.std.specs.Prelude.{◌≡◌, Bool, true, false, ◌&&◌, ◌||◌, List, ℕ, zero, suc, ◌≤◌, ◌<◌, ltb, leb, length}
 use Rattle.std.specs.Prelude.{get_or, Option, None, Some, is_some, IfSome}
-use Rattle.laws.specs.Choice.{pick, between}
+use Rattle.laws.specs.Choice.{between}
 use Rattle.laws.specs.Entries.{at}
 use Rattle.paper_nests.specs.Kinds.{POINTS}
 use Rattle.paper_nests.specs.Nests.{Nest}
@@ -25,9 +25,6 @@ use Rattle.argue_weigh.specs.declared.Asked as DA
 use Rattle.argue_weigh.specs.declared.Taken as DT
 use Rattle.argue_weigh.specs.Naming.{NamingRoom}
 use Rattle.argue_weigh.specs.Excluding.{Excludes}
-
-abbrev pub smaller : ℕ → ℕ → ℕ
-smaller a b = pick (leb a b) a b
 
 -- claim m, as the code reads it
 abbrev pub claim_at : List DC.Claimed → ℕ → DC.Claimed

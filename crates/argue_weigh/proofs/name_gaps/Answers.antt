@@ -1,21 +1,11 @@
-use mathlib.Core.Path.{◌≡◌, ap, ◌∙◌}
+use mathlib.Core.Path.{ap, ◌∙◌}
 use mathlib.Core.Bool.{Bool, true, false}
-use Prim.Native.Nat.{◌+◌, ◌-◌, ◌≤◌, ◌<◌}
+use Prim.Native.Nat.{◌-◌, ◌<◌}
 use native.Mathlib.Omega.{arith}
 use lib.ListN.{length}
 use Rattle.laws.specs.Choice.{when}
-use Rattle.laws.proofs.Tests.{never}
-use Rattle.argue_weigh.specs.Naming.{left_at, fine_at}
-use Rattle.argue_weigh.proofs.Steps.{number_when, fine_by, name_start, name_on, name_stop, name_all, name_done}
+use Rattle.argue_weigh.proofs.Steps.{number_when, fine_by, name_on, name_stop}
 use Rattle.argue_weigh.proofs.name_gaps.Goals as goal
-
-pub loop-g-init : goal.loop-g-init
-loop-g-init c =
-    let a = c.args in
-    let z : a.last + 1 - 1 ≡ a.last = omega arith in
-    rw z
-    (name_start (fine_at a.set.words a.gone.words a.owners.now a.struck.now a.d a.e)
-    (left_at a.set.words a.gone.words a.struck.now a.d) a.last a.times.now)
 
 pub loop-g-preserved : goal.loop-g-preserved
 loop-g-preserved c =
@@ -35,18 +25,10 @@ loop-g-preserved c =
     (c.from.ensures ∙ number_when c.left_at-left.result ∙ ap (λ (b : Bool). when b 1) c.left_at-left.ensures)
     fits
 
-pub returns-then-not-lies_at : goal.returns-then-not-lies_at
-returns-then-not-lies_at c =
+pub returns-then-not-lies_at-clause-value : goal.returns-then-not-lies_at-clause-value
+returns-then-not-lies_at-clause-value c =
     let a = c.args in
-    let pos : 0 < c.loop-g.g - 1 = omega (arith, c.loop-g-test.true) in record {
-      value = name_stop c.loop-g.invariant pos
-          (fine_by a.set.words a.d a.e (c.loop-g.g - 1) a.owners.now c.left_at-left.result
-          a.gone.words a.struck.now
-          c.lies_at.result false c.left_at-left.ensures c.lies_at.ensures c.if-not-lies_at.true);
-      named = λ z. never z;
-    }
-
-pub returns : goal.returns
-returns c =
-    let end : c.loop-g.g - 1 ≤ 0 = omega (arith, c.loop-g-test.false) in
-    record { value = name_all c.loop-g.invariant end; named = λ z. name_done c.loop-g.invariant end }
+    let pos : 0 < c.loop-g.g - 1 = omega (arith, c.loop-g-test.true) in
+    name_stop c.loop-g.invariant pos
+    (fine_by a.set.words a.d a.e (c.loop-g.g - 1) a.owners.now c.left_at-left.result a.gone.words a.struck.now
+    c.lies_at.result false c.left_at-left.ensures c.lies_at.ensures c.if-not-lies_at.true)

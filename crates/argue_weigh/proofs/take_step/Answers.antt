@@ -1,6 +1,5 @@
 -- `take_step` meets its contract: one law for each way through it.
 use mathlib.Core.Path.{sym}
-use Rattle.argue_weigh.proofs.Taking.{set_room, lead_room}
 use Rattle.argue_weigh.proofs.Taking.{says_unfit, says_unled, says_unnamed, says_taken}
 use Rattle.argue_weigh.proofs.take_step.Goals.{then-not-set_fits-via-then-not-set_fits}
 use Rattle.argue_weigh.proofs.take_step.Goals.{then-not-set_fits-via-else-not-set_fits+then-not-is_led}
@@ -17,15 +16,6 @@ returns-then-not-set_fits c =
           says_unled a.last a.claim a.step a.c a.gone a.claims.now a.ends.now a.owners.now
           a.struck.now a.times.now a.times.now (sym w.if-not-is_led.ensures)
     ]
-
-pub set_of-set-requires : goal.set_of-set-requires
-set_of-set-requires c = set_room c.requires
-
-pub with_led-led-requires : goal.with_led-led-requires
-with_led-led-requires c = lead_room c.requires (sym c.if-not-is_led.ensures)
-
-pub gone_after-requires : goal.gone_after-requires
-gone_after-requires c = lead_room c.requires (sym c.if-not-is_led.ensures)
 
 pub returns-then-not-name_gaps : goal.returns-then-not-name_gaps
 returns-then-not-name_gaps c =
