@@ -44,6 +44,15 @@ pub struct Improved {
     pub floor: u64,
 }
 
+// A nest with its tables: the ENDDO of each DO, and how often each gap is passed.
+#[derive(Clone, Copy)]
+struct Tables<'a> {
+    nest: &'a Nest,
+    ends: &'a [usize; Nest::POINTS],
+    times: &'a [u64; Nest::POINTS],
+    ghost with_ends: { WithEnds nest.now ends.now },
+}
+
 // A placement with its calls and, in chains, the dependences by the highest barrier that cuts them: the first of each
 // barrier's, and after each dependence the next of the same barrier; the number of dependences for none.
 #[derive(Clone, Copy)]
@@ -102,19 +111,24 @@ fn improve_key(nest: Nest, key: Placement, turns: &[u8], budget: usize) -> Impro
     let points = nest.points();
     let times = times_of(points, turns);
     let ends = paper_nests::ends_of(points);
-    let floor = floor_of(nest, &ends, &times);
+    let tables = Tables {
+        nest: &nest,
+        ends: &ends,
+        times: &times,
+    };
+    let floor = floor_of(&tables);
     let calls = sum_at(&times, key);
-    let mut current = current_of(nest, &ends, key, calls);
+    let mut current = current_of(&tables, key, calls);
     let mut tries: usize = 0;
     let mut g = free_from(key, 1, count);
     while g < count {
         if tries == budget {
             return outcome_of(current, tries, BUDGET, floor);
         }
-        let tried = try_at(nest, current, &ends, &times, g);
+        let tried = try_at(&tables, &current, g);
         tries += 1;
         if tried.calls < current.calls {
-            current = current_of(nest, &ends, tried.placement, tried.calls);
+            current = current_of(&tables, tried.placement, tried.calls);
             g = free_from(tried.placement, 1, count);
         } else {
             g = free_from(current.placement, g + 1, count);
@@ -123,7 +137,8 @@ fn improve_key(nest: Nest, key: Placement, turns: &[u8], budget: usize) -> Impro
     outcome_of(current, tries, ROUND, floor)
 }
 
-// The current placement and its calls, with the other answers.
+// The current placement and its calls, with the other answers. What ended the tries is a byte: the C interface (desk.h)
+// lays the reply out with it.
 fn outcome_of(current: Current, tries: usize, ended: u8, floor: u64) -> Improved
     ensures { reply_in result ≡ reached current tries ended floor }
 {
@@ -184,19 +199,18 @@ fn highest(latest: &[usize; Nest::POINTS], end: usize, e: Dependence) -> usize
 }
 
 // The placement, which cuts every dependence, with its calls and chains.
-fn current_of(nest: Nest, ends: &[usize; Nest::POINTS], p: Placement, calls: u64) -> Current
-    requires with_ends { WithEnds nest ends.now }
-    requires words_value { are_gaps (nest_in nest) (gaps_in p.words) ≡ true }
-    requires words_value_2 { uncut (nest_in nest) (gaps_in p.words) ≡ 0 }
-    ensures { CurrentSays (nest_in nest) p calls result }
+fn current_of(tables: &Tables, p: Placement, calls: u64) -> Current
+    requires words_value { are_gaps (nest_in tables.now.nest.now) (gaps_in p.words) ≡ true }
+    requires words_value_2 { uncut (nest_in tables.now.nest.now) (gaps_in p.words) ≡ 0 }
+    ensures { CurrentSays (nest_in tables.now.nest.now) p calls result }
 {
-    let many = nest.many;
+    let many = tables.nest.many;
     let latest = latest_of(p);
     let mut first = [many; Nest::POINTS];
     let mut next = [many; Nest::DEPENDENCES];
     for i in (0..many).rev() {
-        let e = nest.deps[i];
-        let h = highest(&latest, ends[e.d as usize], e);
+        let e = tables.nest.deps[i];
+        let h = highest(&latest, tables.ends[e.d as usize], e);
         next[i] = first[h];
         first[h] = i;
     }
@@ -210,32 +224,25 @@ fn current_of(nest: Nest, ends: &[usize; Nest::POINTS], p: Placement, calls: u64
 
 // A try at gap g: the new barrier and, from the lowest on, each other barrier that is needed, as it is the highest of a
 // dependence that no barrier kept so far cuts.
-fn try_at(
-    nest: Nest,
-    current: Current,
-    ends: &[usize; Nest::POINTS],
-    times: &[u64; Nest::POINTS],
-    g: usize,
-) -> Try
-    requires with_ends { WithEnds nest ends.now }
-    requires try_asks { TryAsks nest current times.now g }
-    ensures { TrySays (nest_in nest) (gaps_in current.placement.words) times.now g result }
+fn try_at(tables: &Tables, current: &Current, g: usize) -> Try
+    requires { TryAsks tables.now.nest.now current.now tables.now.times.now g }
+    ensures { TrySays (nest_in tables.now.nest.now) (gaps_in current.now.placement.words) tables.now.times.now g result }
 {
-    let count = nest.count;
-    let many = nest.many;
+    let count = tables.nest.count;
+    let many = tables.nest.many;
     let none = Placement::empty();
     let mut placement = none.put(g);
-    let mut calls = times[g];
+    let mut calls = tables.times[g];
     let mut h: usize = 0;
     let mut i = many;
     loop {
         if i < many {
-            let e = nest.deps[i];
-            if cut_in(ends[e.d as usize], placement, e).is_some() {
+            let e = tables.nest.deps[i];
+            if cut_in(tables.ends[e.d as usize], placement, e).is_some() {
                 i = current.next[i];
             } else {
                 placement = placement.put(h);
-                calls += times[h];
+                calls += tables.times[h];
                 i = many;
             }
         } else {
@@ -249,17 +256,16 @@ fn try_at(
 }
 
 // Through the dependences in order, the calls of the cheapest gap of each that shares none with those taken before.
-fn floor_of(nest: Nest, ends: &[usize; Nest::POINTS], times: &[u64; Nest::POINTS]) -> u64
-    requires with_ends { WithEnds nest ends.now }
-    requires few_times { FewTimes nest.count times.now }
-    ensures { FloorSays (nest_in nest) times.now result }
+fn floor_of(tables: &Tables) -> u64
+    requires { FewTimes tables.now.nest.now.count tables.now.times.now }
+    ensures { FloorSays (nest_in tables.now.nest.now) tables.now.times.now result }
 {
     let mut taken = Placement::empty();
     let mut floor: u64 = 0;
-    for &e in &nest.deps[..nest.many] {
-        let end = ends[e.d as usize];
+    for &e in tables.nest.dependences() {
+        let end = tables.ends[e.d as usize];
         if cut_in(end, taken, e).is_none() {
-            floor += cheapest_of(times, end, e);
+            floor += cheapest_of(tables.times, end, e);
             taken = with_gaps(taken, end, e);
         }
     }

@@ -5,4 +5,4 @@ use Rattle.call_improve.proofs.Chains.{Chaining}
 use Rattle.call_improve.proofs.current_of.Given as goal
 
 abbrev pub invariant-loop-i : goal.invariant-loop-i
-invariant-loop-i l = Chaining (nest_in l.nest) (gaps_in l.p.words) l.i l.first l.next
+invariant-loop-i l = Chaining (nest_in l.tables.nest.now) (gaps_in l.p.words) l.i l.first l.next

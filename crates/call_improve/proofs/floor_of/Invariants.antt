@@ -4,4 +4,4 @@ use Rattle.call_improve.proofs.FloorWalk.{Flooring}
 use Rattle.call_improve.proofs.floor_of.Given as goal
 
 abbrev pub invariant-loop-e : goal.invariant-loop-e
-invariant-loop-e l = Flooring (nest_in l.fn.nest) l.times l.e-index l.floor l.taken.words
+invariant-loop-e l = Flooring (nest_in l.fn.tables.nest.now) l.tables.times.now l.e-index l.floor l.taken.words

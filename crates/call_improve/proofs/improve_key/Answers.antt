@@ -9,7 +9,6 @@ use Rattle.paper_nests.specs.declared.Nest as DN
 use Rattle.paper_nests.specs.Stored.{nest_in}
 use Rattle.paper_placements.specs.declared.Placement as DP
 use Rattle.paper_placements.specs.Words.{gaps_in}
-use Rattle.paper_gaps.specs.Lies.{WithEnds}
 use Rattle.run_count.specs.Times.{HasTimes}
 use Rattle.call_improve.specs.declared.Current as DU
 use Rattle.call_improve.specs.Steps.{SearchAsks}
@@ -24,8 +23,13 @@ times_of-times-requires-clause-points_value c = rw c.points-points.ensures (turn
 pub times_of-times-requires-clause-turns_value : goal.times_of-times-requires-clause-turns_value
 times_of-times-requires-clause-turns_value c = rw c.points-points.ensures (turns_asked c.requires).1
 
-pub floor_of-floor-requires-clause-few_times : goal.floor_of-floor-requires-clause-few_times
-floor_of-floor-requires-clause-few_times c =
+pub invariant_of-tables : goal.invariant_of-tables
+invariant_of-tables c =
+    let ends = rw c.points-points.ensures at c.ends_of-ends.ensures in
+    record { with_ends = with_ends c.requires c.ends_of-ends.result ends }
+
+pub floor_of-floor-requires : goal.floor_of-floor-requires
+floor_of-floor-requires c =
     few_times c.requires c.times_of-times.result (rw c.points-points.ensures at c.times_of-times.ensures)
 
 pub sum_at-calls-requires : goal.sum_at-calls-requires
@@ -68,12 +72,11 @@ try_at-tried-requires c =
     let times : List ℕ = c.times_of-times.result in
     let asks : SearchAsks nest key turns = c.requires in
     let has : HasTimes (nest_in nest).points turns times = rw c.points-points.ensures at c.times_of-times.ensures in
-    let ended : WithEnds nest c.ends_of-ends.result = with_ends asks c.ends_of-ends.result (rw c.points-points.ensures at c.ends_of-ends.ensures) in
     let placed : gaps_in c.current_of-current.result.placement.words ≡ gaps_in key.words = ap (λ (q : DP.Placement). gaps_in q.words) c.current_of-current.ensures.placement_is in
     let held : Searching nest turns (gaps_in key.words) budget c.loop-g.current c.loop-g.tries c.loop-g.g = subst
     (λ (x : List ℕ). Searching nest turns x budget c.loop-g.current c.loop-g.tries c.loop-g.g)
     placed
-    c.loop-g.invariant in record { with_ends = ended; try_asks = search_asks asks times has budget held c.loop-g-test.true }
+    c.loop-g.invariant in search_asks asks times has budget held c.loop-g-test.true
 
 pub overflow_add-tries : goal.overflow_add-tries
 overflow_add-tries c =
@@ -99,14 +102,13 @@ current_of-current-requires-then-tried-current c =
     let times : List ℕ = c.times_of-times.result in
     let asks : SearchAsks nest key turns = c.requires in
     let has : HasTimes (nest_in nest).points turns times = rw c.points-points.ensures at c.times_of-times.ensures in
-    let ended : WithEnds nest c.ends_of-ends.result = with_ends asks c.ends_of-ends.result (rw c.points-points.ensures at c.ends_of-ends.ensures) in
     let placed : gaps_in c.current_of-current.result.placement.words ≡ gaps_in key.words = ap (λ (q : DP.Placement). gaps_in q.words) c.current_of-current.ensures.placement_is in
     let held : Searching nest turns (gaps_in key.words) budget c.loop-g.current c.loop-g.tries c.loop-g.g = subst
     (λ (x : List ℕ). Searching nest turns x budget c.loop-g.current c.loop-g.tries c.loop-g.g)
     placed
     c.loop-g.invariant in
     let sound = try_sound asks times has budget held c.loop-g-test.true c.try_at-tried.result c.try_at-tried.ensures in
-    record { with_ends = ended; words_value = sound.0; words_value_2 = sound.1 }
+    record { words_value = sound.0; words_value_2 = sound.1 }
 
 pub loop-g-preserved-then-tried-current : goal.loop-g-preserved-then-tried-current
 loop-g-preserved-then-tried-current c =

@@ -6,40 +6,40 @@ use Rattle.call_improve.proofs.TryTurns.{turn_next, turn_done}
 use Rattle.call_improve.proofs.try_at.Goals as goal
 
 pub put-placement-requires : goal.put-placement-requires
-put-placement-requires c = gap_below c.requires.with_ends c.requires.try_asks
+put-placement-requires c = gap_below c.args.tables.now.with_ends c.requires
 
 pub loop-i-init : goal.loop-i-init
 loop-i-init c =
-    turn_start c.requires.with_ends c.requires.try_asks c.empty-none.result.words c.put-placement.result.words c.empty-none.ensures c.put-placement.ensures
+    turn_start c.args.tables.now.with_ends c.requires c.empty-none.result.words c.put-placement.result.words c.empty-none.ensures c.put-placement.ensures
 
 pub loop-i-smaller-then-is_some : goal.loop-i-smaller-then-is_some
 loop-i-smaller-then-is_some c =
-    omega (arith, turn_up c.requires.with_ends c.requires.try_asks c.loop-i.placement.words c.loop-i.invariant c.if-i-many.true)
+    omega (arith, turn_up c.args.tables.now.with_ends c.requires c.loop-i.placement.words c.loop-i.invariant c.if-i-many.true)
 
 pub loop-i-preserved-then-is_some : goal.loop-i-preserved-then-is_some
 loop-i-preserved-then-is_some c =
-    turn_cut c.requires.with_ends c.requires.try_asks c.loop-i.placement.words c.loop-i.invariant c.if-i-many.true c.cut_in.result
+    turn_cut c.args.tables.now.with_ends c.requires c.loop-i.placement.words c.loop-i.invariant c.if-i-many.true c.cut_in.result
     c.cut_in.ensures (cut_some c.cut_in.result ∙ sym c.is_some.ensures ∙ c.if-is_some.true)
 
 pub put-placement-requires-else-is_some : goal.put-placement-requires-else-is_some
-put-placement-requires-else-is_some c = turn_below c.requires.with_ends c.requires.try_asks c.loop-i.placement.words c.loop-i.invariant
+put-placement-requires-else-is_some c = turn_below c.args.tables.now.with_ends c.requires c.loop-i.placement.words c.loop-i.invariant
 
 pub overflow_add-calls : goal.overflow_add-calls
 overflow_add-calls c =
     record {
       fits =
-          turn_sum c.requires.with_ends c.requires.try_asks c.loop-i.placement.words c.loop-i.invariant c.if-i-many.true c.cut_in.result
+          turn_sum c.args.tables.now.with_ends c.requires c.loop-i.placement.words c.loop-i.invariant c.if-i-many.true c.cut_in.result
           c.cut_in.ensures (cut_some c.cut_in.result ∙ sym c.is_some.ensures ∙ c.if-is_some.false);
     }
 
 pub loop-i-preserved-else-is_some : goal.loop-i-preserved-else-is_some
 loop-i-preserved-else-is_some c =
-    turn_kept c.requires.with_ends c.requires.try_asks c.loop-i.placement.words c.loop-i.invariant c.if-i-many.true c.cut_in.result
+    turn_kept c.args.tables.now.with_ends c.requires c.loop-i.placement.words c.loop-i.invariant c.if-i-many.true c.cut_in.result
     c.cut_in.ensures (cut_some c.cut_in.result ∙ sym c.is_some.ensures ∙ c.if-is_some.false) c.put-placement-else-is_some.result.words c.put-placement-else-is_some.ensures
 
 pub returns-then-count-h : goal.returns-then-count-h
 returns-then-count-h c =
-    turn_done c.requires.with_ends c.requires.try_asks c.loop-i.placement.words c.loop-i.invariant c.if-i-many.false
+    turn_done c.args.tables.now.with_ends c.requires c.loop-i.placement.words c.loop-i.invariant c.if-i-many.false
     (record { placement = c.loop-i.placement; calls = c.loop-i.calls })
     refl
     refl
@@ -47,4 +47,4 @@ returns-then-count-h c =
 
 pub loop-i-preserved : goal.loop-i-preserved
 loop-i-preserved c =
-    turn_next c.requires.with_ends c.requires.try_asks c.loop-i.placement.words c.loop-i.invariant c.if-i-many.false c.if-count-h.false
+    turn_next c.args.tables.now.with_ends c.requires c.loop-i.placement.words c.loop-i.invariant c.if-i-many.false c.if-count-h.false
