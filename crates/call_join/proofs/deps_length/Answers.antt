@@ -23,4 +23,5 @@ loop-e-preserved c = added c
 pub returns : goal.returns
 returns c =
     let es = c.dependences-e-items in
-    summed_done c.loop-e.invariant (omega (arith, lent_deps c.args.nest.now es.result.now c.requires es.ensures.entries))
+    summed_done c.loop-e.invariant
+    (omega (arith, lent_deps c.args.nest.now es.result.now c.requires es.ensures.entries))

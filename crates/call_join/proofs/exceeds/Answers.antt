@@ -7,8 +7,10 @@ use Rattle.call_join.proofs.exceeds.Goals as goal
 
 pub returns-then-deepest-ge-DEPTH : goal.returns-then-deepest-ge-DEPTH
 returns-then-deepest-ge-DEPTH c =
-    rw (exceeds_by (nest_in c.args.both.now.n.now) (nest_in c.args.both.now.m.now) c.args.both.now.papers) (grind (arith, nat_tests))
+    let b = c.args.both.now in
+    rw (exceeds_by (nest_in b.n.now) (nest_in b.m.now) b.papers) (grind (arith, nat_tests))
 
 pub returns-else-deepest-ge-DEPTH : goal.returns-else-deepest-ge-DEPTH
 returns-else-deepest-ge-DEPTH c =
-    rw (exceeds_by (nest_in c.args.both.now.n.now) (nest_in c.args.both.now.m.now) c.args.both.now.papers) (grind (arith, nat_tests))
+    let b = c.args.both.now in
+    rw (exceeds_by (nest_in b.n.now) (nest_in b.m.now) b.papers) (grind (arith, nat_tests))

@@ -22,7 +22,8 @@ pub moved-requires : goal.moved-requires
 moved-requires c =
     let n = c.args.nest.now in
     let es = c.dependences-e-items in
-    let next = next_dep n es.result.now c.requires.counted es.ensures.entries none c.loop-e.e-index c.loop-e-test.true in
+    let next =
+    next_dep n es.result.now c.requires.counted es.ensures.entries none c.loop-e.e-index c.loop-e-test.true in
     c.requires.stay_bytes _ (among_next (nest_in n).deps c.loop-e.e-index next)
 
 pub put_dep-at-requires : goal.put_dep-at-requires
@@ -31,7 +32,8 @@ put_dep-at-requires c =
     let p = c.loop-e.invariant in
     let fits = c.requires.room in
     let es = c.dependences-e-items in
-    let next = next_dep n es.result.now c.requires.counted es.ensures.entries none c.loop-e.e-index c.loop-e-test.true in
+    let next =
+    next_dep n es.result.now c.requires.counted es.ensures.entries none c.loop-e.e-index c.loop-e-test.true in
     let room = piece_room p fits (dep_next c.args.by (nest_in n).deps c.loop-e.e-index next) in
     let line = ap (λ (e : Dep). length (line_text (dep_frame e))) c.moved.ensures in
     simp (length-take, length-drop) (omega (arith, room, line, piece_length p fits, piece_within p fits))
@@ -42,7 +44,8 @@ loop-e-preserved c =
     let p = c.loop-e.invariant in
     let fits = c.requires.room in
     let es = c.dependences-e-items in
-    let next = next_dep n es.result.now c.requires.counted es.ensures.entries none c.loop-e.e-index c.loop-e-test.true in
+    let next =
+    next_dep n es.result.now c.requires.counted es.ensures.entries none c.loop-e.e-index c.loop-e-test.true in
     let line = ap (λ (e : Dep). line_text (dep_frame e)) c.moved.ensures in
     piece_on p fits (dep_next c.args.by (nest_in n).deps c.loop-e.e-index next)
     (c.put_dep-at.ensures.0 ∙ ap length line)

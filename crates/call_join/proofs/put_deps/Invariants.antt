@@ -10,4 +10,5 @@ use Rattle.call_join.proofs.put_deps.Given as goal
 abbrev pub invariant-loop-e : goal.invariant-loop-e
 invariant-loop-e l =
     let es = (nest_in l.fn.nest).deps in
-    Piecing (dep_pieces (moved_deps l.by es)) (dep_pieces (moved_deps l.by (drop l.e-index es))) l.initial.out l.out l.at
+    let left = moved_deps l.by (drop l.e-index es) in
+    Piecing (dep_pieces (moved_deps l.by es)) (dep_pieces left) l.initial.out l.out l.at
