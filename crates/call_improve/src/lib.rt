@@ -226,7 +226,8 @@ fn current_of(tables: &Tables, p: Placement, calls: u64) -> Current
 // dependence that no barrier kept so far cuts.
 fn try_at(tables: &Tables, current: &Current, g: usize) -> Try
     requires { TryAsks tables.now.nest.now current.now tables.now.times.now g }
-    ensures { TrySays (nest_in tables.now.nest.now) (gaps_in current.now.placement.words) tables.now.times.now g result }
+    ensures { TrySays (nest_in tables.now.nest.now) (gaps_in current.now.placement.words) tables.now.times.now g
+        result }
 {
     let count = tables.nest.count;
     let many = tables.nest.many;

@@ -15,48 +15,54 @@ use Rattle.call_improve.proofs.current_of.Goals as goal
 pub loop-i-init : goal.loop-i-init
 unfolding copies
 loop-i-init c =
-    let many = c.args.tables.now.nest.now.many in
-    chain_start (nest_in c.args.tables.now.nest.now) (gaps_in c.args.p.words) many (copies 256 many) (copies 512 many)
-    c.args.tables.now.with_ends.counted.many_is refl refl
-    (λ h p. entry (copies 256 many) h 0 many p ∙ copies_at 256 many h)
+    let t = c.args.tables.now in
+    let many = t.nest.now.many in
+    chain_start (nest_in t.nest.now) (gaps_in c.args.p.words) many (copies 256 many) (copies 512 many)
+    t.with_ends.counted.many_is refl refl (λ h p. entry (copies 256 many) h 0 many p ∙ copies_at 256 many h)
 
 pub highest-h-requires : goal.highest-h-requires
 highest-h-requires c =
-    found_lies c.args.tables.now.with_ends (omega (arith, c.loop-i.invariant.within, c.args.tables.now.with_ends.counted.many_is))
+    let w = c.args.tables.now.with_ends in
+    found_lies w (omega (arith, c.loop-i.invariant.within, w.counted.many_is))
 
 pub offset_bounds-first-h : goal.offset_bounds-first-h
 offset_bounds-first-h c =
+    let w = c.args.tables.now.with_ends in
     let low : c.highest-h.result < POINTS =
-    told_low c.args.tables.now.with_ends c.args.p.words c.requires.words_value c.requires.words_value_2
-    (omega (arith, c.loop-i.invariant.within, c.args.tables.now.with_ends.counted.many_is))
-    c.latest_of-latest.result c.highest-h.result c.latest_of-latest.ensures c.highest-h.ensures in
+    told_low w c.args.p.words c.requires.words_value c.requires.words_value_2
+    (omega (arith, c.loop-i.invariant.within, w.counted.many_is)) c.latest_of-latest.result c.highest-h.result
+    c.latest_of-latest.ensures c.highest-h.ensures in
     omega (arith, low)
 
 pub bounds-first-h : goal.bounds-first-h
 bounds-first-h c =
-    told_low c.args.tables.now.with_ends c.args.p.words c.requires.words_value c.requires.words_value_2
-    (omega (arith, c.loop-i.invariant.within, c.args.tables.now.with_ends.counted.many_is))
-    c.latest_of-latest.result c.highest-h.result c.latest_of-latest.ensures c.highest-h.ensures
+    let w = c.args.tables.now.with_ends in
+    told_low w c.args.p.words c.requires.words_value c.requires.words_value_2
+    (omega (arith, c.loop-i.invariant.within, w.counted.many_is)) c.latest_of-latest.result c.highest-h.result
+    c.latest_of-latest.ensures c.highest-h.ensures
 
 pub offset_bounds-first-h-in-loop-i : goal.offset_bounds-first-h-in-loop-i
 offset_bounds-first-h-in-loop-i c =
+    let w = c.args.tables.now.with_ends in
     let low : c.highest-h.result < POINTS =
-    told_low c.args.tables.now.with_ends c.args.p.words c.requires.words_value c.requires.words_value_2
-    (omega (arith, c.loop-i.invariant.within, c.args.tables.now.with_ends.counted.many_is))
-    c.latest_of-latest.result c.highest-h.result c.latest_of-latest.ensures c.highest-h.ensures in
+    told_low w c.args.p.words c.requires.words_value c.requires.words_value_2
+    (omega (arith, c.loop-i.invariant.within, w.counted.many_is)) c.latest_of-latest.result c.highest-h.result
+    c.latest_of-latest.ensures c.highest-h.ensures in
     omega (arith, low)
 
 pub bounds-first-h-in-loop-i : goal.bounds-first-h-in-loop-i
 bounds-first-h-in-loop-i c =
-    told_low c.args.tables.now.with_ends c.args.p.words c.requires.words_value c.requires.words_value_2
-    (omega (arith, c.loop-i.invariant.within, c.args.tables.now.with_ends.counted.many_is))
-    c.latest_of-latest.result c.highest-h.result c.latest_of-latest.ensures c.highest-h.ensures
+    let w = c.args.tables.now.with_ends in
+    told_low w c.args.p.words c.requires.words_value c.requires.words_value_2
+    (omega (arith, c.loop-i.invariant.within, w.counted.many_is)) c.latest_of-latest.result c.highest-h.result
+    c.latest_of-latest.ensures c.highest-h.ensures
 
 pub loop-i-preserved : goal.loop-i-preserved
 loop-i-preserved c =
+    let nest = c.args.tables.now.nest.now in
+    let n = nest_in nest in
     let w = c.args.tables.now.with_ends in
-    let n = nest_in c.args.tables.now.nest.now in
-    let there : c.loop-i.i - 1 < c.args.tables.now.nest.now.many = omega (arith, c.loop-i.invariant.within, w.counted.many_is) in
+    let there : c.loop-i.i - 1 < nest.many = omega (arith, c.loop-i.invariant.within, w.counted.many_is) in
     let told : c.highest-h.result ≡ top_at n.points n.deps (gaps_in c.args.p.words) (c.loop-i.i - 1) =
     top_told w c.args.p.words c.requires.words_value c.requires.words_value_2 there c.latest_of-latest.result
     c.highest-h.result c.latest_of-latest.ensures c.highest-h.ensures in

@@ -16,7 +16,7 @@ use Rattle.call_improve.proofs.floor_of.Goals as goal
 use Rattle.call_improve.proofs.floor_of.Goals.{then-is_none, else-is_none}
 
 -- a dependence of those lent is that of the nest
-module _ (n : DN.Nest) (es : List DE.Dependence) (lent : es ≡ take n.many n.deps) (i : ℕ) (h : i < length es) where
+module _ (n : DN.Nest) {es : List DE.Dependence} (lent : es ≡ take n.many n.deps) {i : ℕ} (h : i < length es) where
   there : i < n.many
   there = omega (arith, ap length lent, length-take n.many n.deps)
 
@@ -24,40 +24,52 @@ module _ (n : DN.Nest) (es : List DE.Dependence) (lent : es ≡ take n.many n.de
   lent_is = rw lent (get_or-take n.many n.deps i _ there)
 
 pub loop-e-init : goal.loop-e-init
-loop-e-init c = floor_start (nest_in c.args.tables.now.nest.now) c.args.tables.now.times.now c.empty-taken.result.words c.empty-taken.ensures
+loop-e-init c =
+    let t = c.args.tables.now in
+    floor_start (nest_in t.nest.now) t.times.now c.empty-taken.result.words c.empty-taken.ensures
 
 pub cheapest_of-floor-requires : goal.cheapest_of-floor-requires
-cheapest_of-floor-requires c = rw (lent_is c.args.tables.now.nest.now c.dependences-e-items.result.now c.dependences-e-items.ensures.entries _ c.loop-e-test.true) (found_lies c.args.tables.now.with_ends (there c.args.tables.now.nest.now c.dependences-e-items.result.now c.dependences-e-items.ensures.entries _ c.loop-e-test.true))
+cheapest_of-floor-requires c =
+    let t = c.args.tables.now in
+    let es = c.dependences-e-items.ensures.entries in
+    rw (lent_is t.nest.now es c.loop-e-test.true) (found_lies t.with_ends (there t.nest.now es c.loop-e-test.true))
 
 pub overflow_add-floor : goal.overflow_add-floor
 overflow_add-floor c =
-    let its = lent_is c.args.tables.now.nest.now c.dependences-e-items.result.now c.dependences-e-items.ensures.entries _ c.loop-e-test.true in
+    let t = c.args.tables.now in
+    let es = c.dependences-e-items.ensures.entries in
+    let its = lent_is t.nest.now es c.loop-e-test.true in
     record {
       fits =
-          floor_fits c.args.tables.now.with_ends c.loop-e.invariant (there c.args.tables.now.nest.now c.dependences-e-items.result.now c.dependences-e-items.ensures.entries _ c.loop-e-test.true) c.cut_in.result
+          floor_fits t.with_ends c.loop-e.invariant (there t.nest.now es c.loop-e-test.true) c.cut_in.result
           (rw its at c.cut_in.ensures) c.requires c.cheapest_of-floor.result (rw its at c.cheapest_of-floor.ensures);
     }
 
 pub with_gaps-taken-requires : goal.with_gaps-taken-requires
-with_gaps-taken-requires c = rw (lent_is c.args.tables.now.nest.now c.dependences-e-items.result.now c.dependences-e-items.ensures.entries _ c.loop-e-test.true) (found_lies c.args.tables.now.with_ends (there c.args.tables.now.nest.now c.dependences-e-items.result.now c.dependences-e-items.ensures.entries _ c.loop-e-test.true))
+with_gaps-taken-requires c =
+    let t = c.args.tables.now in
+    let es = c.dependences-e-items.ensures.entries in
+    rw (lent_is t.nest.now es c.loop-e-test.true) (found_lies t.with_ends (there t.nest.now es c.loop-e-test.true))
 
 pub loop-e-preserved : goal.loop-e-preserved
 loop-e-preserved c =
-    let its = lent_is c.args.tables.now.nest.now c.dependences-e-items.result.now c.dependences-e-items.ensures.entries _ c.loop-e-test.true in
+    let t = c.args.tables.now in
+    let es = c.dependences-e-items.ensures.entries in
+    let here = there t.nest.now es c.loop-e-test.true in
+    let its = lent_is t.nest.now es c.loop-e-test.true in
     let says = rw its at c.cut_in.ensures in
     let cut = cut_some c.cut_in.result ∙ c.is_none.ensures in
     elim c.if-is_none.branch [
       | then-is_none w ↦
           rw
           (w.floor-is, w.taken-is)
-          (floor_taken c.args.tables.now.with_ends c.loop-e.invariant (there c.args.tables.now.nest.now c.dependences-e-items.result.now c.dependences-e-items.ensures.entries _ c.loop-e-test.true) c.cut_in.result
-          says c.requires w.cheapest_of-floor.result (rw its at w.cheapest_of-floor.ensures)
-          (cut ∙ ap not w.if-is_none.true) w.with_gaps-taken.result.words (rw its at w.with_gaps-taken.ensures))
+          (floor_taken t.with_ends c.loop-e.invariant here c.cut_in.result says c.requires w.cheapest_of-floor.result
+          (rw its at w.cheapest_of-floor.ensures) (cut ∙ ap not w.if-is_none.true) w.with_gaps-taken.result.words
+          (rw its at w.with_gaps-taken.ensures))
       | else-is_none w ↦
           rw
           (w.floor-is, w.taken-is)
-          (floor_shared c.args.tables.now.with_ends c.loop-e.invariant (there c.args.tables.now.nest.now c.dependences-e-items.result.now c.dependences-e-items.ensures.entries _ c.loop-e-test.true) c.cut_in.result
-          says (cut ∙ ap not w.if-is_none.false))
+          (floor_shared t.with_ends c.loop-e.invariant here c.cut_in.result says (cut ∙ ap not w.if-is_none.false))
     ]
 
 pub returns : goal.returns

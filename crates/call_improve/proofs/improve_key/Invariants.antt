@@ -7,7 +7,7 @@ use Rattle.call_improve.proofs.improve_key.Given as goal
 
 abbrev pub invariant-loop-g : goal.invariant-loop-g
 invariant-loop-g l =
-    Searching l.fn.nest l.turns (gaps_in l.initial.current.placement.words) l.budget l.current l.tries l.g
+    Searching l.fn.nest l.turns (gaps_in l.fn.key.words) l.budget l.current l.tries l.g
 
 abbrev pub decreases-loop-g : goal.decreases-loop-g
 decreases-loop-g l = l.budget - l.tries

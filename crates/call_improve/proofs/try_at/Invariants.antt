@@ -8,7 +8,8 @@ use Rattle.call_improve.proofs.try_at.Given as goal
 
 abbrev pub invariant-loop-i : goal.invariant-loop-i
 invariant-loop-i l =
-    Trying (nest_in l.tables.nest.now) (gaps_in l.current.placement.words) l.g l.tables.times.now l.h l.i (gaps_in l.placement.words) l.calls
+    Trying (nest_in l.tables.nest.now) (gaps_in l.current.placement.words) l.g l.tables.times.now l.h l.i
+    (gaps_in l.placement.words) l.calls
 
 abbrev pub decreases-loop-i : goal.decreases-loop-i
 decreases-loop-i l = (256 - l.h) * 513 + (512 - l.i)
