@@ -1,13 +1,13 @@
 -- Digits of a line and the bytes that they spell.
--- Main statements: `hex_at`, `frame_length`, `frame_at`, `frame_past`, `digits_are`, `digits_parts`.
+-- Main statements: `hex_at`, `frame_length`, `frame_at`, `frame_past`, `digits_parts`.
 use mathlib.Core.Path.{◌≡◌, refl, sym}
-use mathlib.Core.Bool.{Bool, true, false, ◌&&◌}
+use mathlib.Core.Bool.{true, ◌&&◌}
 use mathlib.Core.List.{List, [], ◌∷◌}
 use Prim.Native.Nat.{ℕ, zero, suc, ◌+◌, ◌*◌, ◌/◌, ◌%◌, ◌≤◌, ◌<◌}
 use native.Mathlib.Omega.{arith}
 use lib.Dec.{eqb, leb}
 use lib.ListN.{length, get_or, get_or-eq_default}
-use borrow.Author.Tests.{le-leb, leb-true, eqb-true}
+use borrow.Author.Tests.{leb-true, eqb-true}
 use Rattle.laws.proofs.Tests.{and_true}
 use Rattle.paper_lines.specs.Lines.{is_hex, value_of, all_hex, is_digits, frame_of}
 
@@ -40,20 +40,6 @@ pub frame_past : (l : List ℕ) (i : ℕ) → length l / 2 ≤ i → 0 ≡ get_o
 frame_past l i h =
     let z : length (frame_of l) ≤ i = omega (arith, frame_length l) in
     sym (get_or-eq_default (frame_of l) 0 z)
-
--- when a line is an even, nonzero number of digits
-pub digits_none : (l : List ℕ) → length l ≡ 0 → is_digits l ≡ false
-digits_none [] h = refl
-digits_none (b ∷ l) h = absurd (omega arith)
-
-pub digits_are : (l : List ℕ) → (length l ≡ 0 → ⊥) → all_hex l ≡ true → eqb (length l % 2) 0 ≡ is_digits l
-digits_are l h k =
-    let z : 1 ≤ length l = omega arith in
-    rw (le-leb 1 (length l) z, k) (go (eqb (length l % 2) 0))
-  where
-    go : (t : Bool) → t ≡ (t && true)
-    go true = refl
-    go false = refl
 
 -- the parts of the test
 pub record Digits (l : List ℕ) : Type 0 where

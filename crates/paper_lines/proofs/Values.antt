@@ -1,18 +1,16 @@
 -- The table of the digits' values, filled value by value: the digits of the values passed have theirs, every other byte
 -- has 16. Once all 16 are passed, these other bytes are no digits.
--- Main statements: `Filling`, what a turn keeps; `fill_none`, `fill_all`; `table_hex`, `table-value`.
+-- Main statements: `Filling`, what a turn keeps; `fill_none`, `fill_all`.
 use mathlib.Core.Path.{◌≡◌, refl, sym, ◌∙◌, ap}
 use mathlib.Core.Bool.{Bool, true, false}
 use mathlib.Core.List.{List}
 use Prim.Native.Nat.{ℕ, ◌<◌}
 use native.Mathlib.Omega.{arith}
-use lib.Dec.{ltb}
 use lib.ListN.{length, get_or}
-use borrow.Author.Tests.{lt-ltb}
 use Rattle.laws.specs.Choice.{pick}
 use Rattle.laws.proofs.Copies.{copies, copies_there}
 use Rattle.paper_lines.specs.Lines.{is_hex, value_of, digit_of}
-use Rattle.paper_lines.specs.Reading.{table_value, AreValues}
+use Rattle.paper_lines.specs.Reading.{AreValues}
 use Rattle.paper_lines.proofs.Spelling.{digit_is_hex, hex_is_digit}
 
 -- the values below k are in the table
@@ -44,14 +42,3 @@ module _ (values : List ℕ) (k : ℕ) (p : Filling values k) where
           not_digit v m z =
               let y : ◌≡◌ {A = ℕ} 0 1 = cc (h, ap is_hex z, digit_is_hex v m) in
               absurd (omega arith)
-
--- what an entry tells
-pub table_hex : (b : ℕ) → ltb (table_value b) 16 ≡ is_hex b
-table_hex b = go (is_hex b) refl
-  where
-    go : (t : Bool) → is_hex b ≡ t → ltb (pick t (value_of b) 16) 16 ≡ t
-    go true h = lt-ltb (value_of b) 16 (hex_is_digit b h).0
-    go false h = refl
-
-pub table-value : (b : ℕ) → is_hex b ≡ true → (table_value b ≡ value_of b) × (value_of b < 16)
-table-value b h = (rw h, (hex_is_digit b h).0)

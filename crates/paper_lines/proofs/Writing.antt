@@ -7,18 +7,10 @@ use native.Mathlib.Numerals.{add-one}
 use native.Mathlib.Omega.{arith}
 use lib.ListN.{length, get_or, take, drop, set, length-append, length-drop, drop_of_length-le}
 use lib.Seq.{drop-cons, set_at, append_snoc, take-suc, take_at, drop_at, length-take-le, take_all, drop-drop}
-use borrow.Author.Tests.{lt-ltb, le-ltb}
 use borrow.Rule.Slice.PartMut.{mid_of, put_mid}
 use Rattle.paper_lines.specs.Lines.{FEED, digit_of, digits_of, line_text}
 use Rattle.paper_lines.specs.Writing.{over}
 use Rattle.paper_lines.proofs.Spelling.{digits_length}
-
--- the digit of a value
-pub digit_number : (v : ℕ) → v < 10 → 48 + v ≡ digit_of v
-digit_number v h = rw (lt-ltb v 10 h)
-
-pub digit_letter : (v : ℕ) → 10 ≤ v → 87 + v ≡ digit_of v
-digit_letter v h = rw (le-ltb v 10 h)
 
 -- two digits a byte, then the 0a
 pub text-length : (f : List ℕ) → length (line_text f) ≡ 2 * length f + 1

@@ -3,7 +3,6 @@ pub mod Levels
 pub mod Loops
 pub mod Gaps
 pub mod Deps
-pub mod Around
 pub mod Ring
 pub mod Bars
 pub mod Flags
@@ -11,5 +10,4 @@ pub mod Stored
 pub mod Scan
 pub mod Backward
 pub mod Ends
-pub mod Faults
 pub mod Cases

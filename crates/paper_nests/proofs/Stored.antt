@@ -1,7 +1,7 @@
 -- Laws of the nest as the code stores it: what one more point, dependence, barred gap or flagged DO makes of it, its
 -- dependences one by one.
 -- Main statements: `point_added`, `dependence_added`, `bar_added`, `flagged_added`, `deps_in_length`, `deps_in_map`,
--- `deps_in_at`, `counted_many`, `counted_points`, `counted_bars`, `counted_flags`.
+-- `deps_in_at`, `counted_many`, `counted_points`, `counted_bars`.
 use mathlib.Core.Path.{◌≡◌, refl, ap}
 use mathlib.Core.List.{List, [], ◌∷◌, ◌++◌, map}
 use Prim.Native.Nat.{ℕ, zero, suc, ◌+◌, ◌≤◌, ◌<◌}
@@ -62,9 +62,6 @@ counted_points n p = omega (arith, p.count_is, length-take n.count n.points)
 
 pub counted_bars : (n : DN.Nest) → IsCounted n → n.bars ≤ length n.barred
 counted_bars n p = omega (arith, p.bars_is, length-take n.bars n.barred)
-
-pub counted_flags : (n : DN.Nest) → IsCounted n → n.flags ≤ length n.flagged
-counted_flags n p = omega (arith, p.flags_is, length-take n.flags n.flagged)
 
 module _ (n : DN.Nest) (p : IsCounted n) where
   abbrev pub with-point : ℕ → DN.Nest

@@ -1,13 +1,12 @@
 -- Barriers: the refusals of a frame of a placement text, as the line reader hands it on.
--- Main statements: `barrier_kind`, `barrier_length`, `barrier_low`, `barrier_high`, `barrier_barred`,
--- `barrier_good`, `barrier_rises`.
+-- Main statements: `barrier_length`, `barrier_barred`, `barrier_good`, `barrier_rises`.
 use mathlib.Core.Path.{◌≡◌}
 use mathlib.Core.Bool.{true, false, ◌&&◌, not}
 use mathlib.Core.List.{List}
-use Prim.Native.Nat.{ℕ, ◌≤◌, ◌<◌}
+use Prim.Native.Nat.{ℕ, ◌<◌}
 use lib.Dec.{eqb, ltb}
 use lib.ListN.{length, get_or}
-use borrow.Author.Tests.{lt-ltb, le-ltb, ltb-true, ne_eqb, not-false}
+use borrow.Author.Tests.{lt-ltb, ltb-true, ne_eqb, not-false}
 use Rattle.laws.specs.Choice.{when, first_of, is_in}
 use Rattle.laws.proofs.Tests.{and_true}
 use Rattle.laws.proofs.Choices.{first_zero, when_zero}
@@ -24,19 +23,10 @@ module _ (last n : ℕ) (bs : List ℕ) (x : Frame) (l : List ℕ) (i : IsFrame 
       (first_of (when (not (ltb last x.a && ltb x.a n)) 8) (when (is_in x.a bs) 16))
   barrier_is = rw (i.kind_is, i.len_is, i.a_is)
 
-  pub barrier_kind : (x.kind ≡ BARRIER → ⊥) → 2 ≡ barrier_fault last n bs l
-  barrier_kind h = rw (barrier_is, ne_eqb x.kind 33 h)
-
   pub barrier_length : (x.len ≡ 2 → ⊥) → 2 ≡ barrier_fault last n bs l
   barrier_length h = rw (barrier_is, ne_eqb x.len 2 h, and_off (eqb x.kind 33))
 
   module _ (k : x.kind ≡ BARRIER) (e : x.len ≡ 2) where
-    pub barrier_low : x.a ≤ last → 8 ≡ barrier_fault last n bs l
-    barrier_low h = rw (barrier_is, k, e, le-ltb last x.a h)
-
-    pub barrier_high : n ≤ x.a → 8 ≡ barrier_fault last n bs l
-    barrier_high h = rw (barrier_is, k, e, le-ltb x.a n h, and_off (ltb last x.a))
-
     module _ (low : last < x.a) (high : x.a < n) where
       pub barrier_barred : is_in x.a bs ≡ true → 16 ≡ barrier_fault last n bs l
       barrier_barred h = rw (barrier_is, k, e, lt-ltb last x.a low, lt-ltb x.a n high, h)

@@ -11,7 +11,6 @@ pub mod PlacedTexts
 pub mod ProgramTexts
 pub mod TextCases
 pub mod Faults
-pub mod Frames
 pub mod Loading
 pub mod Barriers
 pub mod Placing

@@ -1,7 +1,7 @@
 -- Nest texts read line by line: what a turn of the reader keeps, and one law for each way through a turn.
--- Main statements: `at_blank`, `begun`, `at_end`, `at_refusal`; of a turn that comes to a frame (`Turn`)
--- `at_unknown`, `at_point`, `at_dependence`, `at_barred`, `at_flagged`, `room_for_point`, `room_for_dependence`,
--- `room_for_bar`, `room_for_flagged`, `on_point`, `on_dependence`, `on_bar`, `on_flagged`.
+-- Main statements: `begun`, `at_end`, `at_refusal`; of a turn that comes to a frame (`Turn`)
+-- `at_unknown`, `at_point`, `at_dependence`, `at_barred`, `at_flagged`, `room_for_point`, `counted_point`,
+-- `room_for_dependence`, `room_for_bar`, `room_for_flagged`, `on_point`, `on_dependence`, `on_bar`, `on_flagged`.
 use mathlib.Core.Path.{◌≡◌, refl, sym, ◌∙◌, ap}
 use Rattle.std.proofs.Common.{Some, None, Result, Ok, Err}
 use mathlib.Core.Bool.{Bool, true, false, ◌&&◌, not}
@@ -119,11 +119,6 @@ pub record Loading (s : List ℕ) (n : DN.Nest) (ends : List ℕ) (single : Bool
   pub inside : at ≤ length s
   pub lines : line ≤ at + 1
   pub rest : read_lines line (nest_in n) (lines_of (drop at s)) ≡ read_nest s
-
--- an empty text
-pub at_blank : (s : List ℕ) (r : Result DN.Nest Fault) → length s ≡ 0 → IsRead [] r → IsRead s r
-at_blank [] r h p = p
-at_blank (b ∷ s) r h p = absurd (omega arith)
 
 -- no point is a DO where there is none
 no-do : (ps ends : List ℕ) → ps ≡ [] → HasEnds ps ends
@@ -313,7 +308,6 @@ module _
           let none : told_fault (nest_in n) (told_in x) ≡ 0 = sym point_told ∙ z in
           omega (arith, p.counted.count_is, point_room (nest_in n) k (rw is at none))
 
-      -- the nest with the point, and the points that it has then
       pub counted_point : e ≡ 0 → IsCounted (stored.with-point n p.counted k)
       counted_point z = (stored.point_added n p.counted k (room_for_point z) p.wide).counted
 
