@@ -234,20 +234,6 @@ abbrev pub are_frames : List (List ℕ) → Bool
 are_frames [] = true
 are_frames (f ∷ fs) = (leb 1 (length f) && are_bytes f) && are_frames fs
 
--- good lines are the spelling of their frames
-pub good_lines
-    : (ls : List Line)
-    → all_good ls ≡ true
-    → (lines_text ls ≡ frames_text (frames_of ls)) × (are_frames (frames_of ls) ≡ true)
-good_lines [] h = (refl, refl)
-good_lines (l ∷ ls) h =
-    let z = and_true (is_good l) (all_good ls) h in
-    let r = good_lines ls z.1 in
-    let g = good_line l z.0 in (
-      cc (good_bytes l z.0, r.0),
-      and_intro (and_intro (le-leb 1 (length (frame_of l.bytes)) g.some) g.bytes) r.1,
-    )
-
 -- frames that are spelled are read back, each from a good line
 pub frames_back
     : (fs : List (List ℕ))

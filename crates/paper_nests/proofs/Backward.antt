@@ -1,5 +1,5 @@
 -- The scan back from a gap for the loop that it belongs to: the last DO before it with a lower level.
--- Main statements: `Back`, what a turn keeps; `back_start`, `back_found`, `back_over_do`, `back_over_end`,
+-- Main statements: `Back`, what a turn keeps; `back_found`, `back_over_do`, `back_over_end`,
 -- `back_over_other`, `back_ends`.
 use mathlib.Core.Path.{◌≡◌, sym, ap, ◌∙◌}
 use mathlib.Core.Bool.{true}
@@ -20,14 +20,6 @@ pub record Back (ps : List ℕ) (g depth i : ℕ) : Type 0 where
   pub level : lev ps i ≡ lev ps g + depth
   pub over : (j : ℕ) → i ≤ j → j ≤ g → lev ps g ≤ lev ps j
   pub low : depth + i ≤ g
-
-pub back_start : (ps : List ℕ) (g : ℕ) → Back ps g 0 g
-back_start ps g =
-    record {
-      level = omega arith;
-      over = λ j a b. let e : j ≡ g = omega arith in rw e (omega arith);
-      low = omega arith;
-    }
 
 module _ (ps : List ℕ) (shape : is_shape ps ≡ true) (g : ℕ) (first : 0 < g) (there : g < length ps) where
   -- one point back, at a level that is still high enough

@@ -1,5 +1,5 @@
 -- A loop's count as the ones of the placement under the loop's mask.
--- Main statements: `words_tally`, `count_tally`, `count_masked`.
+-- Main statements: `words_tally`, `count_tally`, `count_masked`, `masked_count`.
 use mathlib.Core.Path.{◌≡◌, refl, sym, ◌∙◌}
 use mathlib.Core.Bool.{Bool, true, false, ◌&&◌}
 use mathlib.Core.List.{List}
@@ -99,16 +99,3 @@ pub masked_count
     → r ≡ tally (λ (g : ℕ). holds ws g && holds ms g) GAPS 0
     → LoopCountSays ps d ws r
 masked_count ps ws ms d r h m e n same = e ∙ count_masked n ws ms d (rw same h) (rw same m)
-
--- how many gaps there are
-size_of : (x : ℕ → Bool) (k g : ℕ) → length (gaps_of x k g) ≡ tally x k g
-unfolding gaps_of tally
-size_of x zero g = refl
-size_of x (suc k) g = go (x g) (size_of x k (suc g))
-  where
-    go
-        : (t : Bool)
-        → length (gaps_of x k (suc g)) ≡ tally x k (suc g)
-        → length (kept t g (gaps_of x k (suc g))) ≡ one t + tally x k (suc g)
-    go true r = omega arith
-    go false r = omega arith

@@ -1,16 +1,15 @@
 -- Barriers: the refusals of a frame of a placement text, as the line reader hands it on.
--- Main statements: `barrier_length`, `barrier_barred`, `barrier_good`, `barrier_rises`.
+-- Main statements: `barrier_barred`, `barrier_good`, `barrier_rises`.
 use mathlib.Core.Path.{◌≡◌}
 use mathlib.Core.Bool.{true, false, ◌&&◌, not}
 use mathlib.Core.List.{List}
 use Prim.Native.Nat.{ℕ, ◌<◌}
 use lib.Dec.{eqb, ltb}
 use lib.ListN.{length, get_or}
-use borrow.Author.Tests.{lt-ltb, ltb-true, ne_eqb, not-false}
+use borrow.Author.Tests.{lt-ltb, ltb-true, not-false}
 use Rattle.laws.specs.Choice.{when, first_of, is_in}
 use Rattle.laws.proofs.Tests.{and_true}
 use Rattle.laws.proofs.Choices.{first_zero, when_zero}
-use Rattle.laws.proofs.Connectives.{and_off}
 use Rattle.paper_lines.specs.declared.Frame.{Frame}
 use Rattle.paper_lines.specs.Reading.{IsFrame}
 use Rattle.paper_texts.specs.PlacementTexts.{BARRIER, barrier_fault}
@@ -22,9 +21,6 @@ module _ (last n : ℕ) (bs : List ℕ) (x : Frame) (l : List ℕ) (i : IsFrame 
       (when (not (eqb x.kind BARRIER && eqb x.len 2)) 2)
       (first_of (when (not (ltb last x.a && ltb x.a n)) 8) (when (is_in x.a bs) 16))
   barrier_is = rw (i.kind_is, i.len_is, i.a_is)
-
-  pub barrier_length : (x.len ≡ 2 → ⊥) → 2 ≡ barrier_fault last n bs l
-  barrier_length h = rw (barrier_is, ne_eqb x.len 2 h, and_off (eqb x.kind 33))
 
   module _ (k : x.kind ≡ BARRIER) (e : x.len ≡ 2) where
     module _ (low : last < x.a) (high : x.a < n) where
