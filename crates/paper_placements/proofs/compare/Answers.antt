@@ -26,18 +26,24 @@ loop_mask-mask-requires c =
 
 pub returns-then-ours-theirs : goal.returns-then-ours-theirs
 returns-then-ours-theirs c =
+    let a = c.args in
+    let r = c.requires in
+    let m = c.loop_mask-mask in
     compare_differ c.loop-e.invariant c.loop-e-test.true c.if-point-eq-ENDDO.true c.loop_of-d.ensures
-    (masked_count _ c.args.key.words c.loop_mask-mask.result.words _ _ c.requires.words_value c.loop_mask-mask.ensures c.loop_count-ours.ensures)
-    (masked_count _ c.args.other.words c.loop_mask-mask.result.words _ _ c.requires.words_value_2 c.loop_mask-mask.ensures c.loop_count-theirs.ensures)
+    (masked_count _ a.key.words m.result.words _ _ r.words_value m.ensures c.loop_count-ours.ensures)
+    (masked_count _ a.other.words m.result.words _ _ r.words_value_2 m.ensures c.loop_count-theirs.ensures)
     c.if-ours-theirs.true
 
 pub loop-e-preserved : goal.loop-e-preserved
 loop-e-preserved c =
+    let a = c.args in
+    let r = c.requires in
     elim c.if-point-eq-ENDDO.branch [
       | then-point-eq-ENDDO+else-ours-theirs w ↦
+          let m = w.loop_mask-mask in
           compare_same c.loop-e.invariant c.loop-e-test.true w.if-point-eq-ENDDO.true w.loop_of-d.ensures
-          (masked_count _ c.args.key.words w.loop_mask-mask.result.words _ _ c.requires.words_value w.loop_mask-mask.ensures w.loop_count-ours.ensures)
-          (masked_count _ c.args.other.words w.loop_mask-mask.result.words _ _ c.requires.words_value_2 w.loop_mask-mask.ensures w.loop_count-theirs.ensures)
+          (masked_count _ a.key.words m.result.words _ _ r.words_value m.ensures w.loop_count-ours.ensures)
+          (masked_count _ a.other.words m.result.words _ _ r.words_value_2 m.ensures w.loop_count-theirs.ensures)
           w.if-ours-theirs.false
       | else-point-eq-ENDDO w ↦ compare_other c.loop-e.invariant c.loop-e-test.true w.if-point-eq-ENDDO.false
     ]
