@@ -1,6 +1,5 @@
 -- A move goes through the dependences from the last to the first and writes the counts of those that have its gap.
--- Main statements: `Moving`, what a turn keeps; `Move-start`, `move_past`, `move_on`, `move_done`; `uncut_least`,
--- `uncut_most`.
+-- Main statements: `Moving`, what a turn keeps; `Move-start`, `move_past`, `move_on`; `uncut_least`, `uncut_most`.
 use mathlib.Core.Path.{◌≡◌, refl, sym, ap, ◌∙◌}
 use mathlib.Core.List.{List, ◌∷◌}
 use mathlib.Core.Logic.{⊎_elim}
@@ -50,15 +49,6 @@ module _ (n : Nest) (before after : List ℕ) where
             c j ∙ count_beyond ps ds before j (omega arith) ∙ sym (count_beyond ps ds after j (omega arith));
         uncut_is = rw (e, take-length ds, drop-length ds) (omega arith);
       }
-
-  pub move_done
-      : (i : ℕ) (counts : List ℕ) (uncut : ℕ)
-      → i ≤ 0
-      → Moving n before after i counts uncut
-      → ((j : ℕ) → get_or counts j 0 ≡ count_at ps ds after j) × (uncut ≡ uncut_count ps ds after)
-  move_done i counts uncut h m =
-      let z : i ≡ 0 = omega arith in
-      (λ j. m.new j (omega arith), let y = rw z at m.uncut_is in omega arith)
 
   module _
       (i : ℕ) (counts : List ℕ) (uncut : ℕ) (m : Moving n before after (suc i) counts uncut) (e : Dep)

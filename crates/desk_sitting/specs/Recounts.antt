@@ -8,7 +8,7 @@ use Rattle.paper_placements.specs.Words.{gaps_in}
 use Rattle.desk_sitting.specs.declared.Sitting as DS
 use Rattle.desk_sitting.specs.Counts.{cut_count, count_at, uncut_count}
 
--- from the gaps before to those after, the step takes the count c of a dependence that has gap g; each other count stays
+-- from the gaps before to those after, the step takes the count of a dependence that has gap g; each other count stays
 pub record Steps (n : Nest) (g : ℕ) (before after : List ℕ) (pre : ℕ → Type 0) (post : ℕ → ℕ → Type 0) : Type 0 where
   pub may : (e : Dep) (c : ℕ) → has_gap n.points e g ≡ true → c ≡ cut_count n.points e before → pre c
   pub goes

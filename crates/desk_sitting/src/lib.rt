@@ -15,6 +15,7 @@ use paper_placements::Placement;
 
 // The placement; for each dependence how many of its barriers cut it; how many dependences none cuts. A dependence has
 // at most the gaps 1 to 255, so that its count fits a byte.
+// The C interface: desk.h lays it out, and it may hold anything, so that `Ready` is a clause.
 #[repr(C)]
 #[derive(Clone, Copy)]
 pub struct Sitting {
@@ -54,7 +55,8 @@ pub fn lift(nest: Nest, s: Sitting, g: usize) -> Sitting
     recounted(nest, s, g, lifted(s.placement, g), |c| c - 1)
 }
 
-// The sitting with this placement, which differs at gap g: `step` makes the new count of each dependence that has the gap.
+// The sitting with this placement, which differs at gap g: `step` makes the new count of each dependence that has the
+// gap.
 fn recounted<F: Fn(u8) -> u8>(
     nest: Nest,
     s: Sitting,

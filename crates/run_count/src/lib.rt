@@ -20,7 +20,8 @@ pub const INNER: u8 = 2;
 
 pub const OUTER: u8 = 1;
 
-// As many turns as there are loops, the first from `first`, the others from `inner`, none above 16.
+// As many turns as there are loops, the first from `first`, the others from `inner`, none above 16. Both are bounds
+// that turns are compared with, and choose no step.
 pub fn turns_fit(points: &[u8], turns: &[u8], first: u8, inner: u8) -> bool
     ensures { result ≡ fit_in first inner points.now turns.now }
 {

@@ -4,16 +4,12 @@ use borrow.Author.Rules.{rules}
 use Rattle.desk_sitting.proofs.Outcome.{lift_says, lift_steps}
 use Rattle.desk_sitting.proofs.lift.Goals as goal
 
-pub recounted-requires : goal.recounted-requires
-recounted-requires c =
+pub recounted-requires-clause-steps : goal.recounted-requires-clause-steps
+recounted-requires-clause-steps c =
     let q = c.requires in
-    record {
-      ready = q.ready;
-      steps =
-          lift_steps q.ready q.g_value c.lifted.result c.lifted.ensures
-          (λ x h k p m r. omega (arith, h))
-          (λ x y e. search rules);
-    }
+    lift_steps q.ready q.g_value c.lifted.result c.lifted.ensures
+    (λ x h k p m r. omega (arith, h))
+    (λ x y e. search rules)
 
 pub returns : goal.returns
 returns c =
