@@ -2,4 +2,3 @@
 pub mod ShortEnds
 pub mod Steps
 pub mod Turns
-pub mod Lowered

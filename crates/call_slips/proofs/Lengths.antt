@@ -6,11 +6,8 @@ use mathlib.Core.List.{List, [], ◌∷◌, ◌++◌}
 use Prim.Native.Nat.{ℕ, ◌+◌, ◌*◌, ◌≤◌, ◌<◌}
 use native.Mathlib.Omega.{arith}
 use lib.ListN.{length, get_or, length-append}
-use lib.Seq.{get_or-take}
 use Rattle.paper_nests.specs.Kinds.{DO}
 use Rattle.paper_nests.specs.Nests.{Dep, Nest}
-use Rattle.paper_nests.specs.declared.Nest as DN
-use Rattle.paper_nests.specs.Stored.{nest_in}
 use Rattle.paper_lines.specs.Lines.{line_text}
 use Rattle.paper_placements.specs.Placements.{uncut, cut_by, loop_count}
 use Rattle.paper_order.specs.Verdicts.{Verdict, Uncut, Dearer, Best, mark_of}
@@ -50,10 +47,6 @@ slip_parts n gs =
 -- at most 7 bytes a point, and 7
 pub slip_most : (n : Nest) (gs : List ℕ) → length (slip_text n gs) ≤ 7 * length n.points + 7
 slip_most n gs = omega (arith, slip_parts n gs, counts_length n gs 0 n.points)
-
--- a point of the stored nest
-pub point_at : (n : DN.Nest) (d : ℕ) → d < n.count → get_or (nest_in n).points d 0 ≡ get_or n.points d 0
-point_at n d h = get_or-take n.count n.points d 0 h
 
 -- the loops before point d are measured, whatever the placement
 pub record Measured (n : Nest) (sum d : ℕ) : Type 0 where

@@ -22,7 +22,8 @@ use paper_placements::{Placement, cut_in, uncut};
 use paper_refusals::{Fault, Refusal};
 use paper_texts::write_counts;
 
-// The kinds of a slip's lines: the first uncut dependence, the verdict, the gap that cuts a dependence.
+// The kinds of a slip's lines: the first uncut dependence, the verdict, the gap that cuts a dependence. Like the
+// verdict's codes below they are bytes of the text, written as they are.
 const FIRST_UNCUT: u8 = 35;
 
 const VERDICT: u8 = 36;
@@ -100,7 +101,7 @@ pub fn read_on(desk: Desk, text: &[u8]) -> Result<Placement, Fault>
     paper_texts::read_placement(nest.count, paper_barred::barred_of(nest), text)
 }
 
-// The answer to a text that is refused.
+// The answer to a text that is refused. It fills a struct of its own, as desk.h lays out each reply by itself.
 fn unread(fault: Fault) -> Answer
     ensures { Unread (number_of fault.refusal) fault.line result }
 {

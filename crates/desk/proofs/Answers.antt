@@ -1,36 +1,29 @@
--- Count, Mark and a placement's text: what each way through the code says of the reply.
--- Main statements: `count_refused`, `count_no_do`, `count_is`; `text_refused`, `text_short`, `text_written`;
--- `mark_refused`, `mark_unread`, `mark_given`.
+-- Count and Mark: what each way through the code says of the reply.
+-- Main statements: `count_is`; `mark_refused`, `mark_unread`, `mark_given`.
 use mathlib.Core.Path.{◌≡◌, sym, ◌∙◌, ap}
 use mathlib.Core.Bool.{Bool, true, false, not}
 use mathlib.Core.List.{List}
-use Prim.Native.Nat.{ℕ, ◌≤◌, ◌<◌}
-use native.Mathlib.Omega.{arith}
-use lib.Dec.{eqb, ltb}
-use lib.ListN.{length}
-use borrow.Author.Tests.{eq-eqb, ne_eqb, lt-ltb, le-ltb}
+use Prim.Native.Nat.{ℕ}
+use lib.Dec.{eqb}
+use borrow.Author.Tests.{eq-eqb, ne_eqb}
 use Rattle.laws.specs.Choice.{when}
-use Rattle.laws.proofs.Choices.{first_set, first_none}
+use Rattle.laws.proofs.Choices.{first_none}
 use Rattle.paper_nests.specs.Loops.{is_do}
-use Rattle.paper_lines.specs.Writing.{over}
 use Rattle.paper_placements.specs.Placements.{loop_count}
 use Rattle.paper_order.specs.Verdicts.{Verdict, mark_of}
-use Rattle.paper_texts.specs.PlacementTexts.{Placed, placed, key_text}
+use Rattle.paper_texts.specs.PlacementTexts.{Placed, placed}
 use Rattle.desk.specs.declared.Desk as DD
 use Rattle.desk.specs.declared.Answer as DA
 use Rattle.desk.specs.Desks.{desk_in, state_fault, Fault, fault}
-use Rattle.desk.specs.Says.{RefusedAs, count_fault, CountSays, text_fault, WrittenAs}
+use Rattle.desk.specs.Says.{count_fault, CountSays}
 use Rattle.desk.specs.Says.{refused, given, read_in, place_fault, marked}
 
--- the numbers that the calls look at, in their order: 10 and 11; then 6 of Count, and 9 of a placement's text
+-- the numbers that the calls look at, in their order: 10 and 11; then 6 of Count
 abbrev state : DD.Desk → ℕ
 state d = state_fault true (desk_in d)
 
 abbrev no_do : DD.Desk → ℕ → ℕ
 no_do d p = when (not (is_do (desk_in d).nest_is.points p)) 6
-
-abbrev short : List ℕ → List ℕ → ℕ
-short gs out = when (ltb (length out) (length (key_text gs))) 9
 
 -- the number and the line of a reading
 abbrev fault_in : Placed → Fault
@@ -40,20 +33,9 @@ is-set : (f k : ℕ) → f ≡ k → (k ≡ 0 → ⊥) → eqb f 0 ≡ false
 is-set f k e h = ne_eqb f 0 (λ q. h (sym e ∙ q))
 
 module _ (d : DD.Desk) (p : ℕ) (r : DA.Answer) where
-  count_by : (k : ℕ) → count_fault (desk_in d) p ≡ k → (k ≡ 0 → ⊥) → RefusedAs k r → CountSays d p r
-  count_by k e h a =
-      let z = is-set (count_fault (desk_in d) p) k e h in
-      record { number_is = a.number_is ∙ sym e; line_is = a.line_is; value_is = rw z a.value_is }
-
-  pub count_refused : (k : ℕ) → k ≡ state d → (k ≡ 0 → ⊥) → RefusedAs k r → CountSays d p r
-  count_refused k e h a = count_by k (first_set (state d) (no_do d p) (λ q. h (e ∙ q)) ∙ sym e) h a
-
   do_fault
       : (t : Bool) → state d ≡ 0 → is_do (desk_in d).nest_is.points p ≡ t → count_fault (desk_in d) p ≡ when (not t) 6
   do_fault t e i = first_none (state d) (no_do d p) e ∙ ap (λ (x : Bool). when (not x) 6) i
-
-  pub count_no_do : state d ≡ 0 → is_do (desk_in d).nest_is.points p ≡ false → RefusedAs 6 r → CountSays d p r
-  count_no_do e i a = count_by 6 (do_fault false e i) (λ q. omega arith) a
 
   pub count_is
       : state d ≡ 0 → is_do (desk_in d).nest_is.points p ≡ true → r.number ≡ 0 → r.line ≡ 0
@@ -61,33 +43,6 @@ module _ (d : DD.Desk) (p : ℕ) (r : DA.Answer) where
   count_is e i n l v =
       let z : count_fault (desk_in d) p ≡ 0 = do_fault true e i in
       record { number_is = n ∙ sym z; line_is = l; value_is = rw (eq-eqb (count_fault (desk_in d) p) 0 z) v }
-
-module _ (state : ℕ) (gs out out' : List ℕ) (r : DA.Answer) where
-  text_by
-      : (k : ℕ) → text_fault state gs out ≡ k → (k ≡ 0 → ⊥) → RefusedAs k r → out' ≡ out
-      → WrittenAs state gs out out' r
-  text_by k e h a o =
-      let z = is-set (text_fault state gs out) k e h in
-      record { number_is = a.number_is ∙ sym e; line_is = a.line_is; value_is = rw z a.value_is; out_is = rw z o }
-
-  pub text_refused : (state ≡ 0 → ⊥) → RefusedAs state r → out' ≡ out → WrittenAs state gs out out' r
-  text_refused h a o = text_by state (first_set state (short gs out) h) h a o
-
-  short_fault : (t : Bool) → state ≡ 0 → ltb (length out) (length (key_text gs)) ≡ t → text_fault state gs out ≡ when t 9
-  short_fault t e i = first_none state (short gs out) e ∙ ap (λ (x : Bool). when x 9) i
-
-  pub text_short
-      : state ≡ 0 → length out < length (key_text gs) → RefusedAs 9 r → out' ≡ out → WrittenAs state gs out out' r
-  text_short e i a o =
-      text_by 9 (short_fault true e (lt-ltb (length out) (length (key_text gs)) i)) (λ q. omega arith) a o
-
-  pub text_written
-      : state ≡ 0 → length (key_text gs) ≤ length out → r.number ≡ 0 → r.line ≡ 0 → r.value ≡ length (key_text gs)
-      → out' ≡ over (key_text gs) out → WrittenAs state gs out out' r
-  text_written e i n l v o =
-      let z : text_fault state gs out ≡ 0 = short_fault false e (le-ltb (length out) (length (key_text gs)) i) in
-      let y = eq-eqb (text_fault state gs out) 0 z in
-      record { number_is = n ∙ sym z; line_is = l; value_is = rw y v; out_is = rw y o }
 
 module _ (d : DD.Desk) (s : List ℕ) where
   mark_by : (f : Fault) → place_fault (desk_in d) s ≡ f → (f.number ≡ 0 → ⊥) → refused f ≡ marked (desk_in d) s

@@ -1,23 +1,14 @@
--- Calls that choose a set: what a refusal and a choice say of the reply, and replies that are alike.
--- Main statements: `Chooses-none`, `chooses`, `same_chosen`.
+-- Calls that choose a set: what a choice says of the reply, and replies that are alike.
+-- Main statements: `chooses`, `same_chosen`.
 use mathlib.Core.Path.{◌≡◌, sym, ◌∙◌}
 use mathlib.Core.List.{List}
 use Prim.Native.Nat.{ℕ}
-use borrow.Author.Tests.{eq-eqb, ne_eqb}
+use borrow.Author.Tests.{eq-eqb}
 use Rattle.paper_placements.specs.Words.{gaps_in}
 use Rattle.desk.specs.declared.Chosen as DC
-use Rattle.desk.specs.Says.{NotChosen, ChosenSays}
+use Rattle.desk.specs.Says.{ChosenSays}
 
--- the reply of a refusal, and that with the set
-pub Chooses-none
-    : (f : ℕ) (xs : List ℕ) (r : DC.Chosen) (e : ℕ) → f ≡ e → (e ≡ 0 → ⊥) → NotChosen e r → ChosenSays f xs r
-Chooses-none f xs r e is some h =
-    record {
-      number_is = h.number_is ∙ sym is;
-      line_is = h.line_is;
-      set_is = rw (ne_eqb f 0 (λ q. some (sym is ∙ q))) h.set_is;
-    }
-
+-- the reply with the set
 pub chooses
     : (f : ℕ) (xs : List ℕ) (r : DC.Chosen)
     → f ≡ 0

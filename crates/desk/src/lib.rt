@@ -22,6 +22,8 @@ use paper_refusals::{Fault, Refusal};
 
 // A desk: whether there is a nest, the nest, whether there is a key, the key, the candidate's sitting, the moves that
 // can be taken back.
+// The C interface: desk.h lays out this struct and the four below, with their numbers and flags. C hands a desk in by
+// value, so that it may hold anything: that calls made it is a clause (`IsMade`), and not an invariant of the type.
 #[repr(C)]
 #[derive(Clone, Copy)]
 pub struct Desk {

@@ -1,14 +1,14 @@
 -- The answer to an input, case by case: too long, refused, blocked, accepted. Where the text is accepted and its nest is
 -- not blocked, the key is that of the nest, the first of all its keys; a refusal does not look at it.
 -- Main statements: `key-gaps`, `accepted_nest`, `answer_long`, `answer_refused`, `answer_blocked`, `answer_key`,
--- `answer_within`, `answers_first_key`, `answers_blocked`.
+-- `answers_first_key`, `answers_blocked`.
 use mathlib.Core.Path.{◌≡◌, sym, ◌∙◌, ap, subst}
 use mathlib.Core.Bool.{true, false}
 use mathlib.Core.List.{List}
 use Prim.Native.Nat.{ℕ, ◌≤◌, ◌<◌}
 use native.Mathlib.Omega.{arith}
 use Rattle.std.proofs.Common.{Ok, Err}
-use lib.ListN.{length, drop, length-append}
+use lib.ListN.{length}
 use borrow.Author.Tests.{lt-ltb, le-ltb, eq-eqb}
 use Rattle.paper_refusals.specs.declared.Fault.{Fault}
 use Rattle.paper_refusals.specs.Numbers.{number_of}
@@ -135,12 +135,6 @@ module _ (input : List ℕ) (short : length input ≤ LONGEST) (n : DN.Nest) (re
     answer_key ws h e =
         by-text input o out r (key_and_counts (nest_in n) (gaps_in ws))
         (nest-text ∙ planned_open (nest_in n) (key_of (nest_in n)) h ∙ ap (key_and_counts (nest_in n)) (sym e))
-
--- an answer lies within the buffer
-pub answer_within : (input o out : List ℕ) (r : ℕ) → Answered input o out r → r ≤ length out
-answer_within input o out r a =
-    let t = answer_to input in
-    omega (arith, a.length_is, ap length a.out_is, length-append t (drop (length t) o))
 
 -- demand 3 and 02, jobs 6 and 7, of the program: of an accepted text whose nest is not blocked it writes the first of all
 -- keys, and its counts; of one whose nest is blocked 2f0f0000

@@ -18,14 +18,15 @@ use paper_refusals::{Fault, Refusal};
 use paper_texts::{read_nest, write_counts, write_text};
 use plan_paper::plan_paper;
 
-// The kind of a refusal's line.
+// The kind of a refusal's line, a byte of the text.
 const REFUSAL: u8 = 47;
 
 // The longest input that is read, in bytes.
 const LONGEST: usize = 8192;
 
-// Writes the answer to an input from the start of the buffer: the key's frames and the loops' counts, or the line of
-// a refusal; gives its length.
+// Writes the answer to an input from the start of the buffer: the key's frames and the loops' counts, or the line of a
+// refusal; gives its length. A buffer that is longer than it need be will do, so that its length is a clause here and
+// below.
 pub fn answer(input: &[u8], out: &mut [u8]) -> usize
     requires { ROOM ≤ length out.old }
     ensures { Answered input.now out.old out.new result }

@@ -1,7 +1,6 @@
 -- The pass over the points from left to right: the loop of the gap here is the DO just passed, the loop around the one
 -- that just ended, or the same as before.
--- Main definition: `Walked`, what a turn keeps. Main statements: `walk_start`, `walk_do`, `walk_end`, `walk_plain`,
--- `walk_done`.
+-- Main definition: `Walked`, what a turn keeps. Main statements: `walk_start`, `walk_do`, `walk_end`, `walk_plain`.
 use mathlib.Core.Path.{◌≡◌, refl, sym, ap, ◌∙◌}
 use mathlib.Core.Bool.{true}
 use mathlib.Core.List.{List}
@@ -19,7 +18,6 @@ use Rattle.paper_nests.specs.Valid.{is_shape}
 use Rattle.paper_nests.proofs.Levels.{end_not_first}
 use Rattle.paper_nests.proofs.Loops.{owner_at_most, owner_below}
 use Rattle.paper_nests.proofs.Gaps.{owner_after_do, owner_after_end, owner_after_plain}
-use Rattle.paper_counts.specs.Tables.{OwnersAre}
 
 -- before point g: the loop there, and the table of those before
 pub record Walked (ps : List ℕ) (g around : ℕ) (owners : List ℕ) : Type 0 where
@@ -31,10 +29,6 @@ pub record Walked (ps : List ℕ) (g around : ℕ) (owners : List ℕ) : Type 0 
 pub walk_start : (ps owners : List ℕ) → length owners ≡ POINTS → Walked ps 0 0 owners
 walk_start ps owners l =
     record { long = l; low = omega arith; around_is = λ h. refl; known = λ i h. absurd (omega arith) }
-
-pub walk_done : (ps : List ℕ) (g around : ℕ) (owners : List ℕ) → length ps ≤ g → Walked ps g around owners →
-    OwnersAre ps owners
-walk_done ps g around owners h w i l = w.known i (omega arith)
 
 module _
     (ps : List ℕ) (shape : is_shape ps ≡ true) (few : length ps ≤ POINTS)

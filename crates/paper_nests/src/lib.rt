@@ -43,6 +43,8 @@ pub struct Dependence {
 
 // A nest: the first `count` points, the first `many` dependences, the first `bars` barred gaps, and the DOs of the first
 // `flags` loops that may not run.
+// The C interface: desk.h lays it out, so that it may hold anything; what calls ask of it (`IsCounted`, `is_valid`) is
+// a clause, and not an invariant of the type.
 #[repr(C)]
 #[derive(Clone, Copy)]
 pub struct Nest {
