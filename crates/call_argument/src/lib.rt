@@ -19,7 +19,7 @@ use paper_placements::{Placement, uncut};
 use paper_refusals::{Fault, Refusal};
 
 // The number of a refusal, and the text at fault (1 the placement, 2 the argument, 0 for neither) with its line; zeros
-// where the argument holds.
+// where the argument holds. The C interface: desk.h lays it out, and has the texts' numbers.
 #[repr(C)]
 #[derive(Clone, Copy)]
 pub struct Weighed {

@@ -19,7 +19,7 @@ use paper_refusals::Fault;
 
 // The number of a refusal, the text at fault (1 or 2, or 0 for neither) with its line, zeros for none; whether the first
 // placement is as good or better than the second, and the second than the first; and the set of the loops that decide
-// between them, by their DOs.
+// between them, by their DOs. The C interface: desk.h lays it out.
 #[repr(C)]
 #[derive(Clone, Copy)]
 pub struct Compared {

@@ -61,7 +61,8 @@ fn listed_loops(nest: Nest, flagged: Placement, key: Placement) -> Placement
     listed
 }
 
-// Those of the flagged loops that have a barrier inside.
+// Those of the flagged loops that have a barrier inside. A table that is longer than a nest's will do here and below,
+// so that its length is a clause.
 fn with_barrier(ends: &[usize], flagged: Placement, key: Placement) -> Placement
     requires { GAPS ≤ length ends.now }
     ensures { WithBarrier ends.now flagged.words key.words result.words }

@@ -19,7 +19,8 @@ use desk_sitting::Sitting;
 use paper_nests::Nest;
 use paper_refusals::Refusal;
 
-// The number of a refusal, 0 for none, with line 0; how many dependences remain uncut; the desk after the call.
+// The number of a refusal, 0 for none, with line 0; how many dependences remain uncut; the desk after the call. The C
+// interface: desk.h lays it out.
 #[repr(C)]
 #[derive(Clone, Copy)]
 pub struct Moved {
@@ -89,7 +90,7 @@ pub fn write_sitting(desk: Desk, out: &mut [u8]) -> Answer
     )
 }
 
-// The moves with one more, of a gap put or lifted.
+// The moves with one more, of a gap put or lifted; `put` is kept with the move, and chooses no step.
 fn with_move(moves: Moves, gap: usize, put: bool) -> Moves
     requires ring { IsRing moves }
     requires gap_bound { gap < GAPS }

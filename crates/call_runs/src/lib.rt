@@ -16,7 +16,7 @@ use paper_placements::Placement;
 use paper_refusals::{Fault, Refusal};
 use run_count::{INNER, OUTER, calls_of, turns_fit};
 
-// The number and the line of a refusal, 0 and 0 for none, and the calls.
+// The number and the line of a refusal, 0 and 0 for none, and the calls. The C interface: desk.h lays it out.
 #[repr(C)]
 #[derive(Clone, Copy)]
 pub struct Calls {
@@ -52,7 +52,8 @@ pub fn placement_calls(desk: Desk, text: &[u8], turns: &[u8]) -> Calls
     }
 }
 
-// The placement's calls; 17 where they cannot be counted.
+// The placement's calls; 17 where they cannot be counted. `inner` is a bound that turns are compared with, and chooses
+// no step.
 fn calls_under(nest: Nest, p: Placement, turns: &[u8], inner: u8) -> Calls
     requires counted { IsCounted nest }
     requires nest_value { is_valid (nest_in nest) ≡ true }
@@ -77,7 +78,7 @@ pub fn can_count(nest: Nest, turns: &[u8], inner: u8) -> bool
     nest.bars == 0 && nest.flags == 0 && turns_fit(nest.points(), turns, OUTER, inner)
 }
 
-// The reply that refuses.
+// The reply that refuses. It fills a struct of its own, as desk.h lays out each reply by itself.
 fn refused(fault: Fault) -> Calls
     ensures { result ≡ refusal (number_of fault.refusal) fault.line }
 {

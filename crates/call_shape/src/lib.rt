@@ -15,7 +15,7 @@ use paper_nests::Nest;
 use paper_refusals::Refusal;
 
 // The number and the line of a refusal, 0 and 0 for none; by each gap the DO of its loop; by each DO its ENDDO; by each
-// point how many loops it is inside. Every other place has 0.
+// point how many loops it is inside. Every other place has 0. The C interface: desk.h lays it out.
 #[repr(C)]
 #[derive(Clone, Copy)]
 pub struct Shape {

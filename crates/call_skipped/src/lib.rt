@@ -84,7 +84,8 @@ fn goes_on(e: Dependence) -> bool
     e.kind == paper_nests::CARRIED && e.s < e.t
 }
 
-// Those of the loops that have one of s and t alone.
+// Those of the loops that have one of s and t alone. A table that is longer than a nest's will do, so that its length
+// is a clause.
 fn with_one_end(ends: &[usize], loops: Placement, s: usize, t: usize) -> Placement
     requires { GAPS ≤ length ends.now }
     ensures { WithOneEnd ends.now loops.words s t result.words }

@@ -15,7 +15,7 @@ use paper_refusals::Refusal;
 
 // The number and the line of a refusal, 0 and 0 for none; the candidate's barriers; how many of them each loop has at
 // its own gaps, by its DO; how many of them cut each dependence; how many dependences none cuts. Every other place has
-// 0. No loop has more than the gaps 1 to 255, so that a count fits a byte.
+// 0. No loop has more than the gaps 1 to 255, so that a count fits a byte. The C interface: desk.h lays it out.
 #[repr(C)]
 #[derive(Clone, Copy)]
 pub struct Standing {

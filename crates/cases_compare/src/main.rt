@@ -1,4 +1,5 @@
 // Cases of two placements held beside each other, run over the call and compared; a line for each.
+// The functions take the numbers that replies must have, as desk.h lays replies out with numbers.
 #![tactic(auto)]
 
 ghost use Rattle.desk.specs.Desks.{IsMade};
@@ -110,7 +111,8 @@ fn decide(desk: Desk, a: &[u8], b: &[u8], loops: u64) -> bool
     words[0] == loops && words[1] == 0 && words[2] == 0 && words[3] == 0
 }
 
-// The first placement is as good or better than the second, and the second than the first.
+// Whether the first placement is as good or better than the second is `first`, the second than the first `second`: what
+// the reply must say.
 fn weighs(desk: Desk, a: &[u8], b: &[u8], first: bool, second: bool) -> bool
     requires { IsMade desk }
 {

@@ -1,4 +1,5 @@
 // Lists of records lent to a desk, run over the call and compared; a line for each case.
+// The functions take the numbers that replies must have, as desk.h lays replies out with numbers.
 #![tactic(auto)]
 
 ghost use Rattle.desk.specs.Desks.{IsMade};

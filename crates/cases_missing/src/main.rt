@@ -1,4 +1,5 @@
 // The cases of loops that may not run (change request 10), run over the desk's calls and compared; a line for each.
+// The functions take the numbers that replies must have, as desk.h lays replies out with numbers.
 #![tactic(auto)]
 
 ghost use Rattle.desk.specs.Desks.{IsMade};

@@ -1,5 +1,6 @@
 // The calls, each held to a reply: the desk after a call, whether a call replies this, texts of many lines, and the line
 // of a case. The programs of cases are made of them.
+// The functions take the numbers that replies must have, as desk.h lays replies out with numbers.
 #![tactic(auto)]
 
 ghost use Rattle.std.specs.Prelude.{◌≤◌, length, ◌≡◌, take};

@@ -1,4 +1,5 @@
 // Cases of barrier calls in a run (change request 11), counted over the desk's calls and compared; a line for each.
+// The functions take the numbers that replies must have, as desk.h lays replies out with numbers.
 #![tactic(auto)]
 
 ghost use Rattle.desk.specs.Desks.{IsMade};

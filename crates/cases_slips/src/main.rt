@@ -1,4 +1,5 @@
 // Cases of slips for two readers (change request 9), run over the desk's calls and compared; a line for each.
+// The functions take the numbers that replies must have, as desk.h lays replies out with numbers.
 #![tactic(auto)]
 
 ghost use Rattle.desk.specs.Desks.{IsMade};

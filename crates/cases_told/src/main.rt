@@ -1,5 +1,6 @@
 // The cases of a paper told by calls: the shape of its nest, the gaps of a dependence, how a sitting stands; a line for
 // each.
+// The functions take the numbers that replies must have, as desk.h lays replies out with numbers.
 #![tactic(auto)]
 
 ghost use Rattle.desk.specs.Desks.{IsMade};

@@ -13,7 +13,8 @@ pub struct Move {
 }
 
 // A ring: the latest move stands at `head`, the one before it at the place before, and the last place comes before
-// place 0. There are `many`.
+// place 0. There are `many`. The C interface: desk.h lays it out, and it may hold anything, so that `IsRing` is a
+// clause.
 #[repr(C)]
 #[derive(Clone, Copy)]
 pub struct Moves {

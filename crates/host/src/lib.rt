@@ -40,7 +40,8 @@ use paper_nests::Dependence;
 use paper_refusals::Fault;
 
 // Mark's answer in numbers alone: the number and the line of a refusal, or 0 and 0 with the verdict's code. Uncut (0)
-// has a dependence in a; Dearer (1) has a loop in a, their count in b and our count in c; Best is 2. All else is 0.
+// has a dependence in a; Dearer (1) has a loop in a, their count in b and our count in c; Best is 2. All else is 0. The
+// C interface: desk.h lays it out, and has the verdict's codes.
 #[repr(C)]
 #[derive(Clone, Copy)]
 pub struct Mark {
