@@ -10,8 +10,9 @@ use plan_rows::Lines;
 use plan_tables::Chart;
 
 // A loop's row is made after the rows of the loops directly inside it; all rows are made in the same four lists. Where
-// nothing is to be cut in a loop nor inside it, all its rows stay 0. The lists that are written stay beside each other: a
-// struct of them would need a clause for each field that it keeps its reference, which is no plainer.
+// nothing is to be cut in a loop nor inside it, all its rows stay 0. The lists that are written stay beside each other:
+// a struct of them would need a clause for each field that it keeps its reference, which is no plainer.
+#[tactic(auto, using(paper_nests::proofs::Loops::end_there))]
 pub fn settle(
     chart: &Chart,
     lines: &Lines,

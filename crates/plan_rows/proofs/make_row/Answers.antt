@@ -9,6 +9,7 @@ returns-then-some-eq0 c = made_none c.requires.row_room c.if-some-eq0.true c.cle
 pub returns : goal.returns
 returns c =
     let p = c.requires.row_room in
-    let u = values_are p c.follow_all-first.ensures c.mark.ensures c.values-m.ensures.closed_says c.values-m.ensures.fronts_in in
+    let v = c.values-m.ensures in
+    let u = values_are p c.follow_all-first.ensures c.mark.ensures v.closed_says v.fronts_in in
     made_Some p (omega (arith, c.if-some-eq0.false)) u c.choose.ensures.choose_says c.choose.ensures.kept
     c.choose.ensures.kept_2

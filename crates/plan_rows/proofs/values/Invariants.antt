@@ -1,5 +1,5 @@
--- `values` meets its contract. The invariant of both loops: the values before q stand in place of what is made from each
--- start on, and the rest is untouched (`Valuing`). In the first the least is that of `first` or one more
+-- `values` meets its contract. The invariant of both loops: the values before q stand in place of what is made from
+-- each start on, and the rest is untouched (`Valuing`). In the first the least is that of `first` or one more
 -- (`EarlyValuing`); in the second no start with a line in the loop lies after q (`LateValuing`).
 use Prim.Native.Nat.{◌-◌}
 use Rattle.plan_rows.proofs.Valuing.{EarlyValuing}

@@ -8,12 +8,6 @@ use Rattle.plan_settle.proofs.Quiet.{quiet_done}
 use Rattle.plan_settle.proofs.Grounded.{row_room}
 use Rattle.plan_settle.proofs.+settle.Goals as goal
 
-pub is_quiet-requires : goal.is_quiet-requires
-is_quiet-requires t c =
-    let r = c.requires in
-    let a = called r.charts r.room r.d_value r.has_height r.unset r.unset_2 in
-    omega arith
-
 pub returns-then-is_quiet : goal.returns-then-is_quiet
 returns-then-is_quiet t c =
     let r = c.requires in
@@ -31,12 +25,6 @@ loop-i-init t c =
     let r = c.requires in
     let a = called r.charts r.room r.d_value r.has_height r.unset r.unset_2 in
     (begin a, lent_all)
-
-pub bounds-chart-i : goal.bounds-chart-i
-bounds-chart-i t c =
-    let r = c.requires in
-    let a = called r.charts r.room r.d_value r.has_height r.unset r.unset_2 in
-    omega arith
 
 pub overflow_sub-h : goal.overflow_sub-h
 overflow_sub-h t c =

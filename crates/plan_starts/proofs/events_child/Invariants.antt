@@ -1,5 +1,5 @@
--- `events_child` meets its contract: the gap after the loop, then the gaps of the loop from the right. The invariant: the
--- gaps from x on are filled (`Filling`), and `outer` is the front of a barrier after the loop.
+-- `events_child` meets its contract: the gap after the loop, then the gaps of the loop from the right. The invariant:
+-- the gaps from x on are filled (`Filling`), and `outer` is the front of a barrier after the loop.
 use Prim.Native.Nat.{suc, ◌-◌}
 use mathlib.Core.Path.{◌≡◌}
 use Rattle.plan_sweeps.specs.Listed.{row}
