@@ -26,32 +26,38 @@ module _ {ps own ends heights : List ℕ} (points : Points ps) (charted : Charte
 
 pub offset_bounds-chart-home : goal.offset_bounds-chart-home
 offset_bounds-chart-home c =
-    let z = homed c.requires.points c.requires.charted c.requires.fits c.if-e-ne-INDEPENDENT.false c.home_of-home.ensures in
+    let r = c.requires in
+    let z = homed r.points r.charted r.fits c.if-e-ne-INDEPENDENT.false c.home_of-home.ensures in
     omega arith
 
 pub bounds-chart-home : goal.bounds-chart-home
 bounds-chart-home c =
-    let z = homed c.requires.points c.requires.charted c.requires.fits c.if-e-ne-INDEPENDENT.false c.home_of-home.ensures in
+    let r = c.requires in
+    let z = homed r.points r.charted r.fits c.if-e-ne-INDEPENDENT.false c.home_of-home.ensures in
     omega (arith, c.requires.chart_room.heights_room)
 
 pub overflow_mul-place : goal.overflow_mul-place
 overflow_mul-place c =
-    let z = homed c.requires.points c.requires.charted c.requires.fits c.if-e-ne-INDEPENDENT.false c.home_of-home.ensures in
+    let r = c.requires in
+    let z = homed r.points r.charted r.fits c.if-e-ne-INDEPENDENT.false c.home_of-home.ensures in
     omega arith
 
 pub overflow_add-place-2 : goal.overflow_add-place-2
 overflow_add-place-2 c =
-    let z = homed c.requires.points c.requires.charted c.requires.fits c.if-e-ne-INDEPENDENT.false c.home_of-home.ensures in
+    let r = c.requires in
+    let z = homed r.points r.charted r.fits c.if-e-ne-INDEPENDENT.false c.home_of-home.ensures in
     omega arith
 
 pub offset_bounds-reach-place : goal.offset_bounds-reach-place
 offset_bounds-reach-place c =
-    let z = homed c.requires.points c.requires.charted c.requires.fits c.if-e-ne-INDEPENDENT.false c.home_of-home.ensures in
+    let r = c.requires in
+    let z = homed r.points r.charted r.fits c.if-e-ne-INDEPENDENT.false c.home_of-home.ensures in
     omega arith
 
 pub bounds-reach-place : goal.bounds-reach-place
 bounds-reach-place c =
-    let z = homed c.requires.points c.requires.charted c.requires.fits c.if-e-ne-INDEPENDENT.false c.home_of-home.ensures in
+    let r = c.requires in
+    let z = homed r.points r.charted r.fits c.if-e-ne-INDEPENDENT.false c.home_of-home.ensures in
     omega (arith, c.requires.in_bounds.0)
 
 pub returns-else-reach-place : goal.returns-else-reach-place
@@ -61,7 +67,8 @@ returns-else-reach-place c =
 
 pub bounds-sets-place : goal.bounds-sets-place
 bounds-sets-place c =
-    let z = homed c.requires.points c.requires.charted c.requires.fits c.if-e-ne-INDEPENDENT.false c.home_of-home.ensures in
+    let r = c.requires in
+    let z = homed r.points r.charted r.fits c.if-e-ne-INDEPENDENT.false c.home_of-home.ensures in
     omega (arith, c.requires.in_bounds.1)
 
 pub returns-then-reach-place : goal.returns-then-reach-place

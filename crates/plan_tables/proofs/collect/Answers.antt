@@ -4,8 +4,8 @@ use Rattle.plan_tables.proofs.collect.Goals as goal
 
 pub loop-i-init : goal.loop-i-init
 loop-i-init c =
-    collect_start c.requires.counted (record { points = c.requires.points; heights_are = c.requires.charted.heights_are }) c.requires.lines_room
-    c.requires.blank
+    let r = c.requires in
+    collect_start r.counted (record { points = r.points; heights_are = r.charted.heights_are }) r.lines_room r.blank
 
 pub enter-requires-clause-fits : goal.enter-requires-clause-fits
 enter-requires-clause-fits c = fits_here c.requires.counted c.loop-i.invariant (omega arith) c.requires.all_fit

@@ -29,37 +29,44 @@ module _ {ps own ends heights : List ℕ} (points : Points ps) (charted : Charte
 
 pub offset_bounds-chart-home : goal.offset_bounds-chart-home
 offset_bounds-chart-home c =
-    let z = homed c.requires.points c.requires.charted c.requires.fits c.if-e-eq-INDEPENDENT.true c.home_of-home.ensures in
+    let r = c.requires in
+    let z = homed r.points r.charted r.fits c.if-e-eq-INDEPENDENT.true c.home_of-home.ensures in
     omega arith
 
 pub bounds-chart-home : goal.bounds-chart-home
 bounds-chart-home c =
-    let z = homed c.requires.points c.requires.charted c.requires.fits c.if-e-eq-INDEPENDENT.true c.home_of-home.ensures in
+    let r = c.requires in
+    let z = homed r.points r.charted r.fits c.if-e-eq-INDEPENDENT.true c.home_of-home.ensures in
     omega (arith, c.requires.chart_room.heights_room)
 
 pub overflow_mul-chart : goal.overflow_mul-chart
 overflow_mul-chart c =
-    let z = homed c.requires.points c.requires.charted c.requires.fits c.if-e-eq-INDEPENDENT.true c.home_of-home.ensures in
+    let r = c.requires in
+    let z = homed r.points r.charted r.fits c.if-e-eq-INDEPENDENT.true c.home_of-home.ensures in
     omega arith
 
 pub overflow_add-chart : goal.overflow_add-chart
 overflow_add-chart c =
-    let z = homed c.requires.points c.requires.charted c.requires.fits c.if-e-eq-INDEPENDENT.true c.home_of-home.ensures in
+    let r = c.requires in
+    let z = homed r.points r.charted r.fits c.if-e-eq-INDEPENDENT.true c.home_of-home.ensures in
     omega arith
 
 pub lower-requires : goal.lower-requires
 lower-requires c =
-    let z = homed c.requires.points c.requires.charted c.requires.fits c.if-e-eq-INDEPENDENT.true c.home_of-home.ensures in
+    let r = c.requires in
+    let z = homed r.points r.charted r.fits c.if-e-eq-INDEPENDENT.true c.home_of-home.ensures in
     omega (arith, c.requires.lines_room.reach_room)
 
 pub offset_bounds-has-home : goal.offset_bounds-has-home
 offset_bounds-has-home c =
-    let z = homed c.requires.points c.requires.charted c.requires.fits c.if-e-eq-INDEPENDENT.true c.home_of-home.ensures in
+    let r = c.requires in
+    let z = homed r.points r.charted r.fits c.if-e-eq-INDEPENDENT.true c.home_of-home.ensures in
     omega arith
 
 pub bounds-has-home : goal.bounds-has-home
 bounds-has-home c =
-    let z = homed c.requires.points c.requires.charted c.requires.fits c.if-e-eq-INDEPENDENT.true c.home_of-home.ensures in
+    let r = c.requires in
+    let z = homed r.points r.charted r.fits c.if-e-eq-INDEPENDENT.true c.home_of-home.ensures in
     omega (arith, c.requires.lines_room.has_room)
 
 pub returns-then-e-eq-INDEPENDENT : goal.returns-then-e-eq-INDEPENDENT

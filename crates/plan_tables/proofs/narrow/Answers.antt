@@ -20,14 +20,20 @@ overflow_mul-chart c =
 pub narrow_row-requires : goal.narrow_row-requires
 narrow_row-requires c =
     let w = ended c.requires.points c.requires.heights_are c.requires.ends_are in
-    let t = row_there w c.loop-d.d c.if-kind-eq-DO.true in record { d_le_e = t.0; e_bound = t.1; e_in_bounds = omega (arith, c.requires.in_bounds_3, c.loop-d.invariant.same) }
+    let t = row_there w c.loop-d.d c.if-kind-eq-DO.true in
+    record {
+      d_le_e = t.0;
+      e_bound = t.1;
+      e_in_bounds = omega (arith, c.requires.in_bounds_3, c.loop-d.invariant.same);
+    }
 
 pub loop-d-preserved : goal.loop-d-preserved
 loop-d-preserved c =
     let w = ended c.requires.points c.requires.heights_are c.requires.ends_are in
+    let s = c.loop-d.invariant in
     elim c.if-kind-eq-DO.branch [
-      | then-kind-eq-DO x ↦ rw x.limit-is (limits_on w c.loop-d.invariant x.if-kind-eq-DO.true x.narrow_row.auto.xs x.narrow_row.ensures)
-      | else-kind-eq-DO x ↦ rw x.limit-is (limits_skip w c.loop-d.invariant x.if-kind-eq-DO.false)
+      | then-kind-eq-DO x ↦ rw x.limit-is (limits_on w s x.if-kind-eq-DO.true x.narrow_row.auto.xs x.narrow_row.ensures)
+      | else-kind-eq-DO x ↦ rw x.limit-is (limits_skip w s x.if-kind-eq-DO.false)
     ]
 
 pub returns : goal.returns
