@@ -11,7 +11,7 @@ use Rattle.paper_nests.specs.Stored.{nest_in}
 use Rattle.paper_lines.specs.Writing.{over}
 use Rattle.call_join.specs.declared.Both as DB
 use Rattle.call_join.specs.JointNests.{moved_deps, second_at, exceeds}
-use Rattle.call_join.specs.Written.{joint_in, deps_text, Writes}
+use Rattle.call_join.specs.Written.{joint_in, deps_text, StayBytes, Writes}
 use Rattle.call_join.proofs.JointTexts.{joint_deps, stay_first, stay_second, second_byte}
 use Rattle.call_join.proofs.LastPart.{first_fits, Begun, begun_by}
 use Rattle.call_join.proofs.LastPart.{rest_within, rest_fits, last_within, last_length, last_written}
@@ -85,9 +85,11 @@ pub put_deps-requires : goal.put_deps-requires
 put_deps-requires c =
     let b = c.args.both.now in
     let now = begun c.args.both.now c.requires.room c.put_deps-at.ensures in
+    let stays : StayBytes (b.n.now.count + 1) (nest_in b.m.now).deps =
+    rw (begins b) (stay_second (nest_in b.n.now) (nest_in b.m.now) b.papers c.requires.fits) in
     record {
       counted = b.second_counted;
-      stay_bytes = rw (begins b) (stay_second (nest_in b.n.now) (nest_in b.m.now) b.papers c.requires.fits);
+      stay_bytes = stays;
       room = omega (arith, rest_fits now, ap (λ (k : ℕ). length (second b k)) (begins b));
     }
 
