@@ -1,7 +1,7 @@
 // Lines of digits: a reader that answers one line at a time, and the writer of one frame.
 #![tactic(auto)]
 
-ghost use Rattle.std.specs.Prelude.{◌≡◌, true, ◌+◌, ◌≤◌, ◌<◌, length, get_or, drop};
+ghost use Rattle.std.specs.Prelude.{◌≡◌, true, ◌≤◌, ◌<◌, length, get_or};
 ghost use Rattle.paper_lines.specs.Lines.{is_hex, value_of, all_hex, is_digits, frame_of, digit_of, line_text};
 ghost use Rattle.paper_lines.specs.Reading.{take_digits, line_at, AreValues};
 ghost use Rattle.paper_lines.specs.Writing.{over};

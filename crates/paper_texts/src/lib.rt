@@ -1,11 +1,8 @@
 // Nest texts and placement texts, read line by line; placements and their counts, written.
 #![tactic(auto)]
 
-ghost use Rattle.std.specs.Prelude.{◌≡◌, true, [], ◌≤◌, length, take, Ok};
+ghost use Rattle.std.specs.Prelude.{◌≡◌, true, [], ◌≤◌, length, Ok};
 ghost use Rattle.paper_refusals.specs.Numbers.{number_in};
-ghost use Rattle.paper_nests.specs.Kinds.{POINTS};
-ghost use Rattle.paper_nests.specs.Loops.{HasEnds};
-ghost use Rattle.paper_nests.specs.Ring.{one_loop};
 ghost use Rattle.paper_nests.specs.Valid.{is_shape};
 ghost use Rattle.paper_nests.specs.Stored.{IsCounted};
 ghost use Rattle.paper_texts.specs.Reads.{IsRead, EndedAs, closed_by, misplaced_by, too_many_by, PointFault};
