@@ -43,7 +43,7 @@ pub fn put(nest: Nest, s: Sitting, g: usize) -> Sitting
     requires g_value { holds s.placement.words g ≡ false }
     ensures { PutSays (nest_in nest) g s result }
 {
-    recounted(nest, s, g, s.placement.put(g), |c| c + 1)
+    recounted(&nest, s, g, s.placement.put(g), |c| c + 1)
 }
 
 // The sitting without the barrier at gap g.
@@ -52,21 +52,21 @@ pub fn lift(nest: Nest, s: Sitting, g: usize) -> Sitting
     requires g_value { holds s.placement.words g ≡ true }
     ensures { LiftSays (nest_in nest) g s result }
 {
-    recounted(nest, s, g, lifted(s.placement, g), |c| c - 1)
+    recounted(&nest, s, g, lifted(s.placement, g), |c| c - 1)
 }
 
 // The sitting with this placement, which differs at gap g: `step` makes the new count of each dependence that has the
 // gap.
 fn recounted<F: Fn(u8) -> u8>(
-    nest: Nest,
+    nest: &Nest,
     s: Sitting,
     g: usize,
     placement: Placement,
     step: F,
 ) -> Sitting
-    requires ready { Ready nest s g }
-    requires steps { Steps (nest_in nest) g (barriers s) (gaps_in placement.words) (F.pre step) (F.post step) }
-    ensures { CountsAre (nest_in nest) placement result }
+    requires ready { Ready nest.now s g }
+    requires steps { Steps (nest_in nest.now) g (barriers s) (gaps_in placement.words) (F.pre step) (F.post step) }
+    ensures { CountsAre (nest_in nest.now) placement result }
 {
     let around = loops_around(nest.points(), g);
     let mut counts = s.counts;

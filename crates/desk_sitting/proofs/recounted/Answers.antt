@@ -20,20 +20,20 @@ use Rattle.desk_sitting.proofs.recounted.Goals.{After-has_gap}
 pub loops_around-around-requires-clause-points_value : goal.loops_around-around-requires-clause-points_value
 loops_around-around-requires-clause-points_value g c =
     let p = c.requires.ready in
-    let v = valid_is (nest_in c.args.nest) p.valid in
+    let v = valid_is (nest_in c.args.nest.now) p.valid in
     rw c.points.ensures (v.shape, v.few_points)
 
 pub loop-i-init : goal.loop-i-init
 loop-i-init g c =
     let a = c.args in
     let p = c.requires.ready in
-    Move-start (nest_in a.nest) (barriers a.s) (gaps_in c.args.placement.words) a.nest.many
+    Move-start (nest_in a.nest.now) (barriers a.s) (gaps_in c.args.placement.words) a.nest.now.many
     a.s.counts a.s.uncut p.counted.many_is (search rules) p.kept.counts_are p.kept.uncut_is
 
 -- what the test says of the dependence that is read before i
 told
     : (g : _) (c : After-has_gap g)
-    → has_gap (nest_in c.args.nest).points (dep_in (dep_at c.args.nest (c.loop-i.i - 1))) c.args.g ≡ c.has_gap.result
+    → has_gap (nest_in c.args.nest.now).points (dep_in (dep_at c.args.nest.now (c.loop-i.i - 1))) c.args.g ≡ c.has_gap.result
 told g c =
     sym (
     gap_told c.requires.ready c.loop-i-test.true c.loop-i.invariant c.loops_around-around.result c.has_gap.result
