@@ -1,5 +1,5 @@
 -- The laps one after the other: what is left of them after those made gives all.
--- Main definition: `Lapping`, what a turn keeps. Main statements: `lap_begin`, `lap_room`, `lap_on`, `lap_found`,
+-- Main definition: `Lapping`, what a turn keeps. Main statements: `lap_begin`, `lap_on`, `lap_found`,
 -- `lap_done`.
 use mathlib.Core.Path.{◌≡◌, refl, sym, ◌∙◌, ap}
 use mathlib.Core.Bool.{true, false}
@@ -85,10 +85,6 @@ module _
     module _ {need sets out : List ℕ} {f at j : ℕ}
         (p : Lapping nest ps own left kids need₀ sets₀ claims d e from upto few out₀ start need sets out
         f at j) where
-      -- the next lap may be made
-      pub lap_room : LapRoom nest ps own left kids need sets claims d e from
-      lap_room = rw (p.need_is, p.sets_is) w
-
       pub lap_done : j ≤ 0 →
           LapsSay nest ps own left kids need₀ sets₀ claims d e from upto few out₀ start out at
       unfolding laps

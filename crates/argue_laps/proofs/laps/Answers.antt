@@ -2,26 +2,13 @@ use mathlib.Core.Path.{◌≡◌, ◌∙◌}
 use Prim.Native.Nat.{◌+◌, ◌-◌}
 use native.Mathlib.Omega.{arith}
 use Rattle.std.proofs.Math.Nat.{sub-add-eq}
-use Rattle.paper_nests.proofs.Loops.{end-after}
-use Rattle.argue_laps.proofs.Lapping.{lap_begin, lap_room, lap_on, lap_found, lap_done}
+use Rattle.argue_laps.proofs.Lapping.{lap_begin, lap_on, lap_found, lap_done}
 use Rattle.argue_laps.proofs.laps.Goals as goal
-
-pub overflow_add-f : goal.overflow_add-f
-overflow_add-f c =
-    let w = c.requires.lap_room in
-    omega (arith, end-after c.args.inside.now.points.now w.shape c.args.head.d w.is-do, w.e_is, w.short)
 
 pub loop-init : goal.loop-init
 loop-init c =
     let z : c.args.head.e + 2 - 0 ≡ c.args.head.e + 2 = omega arith in
     rw z (lap_begin c.requires.lap_room)
-
-pub lap-s-requires : goal.lap-s-requires
-lap-s-requires c =
-    record {
-      lap_room = lap_room c.requires.lap_room c.loop.invariant;
-      start_bound = omega (arith, c.loop.invariant.near, c.requires.e_bound, c.loop-test.true);
-    }
 
 pub returns-then-head-s : goal.returns-then-head-s
 returns-then-head-s c =

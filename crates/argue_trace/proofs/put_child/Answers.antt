@@ -15,10 +15,6 @@ returns-then-b-eq0 c =
     let set = at c.args.sets.now in
     let lead = lead_at c.args.inside.now.left.now c.args.inside.now.kids c.args.claims.now c.args.l in record { added = adds_none (event_none left set lead c.args.l c.args.p c.args.b c.if-b-eq0.true); upper_bound = omega arith }
 
-pub put_step-requires : goal.put_step-requires
-put_step-requires c =
-    record { at_bound = c.requires.start_bound; set_bound = (c.requires.sets_room.small c.args.b, omega (arith, c.find_claim-m.ensures.upper_bound, c.requires.few_claims)) }
-
 pub returns-then-l-g : goal.returns-then-l-g
 returns-then-l-g c =
     let left = row c.args.inside.now.left.now c.args.inside.now.kids in
@@ -36,10 +32,6 @@ returns-then-g-gt0 c =
           c.if-g-gt0.true (omega (arith, c.if-l-g.false)));
       upper_bound = omega arith;
     }
-
-pub put_step-requires-2 : goal.put_step-requires-2
-put_step-requires-2 c =
-    record { at_bound = c.requires.start_bound; set_bound = (c.requires.sets_room.small c.args.b, omega arith) }
 
 pub returns : goal.returns
 returns c =
