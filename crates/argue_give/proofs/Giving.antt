@@ -1,11 +1,10 @@
 -- Claims given one after the other: one claim more, and lists of heads behind each other.
--- Main statements: `gives_none`, `gives_then`, `gives_under`, `gives_as`, `gives_one`, `gives_many`.
+-- Main statements: `gives_none`, `gives_then`, `gives_under`, `gives_as`, `gives_one`.
 use mathlib.Core.Path.{◌≡◌, refl, sym, ◌∙◌, ap}
 use mathlib.Core.List.{List, [], ◌∷◌, ◌++◌, append-nil, append_assoc}
 use Prim.Native.Nat.{ℕ, zero, suc, ◌+◌, ◌-◌, ◌%◌, ◌≤◌, ◌<◌}
 use native.Mathlib.Omega.{arith}
 use lib.ListN.{length, set, take, length-append}
-use Rattle.std.proofs.lemmas.List.{length-take}
 use Rattle.paper_nests.specs.Nests.{Dep}
 use Rattle.paper_nests.specs.declared.Nest as DN
 use Rattle.paper_nests.specs.Stored.{nest_in}
@@ -18,7 +17,7 @@ use Rattle.argue_key.specs.Laps.{before, Head, head, few_for, find_claim, steps_
 use Rattle.argue_spell.specs.Added.{head_text, Added}
 use Rattle.argue_spell.proofs.Adding.{added_then, added_as}
 use Rattle.argue_trace.specs.Traced.{claim_in, claims_in}
-use Rattle.argue_laps.specs.Lapped.{LapRoom, LapGround, LapsSay}
+use Rattle.argue_laps.specs.Lapped.{LapGround, LapsSay}
 use Rattle.argue_give.specs.Given.{bare_all, Gives, GiveRoom, GiveGround}
 
 pub before_is : (x : ℕ) → x - 1 ≡ before x
@@ -147,34 +146,6 @@ module _
     -- its DO is a byte, as its ENDDO is
     pub claim_small : d < 256
     claim_small = omega (arith, long, w.short)
-
-    pub laps_room : {many from : ℕ} → many < CLAIMS → from ≤ e →
-        LapRoom nest ps own left kids need sets (take many claims) d e from
-    laps_room {many} h k =
-        record {
-          counted = w.counted;
-          points_are = w.points_are;
-          shape = w.shape;
-          fit = w.fit;
-          is-do = w.is-do;
-          e_is = w.e_is;
-          short = w.short;
-          from_in = k;
-          sweeps = w.sweeps;
-          sets_room = w.sets_room;
-          few_claims = omega (arith, length-take many claims, w.claims_room);
-        }
-
-    -- too many were given
-    pub gives_many : {G : Tables → Type 0} (h : Head) {out : List ℕ} {at many : ℕ} → CLAIMS ≤ many →
-        Gives ps (nest_in nest).deps G (λ T. h ∷ []) out at claims many out at claims (many + 1)
-    gives_many h l =
-        record {
-          many_is = λ T g. refl;
-          given = λ T g cs first k x. absurd (omega arith);
-          grows = omega arith;
-          near = λ k. omega arith;
-        }
 
     module _ {from upto few many : ℕ} (fewer : many < CLAIMS) (from_in : from ≤ e) (upto_small : upto < 256)
         {out mid out' : List ℕ} {at body next : ℕ}
