@@ -1,7 +1,7 @@
 // The claims of a loop with their steps, spelled into a buffer one after the other.
 #![tactic(auto)]
 
-ghost use Rattle.std.specs.Prelude.{◌≡◌, true, [], ◌∷◌, ◌++◌, ◌+◌, ◌-◌, ◌*◌, ◌≤◌, ◌<◌, length};
+ghost use Rattle.std.specs.Prelude.{◌≡◌, [], ◌∷◌, ◌++◌, ◌+◌, ◌-◌, ◌*◌, ◌≤◌, ◌<◌, length};
 ghost use Rattle.paper_nests.specs.Stored.{nest_in};
 ghost use Rattle.argue_key.specs.Laps.{head, few_for, low_heads, side_heads, row_heads};
 ghost use Rattle.argue_give.specs.Given.{BYTES, Gives, GiveRoom, GiveGround, RowRoom, RowGround, run_at};

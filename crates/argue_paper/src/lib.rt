@@ -1,7 +1,7 @@
 // The argument of a paper's key, spelled into a buffer: the planner's tables, the costs of its loops, and their claims.
 #![tactic(auto)]
 
-ghost use Rattle.std.specs.Prelude.{◌≡◌, true, false, ℕ, ◌≤◌, ◌<◌, length};
+ghost use Rattle.std.specs.Prelude.{◌≡◌, true, false, ◌≤◌, length};
 ghost use Rattle.laws.specs.Entries.{at};
 ghost use Rattle.paper_nests.specs.Valid.{is_valid};
 ghost use Rattle.paper_nests.specs.Stored.{nest_in, IsCounted};

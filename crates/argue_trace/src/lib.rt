@@ -2,7 +2,7 @@
 // enters, spelled into a buffer.
 #![tactic(auto)]
 
-ghost use Rattle.std.specs.Prelude.{◌≡◌, [], ◌+◌, ◌*◌, ◌≤◌, ◌<◌, length};
+ghost use Rattle.std.specs.Prelude.{◌≡◌, ◌+◌, ◌*◌, ◌≤◌, ◌<◌, length};
 ghost use Rattle.laws.specs.Entries.{at};
 ghost use Rattle.plan_sweeps.specs.Listed.{row, SweepRoom};
 ghost use Rattle.argue_texts.specs.ArgumentTexts.{CLAIMS, steps_text};
