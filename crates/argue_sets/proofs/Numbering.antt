@@ -1,7 +1,7 @@
 -- The passes over the dependences, from the last to the first: the sets of the lines that were passed stand in the
 -- table, and of what goes back the last is known.
 -- Main definitions: `Numbering`, `Backing`, what a turn keeps. Main statements: `line_passed`, `line_put`,
--- `number_start`, `number_on`, `back_start`, `back_on`.
+-- `number_start`, `number_on`, `number_done`, `back_start`, `back_on`, `back_done`.
 use mathlib.Core.Path.{◌≡◌, refl, sym, ◌∙◌, ap}
 use mathlib.Core.Bool.{Bool, true, false, ◌&&◌}
 use mathlib.Core.List.{List, [], ◌∷◌}
@@ -31,7 +31,7 @@ use Rattle.plan_tables.proofs.Entries.{entry_here, entry_elsewhere}
 use Rattle.plan_tables.proofs.Cells.{Tall, same_cell}
 use Rattle.plan_tables.proofs.Entering.{cell_there}
 use Rattle.argue_key.specs.Laps.{Start, starting, is_back, starts_later, last_back, line_num}
-use Rattle.argue_sets.specs.Numbered.{Unnumbered, NumberSays, LaterSays}
+use Rattle.argue_sets.specs.Numbered.{line_set, Unnumbered, NumberSays, LaterSays}
 
 -- ---- one line
 
@@ -188,6 +188,13 @@ module _ {nest : DN.Nest} (counted : IsCounted nest) where
               go true z = omega arith
               go false z = omega (arith, p.rest d a h b c)
 
+      pub number_done : i ≤ 0 → Rows ps heights sets (line_set ps ds)
+      number_done l d a h b c =
+          let z : i ≡ 0 = omega arith in
+          let y : at sets (cell heights d a) ≡ 0 + 2 + line_num ps d a (reach_of ps ds d a) ds =
+          rw z at (p.rest d a h b c) in
+          omega arith
+
   module _ {ps : List ℕ} {d f : ℕ} where
     pub back_start : Backing ps ds d f nest.many 0 nest.many
     unfolding last_back
@@ -223,3 +230,10 @@ module _ {nest : DN.Nest} (counted : IsCounted nest) where
           go true z = (ap (λ (u : Start). u.at) z, omega (arith, ap (λ (u : Start). u.num) z))
           go false z =
               (ap (λ (u : Start). u.at) z ∙ p.at_is, omega (arith, ap (λ (u : Start). u.num) z, p.num_is))
+
+      pub back_done : i ≤ 0 → starting at num ≡ last_back ps d f ds
+      back_done l =
+          let z : i ≡ 0 = omega arith in
+          let q : Backing ps ds d f 0 at num = rw z at p in
+          let y : num ≡ (last_back ps d f ds).num = omega (arith, q.num_is) in
+          rw (q.at_is, y) refl

@@ -1,10 +1,10 @@
 -- The set of a step.
--- Main statement: `set_dep`.
+-- Main statements: `fits_dep`, `set_dep`.
 use mathlib.Core.Path.{◌≡◌, refl, ◌∙◌}
 use Rattle.std.proofs.Common.{Some}
-use mathlib.Core.Bool.{false}
+use mathlib.Core.Bool.{Bool, false}
 use mathlib.Core.List.{List}
-use Prim.Native.Nat.{ℕ}
+use Prim.Native.Nat.{ℕ, zero, suc}
 use Rattle.laws.proofs.Connectives.{or_off}
 use Rattle.paper_nests.specs.Gaps.{has_gap}
 use Rattle.paper_nests.specs.Stored.{dep_in}
@@ -14,7 +14,7 @@ use Rattle.argue_texts.specs.declared.Set.TheVariants as SV
 use Rattle.argue_weigh.specs.declared.Open as DO
 use Rattle.argue_weigh.specs.declared.Ended as DX
 use Rattle.argue_weigh.specs.declared.Asked as DA
-use Rattle.argue_weigh.specs.Taking.{IsSetOf}
+use Rattle.argue_weigh.specs.Taking.{set_fits, IsSetOf}
 
 module _ (o : DO.Open) (s : DA.Asked) (none ws : List ℕ) (empty : (g : ℕ) → holds none g ≡ false) where
   pub set_dep
@@ -26,3 +26,9 @@ module _ (o : DO.Open) (s : DA.Asked) (none ws : List ℕ) (empty : (g : ℕ) �
   set_dep {k} {x} p q h ps ends g =
       let end : EndsIn ps x.e x.end = rw q at (ends k (rw p refl)) in
       h ps end g ∙ rw (p, q, empty g) (or_off (has_gap ps (dep_in x.e) g))
+
+-- a dependence's set fits where the dependence is there
+pub fits_dep : (o : DO.Open) (there : Bool) (i : ℕ) → (i ≡ 0 → ⊥) → (i ≡ 1 → ⊥) → there ≡ set_fits o there i
+fits_dep o there zero p q = absurd (p refl)
+fits_dep o there (suc zero) p q = absurd (q refl)
+fits_dep o there (suc (suc m)) p q = refl

@@ -2,7 +2,7 @@ use mathlib.Core.List.{List}
 use Prim.Native.Nat.{ℕ}
 use Rattle.plan_tables.specs.Charts.{Points, Charted}
 use Rattle.plan_tables.proofs.Cells.{Tall}
-use Rattle.argue_sets.proofs.Numbering.{next_fits, number_start, number_on}
+use Rattle.argue_sets.proofs.Numbering.{next_fits, number_start, number_on, number_done}
 use Rattle.argue_sets.proofs.number_lines.Goals as goal
 
 -- the points and the heights
@@ -23,3 +23,8 @@ loop-i-preserved c =
     let t = tall c.requires.points c.requires.charted in
     number_on c.requires.counted t c.loop-i.invariant c.loop-i-test.true c.requires.rows
     c.number_line.ensures c.number_line.auto.sets
+
+pub returns : goal.returns
+returns c =
+    let t = tall c.requires.points c.requires.charted in
+    number_done c.requires.counted t c.loop-i.invariant c.loop-i-test.false
