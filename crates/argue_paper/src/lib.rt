@@ -53,7 +53,9 @@ fn costs_of(nest: Nest) -> [usize; Nest::POINTS]
     paper_counts::counts_of(nest.points(), plan_nest::plan(nest))
 }
 
-// The tables of the nest, the rows of all loops, the numbers of the lines, and the claims of all loops.
+// The tables of the nest, the rows of all loops, the numbers of the lines, and the claims of all loops. Not within its
+// caller, whose frame would then hold these tables while the planner is called for the costs.
+#[inline(never)]
 fn give_tables(nest: Nest, costs: &[usize], out: &mut [u8]) -> Sofar
     requires counted { IsCounted nest }
     requires nest_value { is_valid (nest_in nest) ≡ true }
