@@ -44,10 +44,11 @@ pub enum Part {
 pub struct Progress {
     pub claims: usize,
     pub steps: usize,
-    pub by: Option<u16>,
+    pub by: Option<usize>,
 }
 
 // The kinds of claims, of the claim that leads a step, and of steps.
+// Bytes of the texts: an enum would only be turned into them to be written.
 pub const CLAIM: u8 = 49;
 
 pub const BY: u8 = 50;
@@ -64,6 +65,8 @@ pub const CLAIMS: usize = 4096;
 pub const STEPS: usize = 1024;
 
 // The refusal of an argument text, at its first faulty line.
+// Each reader of lines keeps place and line itself: an iterator over lines would hold text, table and place, and every
+// item would be tested as here.
 pub fn argument_fault(text: &[u8]) -> Result<(), Fault>
     ensures { IsFaulted text.now result }
 {
@@ -136,7 +139,10 @@ pub fn after(x: Progress, p: Part) -> Progress
             steps: 0,
             by: None,
         },
-        Part::By(m) => Progress { by: Some(m), ..x },
+        Part::By(m) => Progress {
+            by: Some(m as usize),
+            ..x
+        },
         Part::Names(_) => Progress {
             steps: x.steps + 1,
             by: None,
