@@ -1,20 +1,24 @@
--- The set of a step.
--- Main statements: `fits_dep`, `set_dep`.
+-- The set of a step, and what leads it.
+-- Main statements: `fits_dep`, `led-by`, `set_dep`.
 use mathlib.Core.Path.{◌≡◌, refl, ◌∙◌}
 use Rattle.std.proofs.Common.{Some}
-use mathlib.Core.Bool.{Bool, false}
+use mathlib.Core.Bool.{Bool, false, ◌&&◌}
 use mathlib.Core.List.{List}
-use Prim.Native.Nat.{ℕ, zero, suc}
+use Prim.Native.Nat.{ℕ, zero, suc, ◌-◌}
+use native.Mathlib.Omega.{arith}
+use lib.Dec.{ltb}
+use lib.ListN.{length}
 use Rattle.laws.proofs.Connectives.{or_off}
 use Rattle.paper_nests.specs.Gaps.{has_gap}
 use Rattle.paper_nests.specs.Stored.{dep_in}
 use Rattle.paper_placements.specs.Words.{holds}
 use Rattle.paper_gaps.specs.Lies.{EndsIn, GapsPut}
+use Rattle.argue_texts.specs.declared.Claimed as DC
 use Rattle.argue_texts.specs.declared.Set.TheVariants as SV
 use Rattle.argue_weigh.specs.declared.Open as DO
 use Rattle.argue_weigh.specs.declared.Ended as DX
 use Rattle.argue_weigh.specs.declared.Asked as DA
-use Rattle.argue_weigh.specs.Taking.{set_fits, IsSetOf}
+use Rattle.argue_weigh.specs.Taking.{claim_at, set_fits, IsSetOf, leads_on, led_at}
 
 module _ (o : DO.Open) (s : DA.Asked) (none ws : List ℕ) (empty : (g : ℕ) → holds none g ≡ false) where
   pub set_dep
@@ -32,3 +36,13 @@ pub fits_dep : (o : DO.Open) (there : Bool) (i : ℕ) → (i ≡ 0 → ⊥) → 
 fits_dep o there zero p q = absurd (p refl)
 fits_dep o there (suc zero) p q = absurd (q refl)
 fits_dep o there (suc (suc m)) p q = refl
+
+-- what leads is nothing, or the claim before its number
+pub led-by
+    : (o : DO.Open) (claims : List DC.Claimed) (by : ℕ)
+    → (by ≡ 0 → ⊥)
+    → led_at o claims by ≡ (ltb (by - 1) (length claims) && leads_on o (claim_at claims (by - 1)))
+led-by o claims zero h = absurd (h refl)
+led-by o claims (suc m) h =
+    let z : suc m - 1 ≡ m = omega arith in
+    rw z refl

@@ -192,14 +192,14 @@ module _ {n : Nest} {key : List ℕ} {last : ℕ} {ends owners : List ℕ} (p : 
             gap_out = rw (in-set, apart) refl
 
         unfit
-            : (i : ℕ)
-            → set_in s.set ≡ i
-            → set_fits o (is_some s.dependence) i ≡ false
+            : (there : Bool) (i : ℕ)
+            → ((m : ℕ) → i ≡ suc (suc m) → there ≡ ltb m (length n.deps))
+            → set_fits o there i ≡ false
             → (step n key k ks (st i by) x).fine ≡ false
-        unfit zero e h =
+        unfit there zero e h =
             let none : ltb 0 k.from ≡ false = rw w.from_is at h in
             rw (f, none) refl
-        unfit (suc zero) e h =
+        unfit there (suc zero) e h =
             ⊎_elim (λ (z : ltb 0 o.b ≡ false). no_upto z) (λ (z : leb o.b o.e ≡ false). far z)
             (and_false (ltb 0 o.b) (leb o.b o.e) h)
           where
@@ -217,8 +217,8 @@ module _ {n : Nest} {key : List ℕ} {last : ℕ} {ends owners : List ℕ} (p : 
                 all_off true true = refl
                 all_off true false = refl
                 all_off false v = refl
-        unfit (suc (suc m)) e h =
-            let none : ltb m (length n.deps) ≡ false = sym (a.there_is m e) ∙ h in
+        unfit there (suc (suc m)) e h =
+            let none : ltb m (length n.deps) ≡ false = sym (e m refl) ∙ h in
             rw (f, none) refl
 
         unled : (i : ℕ) → led_at o claims by ≡ false → (step n key k ks (st i by) x).fine ≡ false
@@ -340,7 +340,7 @@ module _ (last : ℕ) (o : DO.Open) (s : DA.Asked) (c : ℕ) (gone : DP.Placemen
       : set_fits o (is_some s.dependence) (set_in s.set) ≡ false
       → StepSays last o s c gone claims ends owners struck old new None
   says_unfit h n key k ks x steps p q w a t =
-      (sym (unfit p q w a x t.fine (led_in s.by) (set_in s.set) refl h), tt)
+      (sym (unfit p q w a x t.fine (led_in s.by) (is_some s.dependence) (set_in s.set) a.there_is h), tt)
 
   pub says_unled
       : led_at o claims (led_in s.by) ≡ false

@@ -31,6 +31,7 @@ pub struct Open {
 }
 
 // A dependence, and the ENDDO of the loop that carries it, where one does.
+// The ENDDO is handed along: that it is the table's would be one thing more to ask of callers.
 #[derive(Clone, Copy)]
 pub struct Ended {
     pub e: Dependence,
@@ -54,6 +55,7 @@ pub struct Taken {
 }
 
 // One step of the claim that is open, behind these claims; nothing where it does not hold.
+// name_gaps writes times and strike writes struck, so no struct lends all three lists.
 pub fn take_step(
     last: usize,
     claim: Open,
@@ -226,7 +228,7 @@ fn counted(by: Option<usize>, c: usize) -> usize
     requires { c ≤ STEPS }
     ensures { result ≡ counted (led_in by) c }
 {
-    if by.is_none() { c + 1 } else { c }
+    c + usize::from(by.is_none())
 }
 
 // The gap is in the set, and neither excluded inside the loop nor gone.
