@@ -67,6 +67,7 @@ fn judge_lines(
     let last = points.len() - 1;
     let mut struck = first_struck(points.len(), barred, owners, counts);
     let mut times = no_times();
+    // No heap: a list of fixed room, and how many it has.
     let mut claims = no_claims();
     let mut low = Placement::empty();
     let mut gone = Placement::empty();
@@ -223,7 +224,7 @@ fn with_known(line: Option<usize>, known: usize) -> usize
     requires { known < CLAIMS }
     ensures { result ≡ pick (is_some line) (known + 1) known }
 {
-    if line.is_some() { known + 1 } else { known }
+    known + usize::from(line.is_some())
 }
 
 // The loops with a low claim, once the open claim is known.
