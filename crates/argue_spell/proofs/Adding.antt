@@ -1,6 +1,5 @@
 -- Texts that are added to a buffer one after the other, and the lines of claims and steps.
--- Main statements: `added_none`, `added_then`, `added_all`, `line_left`, `line_put`,
--- `claim-frame`, `by_frame`, `set-frame`.
+-- Main statements: `added_none`, `added_then`, `added_all`, `line_left`, `line_put`, `claim-frame`, `by_frame`.
 use mathlib.Core.Path.{◌≡◌, refl, sym, ◌∙◌, ap}
 use mathlib.Core.List.{List, [], ◌∷◌, ◌++◌, append_assoc, append-nil}
 use Prim.Native.Nat.{ℕ, zero, suc, ◌+◌, ◌-◌, ◌*◌, ◌/◌, ◌%◌, ◌≤◌, ◌<◌}
@@ -10,7 +9,7 @@ use borrow.Rule.Slice.PartMut.{mid_of, put_mid}
 use Rattle.paper_lines.specs.Lines.{line_text}
 use Rattle.paper_lines.specs.Writing.{over}
 use Rattle.paper_lines.proofs.Writing.{text-length, over_part}
-use Rattle.argue_texts.specs.ArgumentTexts.{CLAIM, BY, DEPENDENCE, set_frame, by_text}
+use Rattle.argue_texts.specs.ArgumentTexts.{CLAIM, BY, by_text}
 use Rattle.argue_spell.specs.Added.{WORD, Added}
 
 pub added_none : (at : ℕ) (out : List ℕ) → Added [] at out out at
@@ -87,11 +86,3 @@ by_frame zero n h = absurd (n refl)
 by_frame (suc m) n h =
     let z : suc m - 1 ≡ m = omega arith in
     rw (z, halves m (omega arith))
-
-pub set-frame : (s : ℕ) → (s ≡ 0 → ⊥) → (s ≡ 1 → ⊥) → s ≤ WORD →
-    DEPENDENCE ∷ ((s - 2) / 256 % 256 ∷ ((s - 2) % 256 ∷ [])) ≡ set_frame s
-set-frame zero n m h = absurd (n refl)
-set-frame (suc zero) n m h = absurd (m refl)
-set-frame (suc (suc k)) n m h =
-    let z : suc (suc k) - 2 ≡ k = omega arith in
-    rw (z, halves k (omega arith))

@@ -22,6 +22,9 @@ pub fn put_claim(out: &mut [u8], at: usize, d: usize, a: usize, b: usize) -> usi
 }
 
 // The lines of a step; gives the place behind them.
+// A set and what leads it are numbers here: a sweep's lists hold them as numbers, and an enum would be made from each
+// only to be matched.
+// at ≤ FAR is a bound of a number, and no fact of a struct.
 pub fn put_step(out: &mut [u8], at: usize, set: usize, via: usize) -> usize
     requires at_bound { at ≤ FAR }
     requires set_bound { (set ≤ WORD) × (via ≤ WORD) }
