@@ -18,6 +18,7 @@ use plan_tables::Chart;
 const ROW: usize = 256;
 
 // A start, and the number of the dependence that has it.
+// at is 0 and no Option where there is none: 0 lies before every start, and the later of two is asked for.
 #[derive(Clone, Copy)]
 pub struct Start {
     pub at: usize,
@@ -40,6 +41,7 @@ pub fn number_lines(nest: Nest, chart: &Chart, reach: &[u16], sets: &mut [u16])
     ensures { Rows chart.now.points.now chart.now.heights.now sets.new
         (line_set chart.now.points.now (nest_in nest).deps) }
 {
+    // By index, as the laws go from the last dependence down, and its number is wanted.
     for i in (0..nest.many).rev() {
         let e = nest.deps[i];
         number_line(chart, reach, sets, e, (i + 2) as u16);
@@ -56,6 +58,7 @@ pub fn last_back(nest: Nest, d: usize, f: usize) -> Start
         at: 0,
         num: nest.many,
     };
+    // By index, as the laws go from the last dependence down, and its number is wanted.
     for i in (0..nest.many).rev() {
         last = later(last, nest.deps[i], i, d, f);
     }
