@@ -45,6 +45,7 @@ pub fn trace(
     let mut f = e + 1;
     let mut at = start;
     let mut p = e;
+    // No range: after a loop inside the next point is its DO, and a range would walk through it.
     while d < p {
         let before = p - 1;
         if inside.points[before] == paper_nests::ENDDO {
@@ -69,6 +70,7 @@ pub fn trace(
 
 // The number of the first claim that says of loop l: if there is one from some gap up to a on, none before t; how many
 // there are for none.
+// No Option: the definition find_claim gives how many there are for none.
 pub fn find_claim(claims: &[Claimed], l: usize, a: usize, t: usize) -> usize
     ensures value { result ≡ find_claim (claims_in claims.now) l a t }
     ensures upper_bound { result ≤ length claims.now }
