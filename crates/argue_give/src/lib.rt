@@ -29,6 +29,8 @@ pub struct Row {
 }
 
 // The claims of a loop that has something to cut: the low one, and but for the outermost those of its row.
+// What is written stays beside what is read, here and below: a struct of both would need a clause for each list that it
+// keeps its reference.
 pub fn give_heads(
     nest: Nest,
     inside: &Inside,
@@ -137,6 +139,7 @@ fn give_claim(
         };
     }
     let body = put_claim(out, sofar.at, claim.d, claim.from, claim.upto);
+    // No heap: a list of fixed room, and how many it has.
     let before = &claims[..many];
     let at = argue_laps::laps(nest, inside, need, sets, before, claim, out, body);
     claims[many] = Claimed {
