@@ -10,9 +10,8 @@ ghost use Rattle.argue_loops.specs.Whole.{GiveTables, ListsRoom, TableGround, Gi
 use argue_give::{Row, Sofar};
 use argue_texts::Claimed;
 use paper_nests::Nest;
-use plan_rows::ROW;
 use plan_sweeps::Inside;
-use plan_tables::Chart;
+use plan_tables::{Chart, ROW};
 
 // What the claims are given from, beside the chart: a row for each height of the fronts and of where the lines end, and
 // the cost of each loop. The numbers of the lines go beside it: that each fits in two bytes, as a step's set has to, the

@@ -14,9 +14,8 @@ use argue_give::Sofar;
 use argue_loops::Tables;
 use argue_texts::{CLAIMS, Claimed};
 use paper_nests::Nest;
-use plan_nest::TABLE;
-use plan_rows::{Lines, ROW};
-use plan_tables::Chart;
+use plan_rows::Lines;
+use plan_tables::{Chart, ROW, TABLE};
 
 // The argument of a nest that is not blocked; where gaps are barred, that of the nest of the others.
 pub fn give_argument(nest: Nest, out: &mut [u8]) -> Sofar

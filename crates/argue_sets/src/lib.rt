@@ -12,10 +12,7 @@ ghost use Rattle.argue_key.specs.Laps.{starting, last_back};
 ghost use Rattle.argue_sets.specs.Numbered.{line_set, Unnumbered, NumberSays, LaterSays};
 
 use paper_nests::{Dependence, Nest};
-use plan_tables::Chart;
-
-// The entries of a row, one for each point.
-const ROW: usize = 256;
+use plan_tables::{Chart, ROW};
 
 // A start, and the number of the dependence that has it.
 // at is 0 and no Option where there is none: 0 lies before every start, and the later of two is asked for.

@@ -8,8 +8,8 @@ ghost use Rattle.plan_settle.specs.Settled.{HasHeight, Charts};
 ghost use Rattle.plan_lay.specs.Laid.{LayRoom, Choices, PutSays, LaySays};
 
 use paper_placements::Placement;
-use plan_rows::{Lines, ROW};
-use plan_tables::Chart;
+use plan_rows::Lines;
+use plan_tables::{Chart, ROW};
 
 // The rows of all loops: their fronts and their choices.
 #[derive(Clone, Copy)]
@@ -56,6 +56,7 @@ pub fn lay(
     let mut c = 0;
     let mut f = e + 1;
     let mut p = e;
+    // No range: after a loop inside the next point is its DO, and a range would walk through it.
     while d < p {
         let before = p - 1;
         if chart.points[before] == paper_nests::ENDDO {

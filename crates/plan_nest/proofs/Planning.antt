@@ -1,6 +1,6 @@
 -- The tables of a nest are what settling and laying ask, and what the outermost loop lays is the key.
--- Main statements: `charts`, `lines`, `choices`, `key`, `top_height`, `unset_top`.
-use mathlib.Core.Path.{◌≡◌, refl, ◌∙◌}
+-- Main statements: `charts`, `lines`, `choices`, `key`, `unset_top`.
+use mathlib.Core.Path.{◌≡◌, ◌∙◌}
 use mathlib.Core.Bool.{true, false}
 use mathlib.Core.List.{List}
 use mathlib.Core.Logic.{⊎_elim}
@@ -90,10 +90,6 @@ module _ (ps : List ℕ) (ds : List Dep) (own ends heights reach limit has : Lis
         LaySays ps reach limit left choice 0 1 none words → (g : ℕ) → holds words g ≡ key_in ps ds g
     unfolding key_in key_of
     key none words e l g = l (lines_in ps ds) table has tabled lines rows g ∙ rw (e g) (or_off (table.lay 0 1 g))
-
--- the outermost loop has the greatest height
-pub top_height : (ps : List ℕ) → HasHeight ps 0 8
-top_height ps = refl
 
 -- the rows, cleared as far as the points go, are 0 in the range of the outermost loop
 pub unset_top : (ps : List ℕ) {xs xs' : List ℕ} {n : ℕ} → is_shape ps ≡ true → n ≡ length ps →

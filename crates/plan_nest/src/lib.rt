@@ -9,13 +9,11 @@ ghost use Rattle.plan_nest.specs.Planned.{PlanSays};
 use paper_nests::Nest;
 use paper_placements::Placement;
 use plan_lay::Rows;
-use plan_rows::{Lines, ROW};
-use plan_tables::Chart;
+use plan_rows::Lines;
+use plan_tables::{Chart, ROW, TABLE};
 
-// A table has a row for each height, and one that is spare.
-pub const TABLE: usize = 2304;
-
-// The tables of the nest, the rows of all loops, and what the outermost loop lays.
+// The tables of the nest, the rows of all loops, and what the outermost loop lays. As in argue_paper, the tables are
+// borrowed from arrays of the function, so no function can make them and hand them out.
 pub fn plan(nest: Nest) -> Placement
     requires counted { IsCounted nest }
     requires nest_value { is_valid (nest_in nest) ≡ true }

@@ -9,10 +9,7 @@ ghost use Rattle.plan_rows.specs.Made.{RowRoom, ListsRoom, RowMade};
 
 use plan_starts::Front;
 use plan_sweeps::Inside;
-use plan_tables::Chart;
-
-// The places of a row, one for each point.
-pub const ROW: usize = 256;
+use plan_tables::{Chart, ROW};
 
 // The lines of all loops: a row for each height of where they end and of their limits, and which loops have any.
 #[derive(Clone, Copy)]
@@ -62,6 +59,7 @@ pub fn make_row(
 }
 
 // The entries from d + 1 to e of the row that starts at base.
+// Bounds of numbers stand in clauses, here and below: a type for each would be taken apart at every index.
 pub fn copy_row(from: &[u16], base: usize, d: usize, e: usize, xs: &mut [usize])
     requires e_in_bounds { base + e < length from.now }
     requires e_in_bounds_2 { e < length xs.old }
@@ -95,7 +93,7 @@ fn clear(xs: &mut [u16], base: usize, d: usize, e: usize)
     xs[base + d + 1..base + e + 1].fill(0);
 }
 
-// The leftmost front so far, 0 for none, and the suffix that gives it.
+// The leftmost front so far, and the suffix that gives it. 0 for none, as in the rows that it is written into.
 #[derive(Clone, Copy)]
 pub struct Leftmost {
     pub f: u16,

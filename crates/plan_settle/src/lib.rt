@@ -7,7 +7,7 @@ ghost use Rattle.plan_rows.specs.Made.{ListsRoom};
 ghost use Rattle.plan_settle.specs.Settled.{HasHeight, Charts, Room, Unset, QuietSays, SettleSays};
 
 use plan_rows::Lines;
-use plan_tables::Chart;
+use plan_tables::{Chart, ROW};
 
 // A loop's row is made after the rows of the loops directly inside it; all rows are made in the same four lists. Where
 // nothing is to be cut in a loop nor inside it, all its rows stay 0. The lists that are written stay beside each other:
@@ -39,10 +39,11 @@ pub fn settle(
     if is_quiet(lines.has, d, e) {
         return;
     }
-    let base = h * plan_rows::ROW;
-    let kids = base - plan_rows::ROW;
+    let base = h * ROW;
+    let kids = base - ROW;
     let mut some = lines.has[d];
     let mut i = d + 1;
+    // No range: after a loop inside the next point is the one behind its ENDDO, and a range would walk through it.
     while i < e {
         if chart.points[i] == paper_nests::DO {
             settle(chart, lines, left, choice, need, cs, fs, link, i, h - 1);

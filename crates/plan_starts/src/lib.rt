@@ -43,8 +43,8 @@ pub fn mark(inside: &Inside, reach: &[u16], base: usize, d: usize, e: usize, nee
 
 // What a sweep makes from each start on, into two lists; gives the last start with a line that ends at e or before.
 // The lists that are written stay beside each other, here and below: a struct of them would need a clause for each
-// field that it keeps its reference. One list of structs was counted: its values are compared one by one, and Plan would
-// miss the bar of 1.5 times the twin's instructions on four papers (docs/DECISIONS, "their width").
+// field that it keeps its reference. One list of structs would have its values compared one by one, and Plan would miss
+// the bar of 1.5 times the twin's instructions on four papers (docs/DECISIONS, "their width").
 pub fn follow_all(
     inside: &Inside,
     need: &[usize],
@@ -99,6 +99,7 @@ fn events(
 {
     let mut a = first;
     let mut p = e;
+    // No range: after a loop inside the next point is its DO, and a range would walk through it.
     while d < p {
         let before = p - 1;
         if inside.points[before] == paper_nests::ENDDO {

@@ -72,6 +72,7 @@ pub fn first_or<T: PartialEq + Default + Copy>(first: T, other: T) -> T
 }
 
 // The last gap of low + 1 to p at which a line starts that ends before f, 0 for none.
+// 0 and no Option: gaps begin at 1, and the lists that it goes into have 0 for none.
 pub fn last_need(need: &[usize], f: usize, low: usize, p: usize) -> usize
     requires { p < length need.now }
     ensures { result ≡ seek (at need.now) f low p }

@@ -1,12 +1,10 @@
 -- The tables of a nest, from their parts.
--- Main statements: `count_there`, `unowned_filled`, `blank_filled`, `all_prepared`, and what a valid nest gives:
+-- Main statements: `unowned_filled`, `blank_filled`, `all_prepared`, and what a valid nest gives:
 -- `points_of`, `fits_of`.
 use mathlib.Core.Path.{◌≡◌, ◌∙◌}
 use mathlib.Core.Bool.{true}
 use mathlib.Core.List.{List}
-use Prim.Native.Nat.{ℕ, ◌≤◌}
-use native.Mathlib.Omega.{arith}
-use lib.ListN.{length, take, length-take}
+use Prim.Native.Nat.{ℕ}
 use Rattle.laws.proofs.Copies.{copies, copies_at, copies_there}
 use Rattle.paper_nests.specs.Nests.{Dep, Nest}
 use Rattle.paper_nests.specs.Valid.{is_valid}
@@ -15,10 +13,6 @@ use Rattle.plan_method.proofs.Instance.{AllFit}
 use Rattle.plan_tables.specs.Charts.{ROW, TABLE, Points, Charted, Unowned}
 use Rattle.plan_tables.specs.Collected.{Collected, Blank, Limited}
 use Rattle.plan_tables.specs.Prepared.{Prepared}
-
--- the first n of a list are there
-pub count_there : (n : ℕ) (xs : List ℕ) → n ≡ length (take n xs) → n ≤ length xs
-count_there n xs e = omega (arith, length-take n xs)
 
 -- new lists, filled with 0 and with n
 pub unowned_filled : Unowned (copies ROW 0)

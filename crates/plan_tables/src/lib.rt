@@ -15,7 +15,10 @@ ghost use Rattle.plan_tables.specs.Prepared.{Prepared};
 use paper_nests::{Dependence, Nest};
 
 // The entries of a row, one for each point.
-const ROW: usize = 256;
+pub const ROW: usize = 256;
+
+// The entries of a table: a row for each height, and one that is spare.
+pub const TABLE: usize = 2304;
 
 // The points of a nest with the tables of its loops: of each gap its loop, of each DO its ENDDO and its height.
 // What holds of them stands in clauses and is no invariant: `number_lines` of argue_sets takes a Chart, and may ask no
@@ -97,6 +100,7 @@ fn collect(nest: Nest, chart: &Chart, reach: &mut [u16], back: &mut [u16], has: 
     ensures { Collected chart.now.points.now (nest_in nest).deps chart.now.heights.now
         reach.new back.new has.new }
 {
+    // By index, from the last dependence to the first, as the laws go.
     for i in (0..nest.many).rev() {
         enter(chart, reach, back, has, nest.deps[i]);
     }
