@@ -12,7 +12,7 @@ use paper_nests::Nest;
 use paper_placements::Placement;
 
 // The loop of every gap. The points are a part of a nest's array, lent as it is: that they have a shape is a clause
-// here and above, as a type that holds it would be made anew for each call.
+// here and in other crates, as a type that holds it would be made anew for each call.
 pub fn owners_of(points: &[u8]) -> [usize; Nest::POINTS]
     requires { (is_shape points.now ≡ true) × (length points.now ≤ POINTS) }
     ensures { OwnersAre points.now result }

@@ -10,6 +10,7 @@ use paper_nests::Dependence;
 use paper_placements::Placement;
 
 // The placement with all gaps of the dependence as well, where `end` is the ENDDO of the loop that carries it.
+// The dependence and its ENDDO stay two: cut_in and dep_fault take any, and a type with LiesTo would ask more.
 pub fn with_gaps(p: Placement, end: usize, e: Dependence) -> Placement
     requires { LiesTo e end }
     ensures { GapsPut end e p.words result.words }

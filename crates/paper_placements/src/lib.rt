@@ -15,6 +15,8 @@ ghost use Rattle.paper_placements.specs.Answers.{LoopCountSays, CompareSays};
 use paper_nests::{Dependence, Nest};
 
 // A set of gaps, or of loops by their DOs: gap g, or the loop of DO g, is bit g mod 64 of word g / 64.
+// The C interface: desk.h lays it out, so it may hold any bits; that they are gaps of a nest (are_gaps) speaks of the
+// nest too, and is a clause.
 #[repr(C)]
 #[derive(Clone, Copy)]
 pub struct Placement {
@@ -57,8 +59,10 @@ impl Placement {
         (self.words[g / 64] >> (g % 64)) & 1 == 1
     }
 
-    // The lowest gap at or above lo; 256 for none. An Option would be turned into that number again: ranges end with it,
-    // the lower of two such gaps is their `min`, and the laws of loops over gaps count up to it.
+    // The lowest gap at or above lo; 256 for none. An Option would be turned into that number again: ranges end with
+    // it, the lower of two such gaps is their `min`, and the laws of loops over gaps count up to it.
+    // Walks over a placement's gaps go by it, here and in the crates above: a turn for each gap that is there, where a
+    // range would take 256.
     pub fn lowest_from(self, lo: usize) -> usize
         ensures { LowestFrom self.words lo result }
     {
@@ -135,6 +139,7 @@ pub fn uncut(nest: Nest, p: Placement) -> Option<usize>
 }
 
 // The own gaps of the loop with DO d and ENDDO e.
+// That the points have a shape is a clause, here and in the crates above: they are a part of a nest's array, as it is.
 pub fn loop_mask(points: &[u8], d: usize, e: usize) -> Placement
     requires points_value { (is_shape points.now ≡ true) × (length points.now ≤ GAPS) }
     requires d_value { (is_do points.now d ≡ true) × (e ≡ end_of points.now d) }

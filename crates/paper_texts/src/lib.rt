@@ -23,8 +23,8 @@ use paper_nests::{
 use paper_placements::Placement;
 use paper_refusals::{Fault, Refusal};
 
-// What a frame of a nest text tells: a point, a dependence, a barred gap, a flagged DO, or nothing that is known. The kind
-// of a point is a byte here, as it is in the text before and in the nest's points after.
+// What a frame of a nest text tells: a point, a dependence, a barred gap, a flagged DO, or nothing that is known. The
+// kind of a point is a byte here, as it is in the text before and in the nest's points after.
 #[derive(Clone, Copy)]
 pub enum Piece {
     Point(u8),
@@ -56,6 +56,7 @@ pub const COUNT: u8 = 34;
 pub fn read_nest(text: &[u8]) -> Result<Nest, Fault>
     ensures { IsRead text.now result }
 {
+    // By its length: the proof goes by the number, which is_empty hides.
     if text.len() == 0 {
         return Ok(blank());
     }
@@ -85,6 +86,8 @@ pub fn read_nest(text: &[u8]) -> Result<Nest, Fault>
                 match piece_of(f) {
                     Piece::Point(kind) => {
                         let fault = point_fault(&so_far, kind);
+                        // Err is answered here with its line: a function that adds the line would be called in the
+                        // same four places.
                         if let Err(refusal) = fault {
                             return Err(Fault {
                                 refusal,

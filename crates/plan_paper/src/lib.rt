@@ -89,6 +89,7 @@ pub fn reduce(nest: Nest, ranks: &[u8; Nest::POINTS]) -> Option<Nest>
     ring.count = end + 1;
     ring.bars = 0;
     ring.flags = 0;
+    // By index, from the last dependence to the first, as the laws go.
     for i in (0..nest.many).rev() {
         let dep = nest.deps[i];
         let kind = dep.kind;
