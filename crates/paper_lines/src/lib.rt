@@ -83,8 +83,8 @@ pub fn put_frame(out: &mut [u8], frame: &[u8]) -> usize
     last + 1
 }
 
-// How many digits a text starts with. The loop steps by four: each byte of a text passes here, and a turn for each would
-// be slower.
+// How many digits a text starts with. The loop steps by four: each byte of a text passes here, and a turn for each
+// would be slower.
 fn digits_in(text: &[u8], values: &[u8; BYTES]) -> usize
     requires { AreValues values.now }
     ensures { result ≡ length (take_digits text.now) }
