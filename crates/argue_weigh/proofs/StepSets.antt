@@ -37,7 +37,7 @@ fits_dep o there zero p q = absurd (p refl)
 fits_dep o there (suc zero) p q = absurd (q refl)
 fits_dep o there (suc (suc m)) p q = refl
 
--- what leads is nothing, or the claim before its number
+-- what leads, where the number is not 0, is the claim one before it
 pub led-by
     : (o : DO.Open) (claims : List DC.Claimed) (by : ℕ)
     → (by ≡ 0 → ⊥)
