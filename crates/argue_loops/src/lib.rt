@@ -14,8 +14,8 @@ use plan_sweeps::Inside;
 use plan_tables::{Chart, ROW};
 
 // What the claims are given from, beside the chart: a row for each height of the fronts and of where the lines end, and
-// the cost of each loop. The numbers of the lines go beside it: that each fits in two bytes, as a step's set has to, the
-// check knows of a slice that is a parameter, and not of one in a struct.
+// the cost of each loop. The numbers of the lines go beside it: that each fits in two bytes, as a step's set has to,
+// the check knows of a slice that is a parameter, and not of one in a struct.
 #[derive(Clone, Copy)]
 pub struct Tables<'a> {
     pub left: &'a [u16],
