@@ -18,7 +18,7 @@ use paper_refusals::{Fault, Refusal};
 use paper_texts::read_nest;
 
 // The reply: the number of the refusal, the text at fault (1 or 2, or 0 for neither) with its line, zeros for none; and
-// the length of the joint text.
+// the length of the joint text. The C interface: desk.h lays it out.
 #[repr(C)]
 #[derive(Clone, Copy)]
 pub struct Joined {
@@ -191,7 +191,7 @@ fn put_points(nest: &Nest, out: &mut [u8]) -> usize
 {
     let mut at: usize = 0;
     let mut f: usize = 0;
-    let flagged = &nest.flagged[..nest.flags];
+    let flagged = nest.flagged_loops();
     for (i, &point) in nest.points().iter().enumerate() {
         if is_next(flagged, f, i) {
             at += put_frame(&mut out[at..], &[FLAGGED]);

@@ -25,7 +25,7 @@ pub fn missing_runs(desk: Desk) -> Chosen
         return not_chosen(refusal);
     }
     let nest = desk.nest;
-    let flagged = set_of(&nest.flagged[..nest.flags]);
+    let flagged = set_of(nest.flagged_loops());
     Chosen {
         number: 0,
         line: 0,
@@ -41,7 +41,7 @@ pub fn listed_by(nest: Nest, p: Placement, e: Dependence) -> Placement
     ensures { gaps_in result.words ≡ listed_by (nest_in nest) (gaps_in p.words) (dep_in e) }
 {
     let ends = paper_nests::ends_of(nest.points());
-    let loops = with_barrier(&ends, set_of(&nest.flagged[..nest.flags]), p);
+    let loops = with_barrier(&ends, set_of(nest.flagged_loops()), p);
     list_by(&ends, loops, p, Placement::empty(), e)
 }
 
@@ -177,7 +177,8 @@ fn after(d: usize, end: usize, s: usize, t: usize) -> usize
     }
 }
 
-// Neither s nor t lies from the DO d to the ENDDO.
+// Neither s nor t lies from the DO d to the ENDDO. The points of a loop and of a dependence stay four numbers: a struct
+// of them would be made for each call.
 fn is_apart(d: usize, end: usize, s: usize, t: usize) -> bool
     ensures { result ≡ is_apart d end s t }
 {

@@ -73,7 +73,7 @@ fn with_end_of(nest: Nest, e: Dependence) -> Placement
         return Placement::empty();
     }
     let ends = paper_nests::ends_of(nest.points());
-    let flagged = set_of(&nest.flagged[..nest.flags]);
+    let flagged = set_of(nest.flagged_loops());
     with_one_end(&ends, flagged, e.s as usize, e.t as usize)
 }
 
@@ -103,7 +103,8 @@ fn with_one_end(ends: &[usize], loops: Placement, s: usize, t: usize) -> Placeme
     split
 }
 
-// One of s and t lies inside the loop, and the other before its DO or behind its ENDDO.
+// One of s and t lies inside the loop, and the other before its DO or behind its ENDDO. The points of a loop and of a
+// dependence stay four numbers: a struct of them would be made for each call.
 fn has_one_end(d: usize, end: usize, s: usize, t: usize) -> bool
     ensures { result ≡ is_one_end d end s t }
 {
@@ -117,7 +118,7 @@ fn is_beyond(d: usize, end: usize, p: usize) -> bool
     p < d || end < p
 }
 
-// The reply that chooses nothing, with the line of a text.
+// The reply that chooses nothing. With the line of a text, which not_chosen of desk has not.
 fn none_chosen(fault: Fault) -> Chosen
     ensures { NoneChosen (number_of fault.refusal) fault.line result }
 {

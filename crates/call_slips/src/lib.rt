@@ -49,7 +49,7 @@ const VERDICT_LINE: usize = 11;
 
 const CUT_LINE: usize = 5;
 
-// Writes the candidate's slip of the placement that the text spells; gives its length. Numbers 10, then 1, 2, 8 with
+// Writes the candidate's slip of the placement that the text spells; gives its length. Numbers 10, then 1, 2, 8, 16 with
 // their line, then 9.
 pub fn candidate_slip(desk: Desk, text: &[u8], out: &mut [u8]) -> Answer
     requires { IsMade desk }
@@ -71,7 +71,7 @@ pub fn candidate_slip(desk: Desk, text: &[u8], out: &mut [u8]) -> Answer
 }
 
 // Writes the examiner's slip: the candidate's, the verdict beside the key, and the gap that cuts each dependence.
-// Numbers 10, 11, then 1, 2, 8 with their line, then 9.
+// Numbers 10, 11, then 1, 2, 8, 16 with their line, then 9.
 pub fn examiner_slip(desk: Desk, text: &[u8], out: &mut [u8]) -> Answer
     requires { IsMade desk }
     ensures { ExaminerSays desk text.now out.old out.new result }
@@ -118,7 +118,7 @@ fn slip_length(nest: Nest) -> usize
     ensures { SlipLength (nest_in nest) result }
 {
     let mut length: usize = FIRST_LINE;
-    for &point in &nest.points[..nest.count] {
+    for &point in nest.points() {
         if point == paper_nests::DO {
             length += COUNT_LINE;
         }
@@ -145,7 +145,7 @@ fn write_slip(nest: Nest, placement: Placement, out: &mut [u8]) -> usize
 {
     let first = uncut(nest, placement);
     let at = write_first(first, out);
-    at + write_counts(&nest.points[..nest.count], placement, &mut out[at..])
+    at + write_counts(nest.points(), placement, &mut out[at..])
 }
 
 // Writes the examiner's slip.
@@ -226,9 +226,9 @@ fn write_cuts(nest: Nest, placement: Placement, out: &mut [u8]) -> usize
     ensures { Wrote (cuts_text (nest_in nest).points (nest_in nest).deps (gaps_in placement.words))
         out.old out.new result }
 {
-    let ends = paper_nests::ends_of(&nest.points[..nest.count]);
+    let ends = paper_nests::ends_of(nest.points());
     let mut at: usize = 0;
-    for &e in &nest.deps[..nest.many] {
+    for &e in nest.dependences() {
         let gap = cut_in(ends[e.d as usize], placement, e).unwrap_or(0);
         let frame = [CUT_BY, (gap % 256) as u8];
         at += put_frame(&mut out[at..], &frame);

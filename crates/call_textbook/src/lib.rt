@@ -24,7 +24,8 @@ use paper_refusals::Refusal;
 // As many places as a table has: those of the longest ring, laid out twice, and place 0.
 const PLACES: usize = 512;
 
-// A ring of m gaps laid out twice: of each place the latest start of the dependences that end there; 0 for none.
+// A ring of m gaps laid out twice: of each place the latest start of the dependences that end there; 0 for none: no
+// start is at or before it.
 #[derive(Clone, Copy)]
 struct Ring<'a> {
     m: usize,
@@ -94,7 +95,7 @@ fn last_place(m: usize, e: Dependence) -> usize
     }
 }
 
-// Of each place the last unbarred place at or before it; 0 for none.
+// Of each place the last unbarred place at or before it; 0 for none: no start is at or before it.
 fn last_free(barred: Placement, m: usize) -> [usize; PLACES]
     requires { m < GAPS }
     ensures { FreeSays (gaps_in barred.words) m result }
@@ -110,7 +111,7 @@ fn last_free(barred: Placement, m: usize) -> [usize; PLACES]
     free
 }
 
-// Of each place the latest start of the dependences that end there; 0 for none.
+// Of each place the latest start of the dependences that end there; 0 for none: no start is at or before it.
 fn latest_starts(nest: Nest, barred: Placement, m: usize) -> [usize; PLACES]
     requires counted { IsCounted nest }
     requires m_bound { m < GAPS }
@@ -119,7 +120,7 @@ fn latest_starts(nest: Nest, barred: Placement, m: usize) -> [usize; PLACES]
 {
     let free = last_free(barred, m);
     let mut latest = [0; PLACES];
-    for &e in &nest.deps[..nest.many] {
+    for &e in nest.dependences() {
         enter(&mut latest, &free, m, e);
     }
     latest

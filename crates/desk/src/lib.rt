@@ -81,7 +81,8 @@ pub enum Verdict {
     Best,
 }
 
-// What stands for the number of a refusal: the refusal, or the number itself.
+// What stands for the number of a refusal: the refusal, or the number itself. Callers may give any number: refused,
+// not_chosen and write_placement ask nothing of it.
 pub trait Numbered {
     ghost number: { Self → ℕ };
 
@@ -256,7 +257,7 @@ pub fn judge(nest: Nest, key: Placement, placement: Placement) -> Verdict
     if let Some(first) = paper_placements::uncut(nest, placement) {
         return Verdict::Uncut(first);
     }
-    match paper_placements::compare(&nest.points[..nest.count], key, placement) {
+    match paper_placements::compare(nest.points(), key, placement) {
         Some(counts) => Verdict::Dearer(counts),
         None => Verdict::Best,
     }

@@ -124,6 +124,14 @@ impl Nest {
     {
         &self.barred[..self.bars]
     }
+
+    // The DOs of its loops that may not run.
+    pub fn flagged_loops(&self) -> &[u8]
+        requires { IsCounted self.now }
+        ensures { result.now ≡ (nest_in self.now).flagged }
+    {
+        &self.flagged[..self.flags]
+    }
 }
 
 // The depth after one more point.

@@ -14,7 +14,7 @@ put_frame-at-requires c =
     let fits = c.requires.room in
     let next = flagged_next n.points n.flagged c.loop-i.f c.loop-i.i
     (rw c.points-point-items.ensures at c.loop-i-test.true)
-    (sym c.is_next.ensures ∙ c.if-is_next.true) in
+    (rw c.flagged_loops-flagged.ensures at (sym c.is_next.ensures ∙ c.if-is_next.true)) in
     simp (length-take, length-drop) (omega (arith, piece_room p fits next, piece_length p fits, piece_within p fits))
 
 pub put_frame-at-requires-else-is_next : goal.put_frame-at-requires-else-is_next
@@ -24,7 +24,7 @@ put_frame-at-requires-else-is_next c =
     let fits = c.requires.room in
     let next = plain_next n.points n.flagged c.loop-i.f c.loop-i.i
     (rw c.points-point-items.ensures at c.loop-i-test.true)
-    (sym c.is_next.ensures ∙ c.if-is_next.false) in
+    (rw c.flagged_loops-flagged.ensures at (sym c.is_next.ensures ∙ c.if-is_next.false)) in
     simp (length-take, length-drop) (omega (arith, piece_room p fits next, piece_length p fits, piece_within p fits))
 
 pub loop-i-preserved : goal.loop-i-preserved
@@ -38,14 +38,14 @@ loop-i-preserved c =
           (piece_on p fits
           (flagged_next n.points n.flagged c.loop-i.f c.loop-i.i
           (rw c.points-point-items.ensures at c.loop-i-test.true)
-          (sym c.is_next.ensures ∙ w.if-is_next.true))
+          (rw c.flagged_loops-flagged.ensures at (sym c.is_next.ensures ∙ w.if-is_next.true)))
           w.put_frame-at.ensures.value w.put_frame-at.ensures.out_after)
       | else-is_next w ↦
           rw (w.out-is, w.at-is, w.f-is)
           (piece_on p fits
           (plain_next n.points n.flagged c.loop-i.f c.loop-i.i
           (rw c.points-point-items.ensures at c.loop-i-test.true)
-          (sym c.is_next.ensures ∙ w.if-is_next.false))
+          (rw c.flagged_loops-flagged.ensures at (sym c.is_next.ensures ∙ w.if-is_next.false)))
           w.put_frame-at-else-is_next.ensures.value
           (rw c.points-point-items.ensures at w.put_frame-at-else-is_next.ensures.out_after))
     ]

@@ -21,4 +21,5 @@ returns c =
     let v = valid_is n c.requires.nest_value in
     one_end_set n.points n.flagged (dep_in c.args.e) (flag_is_do n.points n.flagged v.all_flags)
     c.ends_of-ends.result c.set_of-flagged.result.words c.with_one_end.result.words v.shape v.few_points
-    (rw c.points.ensures at c.ends_of-ends.ensures) c.set_of-flagged.ensures (sym c.goes_on.ensures ∙ c.if-not-goes_on.false) c.with_one_end.ensures
+    (rw c.points.ensures at c.ends_of-ends.ensures) (rw c.flagged_loops.ensures at c.set_of-flagged.ensures)
+    (sym c.goes_on.ensures ∙ c.if-not-goes_on.false) c.with_one_end.ensures

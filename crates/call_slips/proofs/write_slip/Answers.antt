@@ -1,5 +1,5 @@
 -- `write_slip` meets its contract: the first line, then the counts in the rest of the buffer (`last_part`).
-use mathlib.Core.Path.{refl, subst}
+use mathlib.Core.Path.{sym, subst}
 use Prim.Native.Nat.{ℕ, ◌+◌, ◌-◌, ◌≤◌}
 use native.Mathlib.Omega.{arith}
 use lib.ListN.{length}
@@ -23,9 +23,6 @@ pub write_first-at-requires : goal.write_first-at-requires
 write_first-at-requires c =
     let n = nest_in c.args.nest in
     let gs = gaps_in c.args.placement.words in record { first_bound = omega (arith, c.uncut-first.ensures, uncut_most n gs c.requires.nest_value); first_in_bounds = omega (arith, slip_parts n gs, c.requires.words_in_bounds) }
-
-pub slice_bounds-write_counts-end : goal.slice_bounds-write_counts-end
-slice_bounds-write_counts-end c = c.requires.counted.count_is
 
 pub slice_bounds-write_counts-count : goal.slice_bounds-write_counts-count
 unfolding slip_text
@@ -77,7 +74,13 @@ write_counts-requires c =
     c.uncut-first.ensures
     c.write_first-at.ensures) in
     let n = nest_in c.args.nest in
-    let v = valid_is n c.requires.nest_value in record { points_value = (v.shape, v.few_points); words_value = c.requires.words_value; counts_fit = counts_fit n (gaps_in c.args.placement.words) _ (rest_fits _ _ _ _ _ (begun) c.requires.words_in_bounds) }
+    let v = valid_is n c.requires.nest_value in
+    rw c.points.ensures record {
+      points_value = (v.shape, v.few_points);
+      words_value = c.requires.words_value;
+      counts_fit =
+          counts_fit n (gaps_in c.args.placement.words) _ (rest_fits _ _ _ _ _ (begun) c.requires.words_in_bounds);
+    }
 
 pub overflow_add-result : goal.overflow_add-result
 unfolding slip_text
@@ -100,7 +103,10 @@ overflow_add-result c =
     (put_mid c.write_first-at.result (length c.write_first-at.new.out - c.write_first-at.result) c.write_first-at.new.out c.write_counts.new.out)
     (c.write_first-at.result + c.write_counts.result) = let n = nest_in c.args.nest in
     last_part _ _ _ _ _ (begun) c.requires.words_in_bounds _ _
-    (record { length_is = c.write_counts.ensures.length_is n refl; out_is = c.write_counts.ensures.out_is n refl }) in
+    (record {
+      length_is = c.write_counts.ensures.length_is n (sym c.points.ensures);
+      out_is = c.write_counts.ensures.out_is n (sym c.points.ensures);
+    }) in
     let fits = c.requires.words_in_bounds in
     omega (arith, (written).length_is)
 
@@ -125,5 +131,8 @@ returns c =
     (put_mid c.write_first-at.result (length c.write_first-at.new.out - c.write_first-at.result) c.write_first-at.new.out c.write_counts.new.out)
     (c.write_first-at.result + c.write_counts.result) = let n = nest_in c.args.nest in
     last_part _ _ _ _ _ (begun) c.requires.words_in_bounds _ _
-    (record { length_is = c.write_counts.ensures.length_is n refl; out_is = c.write_counts.ensures.out_is n refl }) in
+    (record {
+      length_is = c.write_counts.ensures.length_is n (sym c.points.ensures);
+      out_is = c.write_counts.ensures.out_is n (sym c.points.ensures);
+    }) in
     written
