@@ -71,6 +71,7 @@ const MINOR: usize = 0;
 
 const PATCH: usize = 0;
 
+// The codes of desk.h; those of a slip's text are bytes of that text, and stand with them.
 const UNCUT: u8 = 0;
 
 const DEARER: u8 = 1;
@@ -119,7 +120,7 @@ pub extern "C" fn desk_mark(desk: Desk, text: &[u8]) -> Mark
     requires { IsMade desk }
     ensures { MarkSays desk text.now result }
 {
-    in_numbers(desk::mark_placement(desk, text))
+    Mark::from(desk::mark_placement(desk, text))
 }
 
 #[unsafe(no_mangle)]
@@ -359,30 +360,34 @@ pub extern "C" fn desk_version() -> Version
 }
 
 // Mark's answer in numbers.
-fn in_numbers(marked: Result<Verdict, Fault>) -> Mark
-    ensures { result ≡ mark_out (mark_in marked) }
-{
-    match marked {
-        Err(fault) => Mark {
-            number: u8::from(fault.refusal),
-            line: fault.line,
-            verdict: 0,
-            a: 0,
-            b: 0,
-            c: 0,
-        },
-        Ok(verdict) => given(verdict),
+impl From<Result<Verdict, Fault>> for Mark {
+    ghost from_gives = { λ x m. m ≡ mark_out (mark_in x) };
+
+    fn from(marked: Result<Verdict, Fault>) -> Mark {
+        match marked {
+            Err(fault) => Mark {
+                number: u8::from(fault.refusal),
+                line: fault.line,
+                verdict: 0,
+                a: 0,
+                b: 0,
+                c: 0,
+            },
+            Ok(verdict) => Mark::from(verdict),
+        }
     }
 }
 
 // A verdict in numbers.
-fn given(verdict: Verdict) -> Mark
-    ensures { result ≡ verdict_out (verdict_in verdict) }
-{
-    match verdict {
-        Verdict::Uncut(first) => coded(UNCUT, first, 0, 0),
-        Verdict::Dearer(counts) => coded(DEARER, counts.d, counts.theirs, counts.ours),
-        Verdict::Best => coded(BEST, 0, 0, 0),
+impl From<Verdict> for Mark {
+    ghost from_gives = { λ v m. m ≡ verdict_out (verdict_in v) };
+
+    fn from(verdict: Verdict) -> Mark {
+        match verdict {
+            Verdict::Uncut(first) => coded(UNCUT, first, 0, 0),
+            Verdict::Dearer(counts) => coded(DEARER, counts.d, counts.theirs, counts.ours),
+            Verdict::Best => coded(BEST, 0, 0, 0),
+        }
     }
 }
 
