@@ -51,15 +51,15 @@ module _ {ps : List ℕ} {most depth i : ℕ} (p : Deepest ps most depth i) wher
 
 -- ---- the dependences of a counted nest, as it lends them
 
-module _ (n : DN.Nest) (es : List DE.Dependence) (p : IsCounted n) (lent : es ≡ take n.many n.deps) where
+module _ (n : DN.Nest) {es : List DE.Dependence} (p : IsCounted n) (lent : es ≡ take n.many n.deps) where
   pub lent_deps : length es ≡ length (nest_in n).deps
   lent_deps = rw lent (length-take-le n.many n.deps (counted_many n p) ∙ p.many_is)
 
   pub next_dep
-      : (z : DE.Dependence) (i : ℕ)
+      : (z : DE.Dependence) {i : ℕ}
       → i < length es
       → drop i (nest_in n).deps ≡ dep_in (get_or es i z) ∷ drop (suc i) (nest_in n).deps
-  next_dep z i l =
+  next_dep z {i} l =
       let under : i < n.many = omega (arith, lent_deps, p.many_is) in
       rw (lent, get_or-take n.many n.deps i z under) (deps_in_at n.many n.deps i z under (counted_many n p))
 

@@ -10,8 +10,8 @@ added : (c : goal.After-dep_length-length) →
 added c =
     let n = c.args.nest.now in
     let es = c.dependences-e-items in
-    summed_on c.loop-e.invariant (omega (arith, lent_deps n es.result.now c.requires es.ensures.entries))
-    (next_dep n es.result.now c.requires es.ensures.entries _ c.loop-e.e-index c.loop-e-test.true)
+    summed_on c.loop-e.invariant (omega (arith, lent_deps n c.requires es.ensures.entries))
+    (next_dep n c.requires es.ensures.entries _ c.loop-e-test.true)
     c.dep_length-length.ensures
 
 pub overflow_add-length : goal.overflow_add-length
@@ -24,4 +24,4 @@ pub returns : goal.returns
 returns c =
     let es = c.dependences-e-items in
     summed_done c.loop-e.invariant
-    (omega (arith, lent_deps c.args.nest.now es.result.now c.requires es.ensures.entries))
+    (omega (arith, lent_deps c.args.nest.now c.requires es.ensures.entries))

@@ -21,9 +21,7 @@ none = record { kind = 0; d = 0; s = 0; t = 0 }
 pub moved-requires : goal.moved-requires
 moved-requires c =
     let n = c.args.nest.now in
-    let es = c.dependences-e-items in
-    let next =
-    next_dep n es.result.now c.requires.counted es.ensures.entries none c.loop-e.e-index c.loop-e-test.true in
+    let next = next_dep n c.requires.counted c.dependences-e-items.ensures.entries none c.loop-e-test.true in
     c.requires.stay_bytes _ (among_next (nest_in n).deps c.loop-e.e-index next)
 
 pub put_dep-at-requires : goal.put_dep-at-requires
@@ -31,9 +29,7 @@ put_dep-at-requires c =
     let n = c.args.nest.now in
     let p = c.loop-e.invariant in
     let fits = c.requires.room in
-    let es = c.dependences-e-items in
-    let next =
-    next_dep n es.result.now c.requires.counted es.ensures.entries none c.loop-e.e-index c.loop-e-test.true in
+    let next = next_dep n c.requires.counted c.dependences-e-items.ensures.entries none c.loop-e-test.true in
     let room = piece_room p fits (dep_next c.args.by (nest_in n).deps c.loop-e.e-index next) in
     let line = ap (λ (e : Dep). length (line_text (dep_frame e))) c.moved.ensures in
     simp (length-take, length-drop) (omega (arith, room, line, piece_length p fits, piece_within p fits))
@@ -43,9 +39,7 @@ loop-e-preserved c =
     let n = c.args.nest.now in
     let p = c.loop-e.invariant in
     let fits = c.requires.room in
-    let es = c.dependences-e-items in
-    let next =
-    next_dep n es.result.now c.requires.counted es.ensures.entries none c.loop-e.e-index c.loop-e-test.true in
+    let next = next_dep n c.requires.counted c.dependences-e-items.ensures.entries none c.loop-e-test.true in
     let line = ap (λ (e : Dep). line_text (dep_frame e)) c.moved.ensures in
     piece_on p fits (dep_next c.args.by (nest_in n).deps c.loop-e.e-index next)
     (c.put_dep-at.ensures.0 ∙ ap length line)
@@ -55,7 +49,6 @@ loop-e-preserved c =
 pub returns : goal.returns
 returns c =
     let n = c.args.nest.now in
-    let es = c.dependences-e-items in
     piece_done c.loop-e.invariant c.requires.room
     (deps-out c.args.by (nest_in n).deps c.loop-e.e-index
-    (omega (arith, lent_deps n es.result.now c.requires.counted es.ensures.entries)))
+    (omega (arith, lent_deps n c.requires.counted c.dependences-e-items.ensures.entries)))
