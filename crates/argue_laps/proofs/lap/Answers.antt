@@ -1,7 +1,6 @@
 -- The suffix goes into the two rows, the sweep is that of the lap (OneLap), and the rows are as before.
 use native.Mathlib.Omega.{arith}
 use lib.ListN.{length-set}
-use Rattle.paper_nests.proofs.Loops.{end-after}
 use Rattle.argue_laps.proofs.Suffix.{few_back, suffixed, placed, sets_there, set_again}
 use Rattle.argue_laps.proofs.OneLap.{lapped}
 use Rattle.argue_laps.proofs.lap.Goals as goal
@@ -49,22 +48,10 @@ bounds-sets-q-2 c =
     let q = placed c.requires.lap_room c.args.f c.last_back-last.ensures c.suffix_of-suffix.ensures in
     omega (arith, q.2)
 
-pub trace-s-requires : goal.trace-s-requires
-trace-s-requires c =
+pub trace-s-requires-clause-sets_room : goal.trace-s-requires-clause-sets_room
+trace-s-requires-clause-sets_room c =
     let w = c.requires.lap_room in
-    let suffix = suffixed w c.last_back-last.ensures c.suffix_of-suffix.ensures in
-    record {
-      sweep_room = record {
-        points_room = w.sweeps.points_room;
-        own_room = w.sweeps.own_room;
-        own_low = w.sweeps.own_low;
-        need_room = rw length-set w.sweeps.need_room;
-        left_room = w.sweeps.left_room;
-      };
-      sets_room = sets_there w suffix c.where_less.ensures;
-      few_claims = w.few_claims;
-      e_bound = (w.short, omega (arith, w.short, c.requires.start_bound));
-    }
+    sets_there w (suffixed w c.last_back-last.ensures c.suffix_of-suffix.ensures) c.where_less.ensures
 
 pub offset_bounds-need-q-3 : goal.offset_bounds-need-q-3
 offset_bounds-need-q-3 c =
@@ -85,19 +72,6 @@ pub bounds-sets-q-3 : goal.bounds-sets-q-3
 bounds-sets-q-3 c =
     let q = placed c.requires.lap_room c.args.f c.last_back-last.ensures c.suffix_of-suffix.ensures in
     rw length-set q.2
-
-pub close_up-requires : goal.close_up-requires
-close_up-requires c =
-    let a = c.args in
-    let w = c.requires.lap_room in
-    let t = c.trace-s.ensures in
-    record {
-      c_bound = (
-        omega (arith, t.few, w.short),
-        omega (arith, end-after a.inside.now.points.now w.shape a.head.d w.is-do, w.e_is, w.short),
-      );
-      at_bound = omega (arith, t.near, w.short, c.requires.start_bound);
-    }
 
 pub returns : goal.returns
 returns c =

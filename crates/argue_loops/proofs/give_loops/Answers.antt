@@ -5,17 +5,6 @@ use Rattle.argue_loops.proofs.give_loops.Goals as goal
 pub loop-d-init : goal.loop-d-init
 loop-d-init c = loops_begin c.requires.lists_room
 
-pub give_point-s-requires : goal.give_point-s-requires
-give_point-s-requires c =
-    let p = c.loop-d.invariant in
-    let l = c.loop-d-test.true in
-    record {
-      give_tables = c.requires.give_tables;
-      lists_room = p.room;
-      d_in_bounds = omega (arith, p.high, l);
-      at_bound = (p.gives.near (omega arith), omega (arith, p.fewer, p.high, l, c.requires.give_tables.charts.few));
-    }
-
 pub loop-d-preserved : goal.loop-d-preserved
 loop-d-preserved c =
     let w = c.give_point-s in
