@@ -167,18 +167,8 @@ loop-times-preserved c =
     elim c.match-part_of.branch [
       | in-Claims+else-not-close-2+else-not-is_do w ↦
           let clean = w.no_times-times-in-Claims in
-          rw (
-            w.struck-is,
-            w.times-is,
-            w.claims-is,
-            w.low-is,
-            w.gone-is,
-            w.head-is,
-            w.opened-is,
-            w.c-is,
-            w.by-is,
-            w.known-is,
-          )
+          rw (w.struck-is, w.times-is, w.claims-is, w.low-is, w.gone-is)
+          (rw (w.head-is, w.opened-is, w.c-is, w.by-is, w.known-is)
           (record {
             judges = λ key t.
                 claim_on (turn key t) w.in-Claims.is c.open_of-claim.result c.open_of-claim.ensures.value
@@ -192,35 +182,15 @@ loop-times-preserved c =
                 w.empty-gone-in-Claims.result.words clean.ensures.by_index w.empty-gone-in-Claims.ensures);
             long = long_closed v.long c.loop-times.known c.loop-times.head w.close-in-Claims.new.struck clean.result
                 w.close-in-Claims.auto.struck clean.ensures.result_len;
-          })
+          }))
       | in-By w ↦
-          rw (
-            w.struck-is,
-            w.times-is,
-            w.claims-is,
-            w.low-is,
-            w.gone-is,
-            w.head-is,
-            w.opened-is,
-            w.c-is,
-            w.by-is,
-            w.known-is,
-          )
-          (record { judges = λ key t. Led-on (turn key t) (suc w.in-By.m) w.in-By.is (omega arith); long = v.long })
+          rw (w.struck-is, w.times-is, w.claims-is, w.low-is, w.gone-is)
+          (rw (w.head-is, w.opened-is, w.c-is, w.by-is, w.known-is)
+          (record { judges = λ key t. Led-on (turn key t) (suc w.in-By.m) w.in-By.is (omega arith); long = v.long }))
       | in-Names+in-Some w ↦
           let taken = w.in-Some.taken in
-          rw (
-            w.struck-is,
-            w.times-is,
-            w.claims-is,
-            w.low-is,
-            w.gone-is,
-            w.head-is,
-            w.opened-is,
-            w.c-is,
-            w.by-is,
-            w.known-is,
-          )
+          rw (w.struck-is, w.times-is, w.claims-is, w.low-is, w.gone-is)
+          (rw (w.head-is, w.opened-is, w.c-is, w.by-is, w.known-is)
           (record {
             judges = λ key t.
                 let told = stepped_as c.requires.judgeable t (turn key t).judges c.open_of-claim.result
@@ -228,5 +198,5 @@ loop-times-preserved c =
                 w.asked_of-asked.result w.asked_of-asked.ensures w.take_step.new.times (Some taken) w.in-Some.ensures in
                 step_on (turn key t) w.in-Names.is taken.c taken.gone.words w.take_step.new.times told.0 told.1;
             long = long_named v.long w.take_step.new.times w.take_step.auto.times;
-          })
+          }))
     ]
