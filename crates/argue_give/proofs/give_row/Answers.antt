@@ -1,5 +1,4 @@
 use mathlib.Core.Path.{sym, ◌∙◌}
-use Prim.Native.Nat.{◌-◌, ◌<◌}
 use native.Mathlib.Omega.{arith}
 use Rattle.std.proofs.Math.Nat.{add-sub_cancel}
 use Rattle.argue_give.proofs.Rowing.{row_begin, row_skip, row_on, row_done}
