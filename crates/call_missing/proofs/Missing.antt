@@ -1,6 +1,6 @@
 -- The call: the flagged loops as bits, and what the loops that it gives are good for.
 -- Main statements: `flag_bits`, `flags_are_dos`; `missing_iff`, `missing_reached`, `missing_alike`.
-use mathlib.Core.Path.{◌≡◌, sym, ◌∙◌}
+use mathlib.Core.Path.{◌≡◌, ap, sym, ◌∙◌}
 use mathlib.Core.Bool.{true}
 use mathlib.Core.List.{List}
 use Prim.Native.Nat.{ℕ}
@@ -27,12 +27,19 @@ use Rattle.call_missing.proofs.Reached.{skipped_reached}
 are-flags : (n : Nest) → is_valid n ≡ true → AreFlags n.points n.flagged
 are-flags n v = flag_is_do n.points n.flagged (valid_is n v).all_flags
 
-module _ (n : Nest) (v : is_valid n ≡ true) (ws : List ℕ) (same : (d : ℕ) → holds ws d ≡ is_in d n.flagged) where
-  pub flag_bits : FlagBits n.points n.flagged ws
-  flag_bits = record { flags = are-flags n v; bits_are = λ d l. same d }
+-- the bits of a list that is the nest's flagged loops
+module _
+    (n : Nest) (v : is_valid n ≡ true) (ws : List ℕ)
+    {fs : List ℕ} (lent : fs ≡ n.flagged) (same : (d : ℕ) → holds ws d ≡ is_in d fs)
+  where
+    are_bits : (d : ℕ) → holds ws d ≡ is_in d n.flagged
+    are_bits d = same d ∙ ap (is_in d) lent
 
-  pub flags_are_dos : AreDos n.points ws
-  flags_are_dos d l h = are-flags n v d (sym (same d) ∙ h)
+    pub flag_bits : FlagBits n.points n.flagged ws
+    flag_bits = record { flags = are-flags n v; bits_are = λ d l. are_bits d }
+
+    pub flags_are_dos : AreDos n.points ws
+    flags_are_dos d l h = are-flags n v d (sym (are_bits d) ∙ h)
 
 -- a reply that is no refusal has the listed loops
 given : (d : DD.Desk) (r : DC.Chosen) → MissingSays d r → r.number ≡ 0 → gaps_in r.set.words ≡ missing_on (desk_in d)

@@ -12,7 +12,7 @@ list_by-requires-clause-are_loops c =
     let v = valid_is n c.requires.nest_value in
     are_loops n.points c.ends_of-ends.result c.set_of.result.words c.args.p.words c.with_barrier-loops.result.words
     v.shape v.few_points (rw c.points.ensures at c.ends_of-ends.ensures) c.with_barrier-loops.ensures
-    (flags_are_dos n c.requires.nest_value c.set_of.result.words (rw c.flagged_loops.ensures at c.set_of.ensures))
+    (flags_are_dos n c.requires.nest_value c.set_of.result.words c.flagged_loops.ensures c.set_of.ensures)
 
 pub returns : goal.returns
 returns c =
@@ -22,6 +22,6 @@ returns c =
     listed_alone c.empty.result.words e c.list_by.result.words
     (barriered n.points c.ends_of-ends.result c.set_of.result.words c.args.p.words c.with_barrier-loops.result.words v.shape
     v.few_points (rw c.points.ensures at c.ends_of-ends.ensures) c.with_barrier-loops.ensures n.flagged
-    (flag_bits n c.requires.nest_value c.set_of.result.words (rw c.flagged_loops.ensures at c.set_of.ensures)))
+    (flag_bits n c.requires.nest_value c.set_of.result.words c.flagged_loops.ensures c.set_of.ensures))
     (deps_fit n.points n.deps v.all-deps (dep_in e) c.requires.among) c.empty.ensures
     c.list_by.ensures

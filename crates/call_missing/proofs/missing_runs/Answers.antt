@@ -13,7 +13,8 @@ use Rattle.call_missing.proofs.missing_runs.Goals as goal
 pub listed_loops-requires-clause-are_dos : goal.listed_loops-requires-clause-are_dos
 listed_loops-requires-clause-are_dos c =
     let y = ready c.args.desk c.requires (sym c.in_default.ensures) in
-    flags_are_dos (nest_in c.args.desk.nest) y.valid c.set_of-flagged.result.words (rw c.flagged_loops.ensures at c.set_of-flagged.ensures)
+    flags_are_dos (nest_in c.args.desk.nest) y.valid c.set_of-flagged.result.words c.flagged_loops.ensures
+    c.set_of-flagged.ensures
 
 pub returns : goal.returns
 returns c =
@@ -22,4 +23,5 @@ returns c =
     let y = ready d c.requires none in
     let n = nest_in d.nest in
     chooses (state_fault true (desk_in d)) (missing_on (desk_in d)) _ none refl refl
-    (c.listed_loops.ensures n.flagged (flag_bits n y.valid c.set_of-flagged.result.words (rw c.flagged_loops.ensures at c.set_of-flagged.ensures)))
+    (c.listed_loops.ensures n.flagged
+    (flag_bits n y.valid c.set_of-flagged.result.words c.flagged_loops.ensures c.set_of-flagged.ensures))
