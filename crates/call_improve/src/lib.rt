@@ -26,12 +26,13 @@ use paper_refusals::Refusal;
 use run_count::{OUTER, sum_at, times_of};
 
 // What ended the tries: a round through all gaps in which none was taken, or the budget before the round was through.
+// The C interface: desk.h lays it out.
 pub const ROUND: u8 = 0;
 
 pub const BUDGET: u8 = 1;
 
 // The number and the line of a refusal, 0 and 0 for none; where the tries lead, its calls, how many tries were made and
-// what ended them; the floor.
+// what ended them; the floor. The C interface: desk.h lays it out.
 #[repr(C)]
 #[derive(Clone, Copy)]
 pub struct Improved {
@@ -54,7 +55,8 @@ struct Tables<'a> {
 }
 
 // A placement with its calls and, in chains, the dependences by the highest barrier that cuts them: the first of each
-// barrier's, and after each dependence the next of the same barrier; the number of dependences for none.
+// barrier's, and after each dependence the next of the same barrier; the number of dependences for none. No heap: chains
+// of indices.
 #[derive(Clone, Copy)]
 struct Current {
     placement: Placement,
@@ -153,7 +155,7 @@ fn outcome_of(current: Current, tries: usize, ended: u8, floor: u64) -> Improved
     }
 }
 
-// The lowest gap from lo on without a barrier; `count` for none.
+// The lowest gap from lo on without a barrier; `count` for none: the walk over the gaps ends with it.
 fn free_from(p: Placement, lo: usize, count: usize) -> usize
     requires { (lo ≤ count) × (count ≤ GAPS) }
     ensures { FreeFrom p.words lo count result }
@@ -166,7 +168,7 @@ fn free_from(p: Placement, lo: usize, count: usize) -> usize
     count
 }
 
-// For each gap the highest barrier up to it; 0 for none.
+// For each gap the highest barrier up to it; 0 for none: it is below every gap.
 fn latest_of(p: Placement) -> [usize; Nest::POINTS]
     ensures { HasLatest p.words result }
 {
@@ -198,7 +200,8 @@ fn highest(latest: &[usize; Nest::POINTS], end: usize, e: Dependence) -> usize
     latest[t]
 }
 
-// The placement, which cuts every dependence, with its calls and chains.
+// The placement, which cuts every dependence, with its calls and chains. The loop goes by index, as the chains are of
+// indices.
 fn current_of(tables: &Tables, p: Placement, calls: u64) -> Current
     requires words_value { are_gaps (nest_in tables.now.nest.now) (gaps_in p.words) ≡ true }
     requires words_value_2 { uncut (nest_in tables.now.nest.now) (gaps_in p.words) ≡ 0 }

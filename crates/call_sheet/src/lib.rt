@@ -20,7 +20,7 @@ pub const PHASES: usize = 64;
 const ALL: u16 = 65535;
 
 // The number and the line of a refusal, 0 and 0 for none, and when the run ends: with the sheet's waits, and with all
-// barriers kept.
+// barriers kept. The C interface: desk.h lays it out.
 #[repr(C)]
 #[derive(Clone, Copy)]
 pub struct RunEnds {
@@ -87,7 +87,7 @@ fn is_sized(sheet: &Sheet) -> bool
         && sheet.waits.len() == (sheet.phases - 1) * sheet.processors
 }
 
-// Every set has its own processor and none that does not exist.
+// Every set has its own processor and none that does not exist. From set to set, as the definition goes.
 fn are_sets(processors: usize, waits: &[u16]) -> bool
     requires le_processors { 1 ≤ processors }
     requires processors_bound { processors ≤ PROCESSORS }
@@ -128,7 +128,8 @@ fn has(set: u16, q: usize) -> bool
     (set >> q) & 1 == 1
 }
 
-// When the run ends with the waits of the sheet.
+// When the run ends with the waits of the sheet. By row, as the times of one phase are those of the phase before and
+// this phase's sets and durations.
 fn end_waiting(sheet: &Sheet) -> u32
     requires { is_sized (sheet_in sheet.now) ≡ true }
     ensures { result ≡ end_waiting (sheet_in sheet.now) }
