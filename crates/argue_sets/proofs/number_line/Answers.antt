@@ -27,8 +27,7 @@ module _ {ps own ends heights : List ℕ} (points : Points ps) (charted : Charte
 pub offset_bounds-chart-home : goal.offset_bounds-chart-home
 offset_bounds-chart-home c =
     let r = c.requires in
-    let z = homed r.points r.charted r.fits c.if-e-ne-INDEPENDENT.false c.home_of-home.ensures in
-    omega arith
+    omega (arith, homed r.points r.charted r.fits c.if-e-ne-INDEPENDENT.false c.home_of-home.ensures)
 
 pub bounds-chart-home : goal.bounds-chart-home
 bounds-chart-home c =
@@ -39,20 +38,17 @@ bounds-chart-home c =
 pub overflow_mul-place : goal.overflow_mul-place
 overflow_mul-place c =
     let r = c.requires in
-    let z = homed r.points r.charted r.fits c.if-e-ne-INDEPENDENT.false c.home_of-home.ensures in
-    omega arith
+    omega (arith, homed r.points r.charted r.fits c.if-e-ne-INDEPENDENT.false c.home_of-home.ensures)
 
 pub overflow_add-place-2 : goal.overflow_add-place-2
 overflow_add-place-2 c =
     let r = c.requires in
-    let z = homed r.points r.charted r.fits c.if-e-ne-INDEPENDENT.false c.home_of-home.ensures in
-    omega arith
+    omega (arith, homed r.points r.charted r.fits c.if-e-ne-INDEPENDENT.false c.home_of-home.ensures)
 
 pub offset_bounds-reach-place : goal.offset_bounds-reach-place
 offset_bounds-reach-place c =
     let r = c.requires in
-    let z = homed r.points r.charted r.fits c.if-e-ne-INDEPENDENT.false c.home_of-home.ensures in
-    omega arith
+    omega (arith, homed r.points r.charted r.fits c.if-e-ne-INDEPENDENT.false c.home_of-home.ensures)
 
 pub bounds-reach-place : goal.bounds-reach-place
 bounds-reach-place c =

@@ -30,8 +30,7 @@ module _ {ps own ends heights : List ℕ} (points : Points ps) (charted : Charte
 pub offset_bounds-chart-home : goal.offset_bounds-chart-home
 offset_bounds-chart-home c =
     let r = c.requires in
-    let z = homed r.points r.charted r.fits c.if-e-eq-INDEPENDENT.true c.home_of-home.ensures in
-    omega arith
+    omega (arith, homed r.points r.charted r.fits c.if-e-eq-INDEPENDENT.true c.home_of-home.ensures)
 
 pub bounds-chart-home : goal.bounds-chart-home
 bounds-chart-home c =
@@ -42,14 +41,12 @@ bounds-chart-home c =
 pub overflow_mul-chart : goal.overflow_mul-chart
 overflow_mul-chart c =
     let r = c.requires in
-    let z = homed r.points r.charted r.fits c.if-e-eq-INDEPENDENT.true c.home_of-home.ensures in
-    omega arith
+    omega (arith, homed r.points r.charted r.fits c.if-e-eq-INDEPENDENT.true c.home_of-home.ensures)
 
 pub overflow_add-chart : goal.overflow_add-chart
 overflow_add-chart c =
     let r = c.requires in
-    let z = homed r.points r.charted r.fits c.if-e-eq-INDEPENDENT.true c.home_of-home.ensures in
-    omega arith
+    omega (arith, homed r.points r.charted r.fits c.if-e-eq-INDEPENDENT.true c.home_of-home.ensures)
 
 pub lower-requires : goal.lower-requires
 lower-requires c =
@@ -60,8 +57,7 @@ lower-requires c =
 pub offset_bounds-has-home : goal.offset_bounds-has-home
 offset_bounds-has-home c =
     let r = c.requires in
-    let z = homed r.points r.charted r.fits c.if-e-eq-INDEPENDENT.true c.home_of-home.ensures in
-    omega arith
+    omega (arith, homed r.points r.charted r.fits c.if-e-eq-INDEPENDENT.true c.home_of-home.ensures)
 
 pub bounds-has-home : goal.bounds-has-home
 bounds-has-home c =
