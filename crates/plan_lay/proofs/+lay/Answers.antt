@@ -49,15 +49,13 @@ pub bounds-need-last : goal.bounds-need-last
 bounds-need-last t c =
     let r = c.requires in
     let a = called r.charts r.lay_room r.d_value r.has_height r.d_lt_q r.q_bound r.choices in
-    let x = picked a c.if-rows-base-eq0.false in
-    omega (arith, c.requires.in_bounds, a.short, a.charts.few, c.copy_row.auto.xs)
+    omega (arith, picked a c.if-rows-base-eq0.false, r.in_bounds, a.short, a.charts.few, c.copy_row.auto.xs)
 
 pub bounds-need-last-2 : goal.bounds-need-last-2
 bounds-need-last-2 t c =
     let r = c.requires in
     let a = called r.charts r.lay_room r.d_value r.has_height r.d_lt_q r.q_bound r.choices in
-    let x = picked a c.if-rows-base-eq0.false in
-    omega (arith, c.requires.in_bounds, a.short, a.charts.few, c.copy_row.auto.xs)
+    omega (arith, picked a c.if-rows-base-eq0.false, r.in_bounds, a.short, a.charts.few, c.copy_row.auto.xs)
 
 pub loop-p-init : goal.loop-p-init
 loop-p-init t c =
@@ -134,8 +132,7 @@ pub bounds-lines-base : goal.bounds-lines-base
 bounds-lines-base t c =
     let r = c.requires in
     let a = called r.charts r.lay_room r.d_value r.has_height r.d_lt_q r.q_bound r.choices in
-    let x = picked a c.if-rows-base-eq0.false in
-    omega arith
+    omega (arith, picked a c.if-rows-base-eq0.false)
 
 pub put_where-requires : goal.put_where-requires
 put_where-requires t c =
