@@ -55,8 +55,8 @@ struct Tables<'a> {
 }
 
 // A placement with its calls and, in chains, the dependences by the highest barrier that cuts them: the first of each
-// barrier's, and after each dependence the next of the same barrier; the number of dependences for none. No heap: chains
-// of indices.
+// barrier's, and after each dependence the next of the same barrier; the number of dependences for none.
+// No heap: chains of indices.
 #[derive(Clone, Copy)]
 struct Current {
     placement: Placement,
