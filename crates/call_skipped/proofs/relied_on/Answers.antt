@@ -38,7 +38,8 @@ returns-in-Err-read_placement c =
     let none = sym c.in_default.ensures in
     let f = c.in-Err-read_placement.fault in
     let read =
-    reads_here d c.args.text.now _ c.requires none c.barred_of-barred.ensures c.in-Err-read_placement.ensures.placed_is in
+    reads_here d c.args.text.now _ c.requires none c.barred_of-barred.ensures
+    c.in-Err-read_placement.ensures.placed_is in
     relied_unread d c.args.dependence c.requires.counted c.args.text.now none (number_of f.refusal) f.line [] read
     (never_zero f.refusal) _ c.none_chosen-in-Err-read_placement.ensures
 
