@@ -245,7 +245,9 @@ fn piece_of(f: Frame) -> Piece
     }
 }
 
-// Whether a point may come next, else its refusal, 3, 4 or 5.
+// Whether a point may come next, else its refusal, 3, 4 or 5. This and the next two are inlined, so that what is known so
+// far is not put together in memory for each line.
+#[inline(always)]
 fn point_fault(so_far: &SoFar, kind: u8) -> Result<(), Refusal>
     ensures { PointFault
         (length so_far.now.points.now)
@@ -269,6 +271,7 @@ fn point_fault(so_far: &SoFar, kind: u8) -> Result<(), Refusal>
 }
 
 // Whether a dependence may come next, else its refusal, 4 to 7.
+#[inline(always)]
 fn dependence_fault(so_far: &SoFar, e: Dependence) -> Result<(), Refusal>
     requires { KnowsEnds so_far.now.points.now so_far.now.depth so_far.now.ends.now }
     ensures { DependenceFault so_far.now.points.now so_far.now.many so_far.now.depth e (number_in result) }
@@ -283,6 +286,7 @@ fn dependence_fault(so_far: &SoFar, e: Dependence) -> Result<(), Refusal>
 }
 
 // Whether a barred gap may come next, else its refusal, 4, 5, 8 or 14.
+#[inline(always)]
 fn barred_fault(so_far: &SoFar, g: u8) -> Result<(), Refusal>
     requires { KnowsOne so_far.now.points.now so_far.now.depth so_far.now.single }
     ensures { BarredFault so_far.now.points.now so_far.now.bars so_far.now.depth g (number_in result) }
