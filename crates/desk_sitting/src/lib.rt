@@ -56,7 +56,7 @@ pub fn lift(nest: Nest, s: Sitting, g: usize) -> Sitting
 }
 
 // The sitting with this placement, which differs at gap g: `step` makes the new count of each dependence that has the
-// gap.
+// gap. The loop goes by index, as the count of the same index is written.
 fn recounted<F: Fn(u8) -> u8>(
     nest: &Nest,
     s: Sitting,
