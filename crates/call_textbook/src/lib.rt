@@ -150,9 +150,7 @@ fn raise(latest: &mut [usize], p: usize, start: usize)
     requires { p < length latest.old }
     ensures { RaiseSays p start latest.old latest.new }
 {
-    if latest[p] < start {
-        latest[p] = start;
-    }
+    latest[p] = latest[p].max(start);
 }
 
 // The first barrier whose line takes the fewest cuts, the first of equals.
@@ -176,7 +174,7 @@ fn first_barrier(ring: &Ring, barred: Placement) -> Option<usize>
     best
 }
 
-// How many cuts the line behind g takes.
+// How many cuts the line behind g takes. `lay` walks the same way: a closure for both would have to carry the placement.
 fn count_cuts(ring: &Ring, g: usize) -> usize
     requires { (0 < g) × (g ≤ ring.now.m) }
     ensures { result ≡ cuts_behind (at ring.now.latest.now) ring.now.m g }
