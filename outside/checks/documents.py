@@ -55,9 +55,10 @@ def documents() -> Documents:
 
 
 def today(docs: Documents) -> Iterator[tuple[str, str]]:
-    """All but the notes on requests, whose names and commands are those of their day, and the page that tells old names
+    """All but the notes on requests, whose names and commands are those of their day, and the pages that tell old names
     beside new ones."""
-    return ((where, text) for where, text in docs.items() if not re.match(r'docs/(changes/\d|PORT\.md|DESIGN-PASS\.md)', where))
+    return ((where, text) for where, text in docs.items()
+            if not re.match(r'docs/(changes/\d|(PORT|DESIGN-PASS|LOOK-BACK)\.md)', where))
 
 
 def blocks(text: str) -> list[tuple[str, str]]:
@@ -271,15 +272,14 @@ def accounted(docs: Documents) -> Iterator[Check]:
 
 
 def apart(_: Documents) -> Iterator[Check]:
-    """A page uses the structs, the numbers of refusals, other pages, and names that the contracts of calls cite, so that
-    it can be read alone; the pages on arguments also what an argument is and what its text claims."""
+    """A page uses the structs, other pages, and names that the contracts of calls cite, so that it can be read alone;
+    the pages on arguments also what an argument is and what its text claims."""
     cites = {word for crate in CALLS for _, contract in contracts(crate) for word in re.findall(r"[\w'-]+", contract)}
     for path in sorted(CRATES.glob('pages*/specs/*.antt')):
         for crate, file, names in re.findall(r'^use Rattle\.(\w+)\.specs\.(\w+)(.*)$', path.read_text(), re.M):
             used = set(re.findall(r"[\w'-]+", names))
             argued = path.parts[-3] == 'pages_arguments' and crate in ('argue_claims', 'argue_texts')
-            told = file == 'declared' or crate not in crates() or crate.startswith('pages')
-            held = told or argued or used <= cites | {'number_of'}
+            held = file == 'declared' or crate not in crates() or crate.startswith('pages') or argued or used <= cites
             yield Check(str(path.relative_to(ROOT)), f'{crate}/specs/{file}: {used} stand in contracts', held)
 
 

@@ -13,7 +13,6 @@ use Rattle.std.proofs.Common.{Err}
 use Rattle.laws.specs.Choice.{pick, when, first_of, is_in}
 use Rattle.laws.proofs.Tests.{never, never_both, test, false_by, or-true, eq_or}
 use Rattle.paper_refusals.specs.declared.Fault as PF
-use Rattle.paper_refusals.specs.Numbers.{number_of}
 use Rattle.paper_nests.specs.declared.Dependence as DE
 use Rattle.paper_nests.specs.Nests.{Nest}
 use Rattle.paper_nests.specs.Loops.{is_do}
@@ -38,7 +37,7 @@ use Rattle.desk.specs.Desks.{desk_in, IsMade, state_fault, plan_fault, Fault, fa
 use Rattle.desk.specs.Says.{PlanSays, CountSays, MarkSays, WriteSays, ListSays, count_fault, write_fault}
 use Rattle.desk.specs.Says.{check_fault, marked, Mark, given, refused}
 use Rattle.call_list.specs.Lists.{all_deps}
-use Rattle.pages.specs.Demands.{In, HowMany, Own, Loop, GapOf, Paper, KeyOn, OutOfTurn}
+use Rattle.pages.specs.Demands.{In, HowMany, Own, Loop, GapOf, Paper, KeyOn, OutOfTurn, number_told}
 use Rattle.pages.specs.Numbers.{LoadNumber, PlaceNumber, ListNumber, FirstUncut, InTurn, points_on}
 use Rattle.pages.specs.Numbers.{PlanNumber, CountNumber, WriteNumber}
 use Rattle.pages.specs.Numbers.{Numbers}
@@ -51,7 +50,7 @@ use Rattle.pages.proofs.Loading.{load_is, is_load}
 use Rattle.pages.proofs.Placing.{place_is, is_place}
 use Rattle.pages.proofs.Listing.{is_list, one_list, is_uncut}
 use Rattle.pages.proofs.MoveNumbers.{put_kept, lift_kept, reached_standing, back_kept}
-use Rattle.pages.proofs.Turns.{turn_state, fault_in}
+use Rattle.pages.proofs.Turns.{turn_state, fault_in, numbered}
 use Rattle.pages.proofs.Kept.{paper_on, flags_of, key_there, has-nest, key_same, key_key, right, text_five}
 
 -- ---- turns
@@ -311,7 +310,7 @@ list_kept d xs a m t h =
 
 mark_kept
     : (d : DD.Desk) (t : List ℕ) (f : PF.Fault) → IsMade d → InTurn d → MarkSays d t (Err f)
-    → PlaceNumber (paper_on d) t (number_of f.refusal) f.line
+    → PlaceNumber (paper_on d) t (number_told f.refusal) f.line
 mark_kept d t f m turn h = ⊎_elim (λ z. absurd (given_so z)) (λ z. refused_so z) (eq_or g.number 0)
   where
     g : Placed
@@ -324,11 +323,12 @@ mark_kept d t f m turn h = ⊎_elim (λ z. absurd (given_so z)) (λ z. refused_s
         let w : ◌≡◌ {A = ℕ} 0 1 = cc (h ∙ e) in
         omega arith
 
-    refused_so : (g.number ≡ 0 → ⊥) → PlaceNumber (paper_on d) t (number_of f.refusal) f.line
+    refused_so : (g.number ≡ 0 → ⊥) → PlaceNumber (paper_on d) t (number_told f.refusal) f.line
     refused_so z =
         let e : marked (desk_in d) t ≡ refused (fault g.number g.place) =
         rw (eq-eqb (state_fault true (desk_in d)) 0 (in_turn d turn), ne_eqb g.number 0 z) in
-        let n : number_of f.refusal ≡ g.number = ap (λ (x : Mark). (fault_in x).number) (h ∙ e) in
+        let n : number_told f.refusal ≡ g.number =
+        sym (numbered f.refusal) ∙ ap (λ (x : Mark). (fault_in x).number) (h ∙ e) in
         let k : f.line ≡ g.place = ap (λ (x : Mark). (fault_in x).place) (h ∙ e) in
         subst (λ (j : ℕ). PlaceNumber (paper_on d) t j f.line) (sym n)
         (subst (λ (j : ℕ). PlaceNumber (paper_on d) t g.number j) (sym k)

@@ -1,6 +1,6 @@
 -- Demand 1 of the state: a refused call leaves desk and buffer as they were, and a call out of turn gets its number.
--- Main statements: `step_kept`, `unwritten`, `plan_early`, `mark_early`, `write_early`.
-use mathlib.Core.Path.{◌≡◌, refl, ◌∙◌, ap}
+-- Main statements: `step_kept`, `unwritten`, `plan_early`, `numbered`, `mark_early`, `write_early`.
+use mathlib.Core.Path.{◌≡◌, refl, sym, ◌∙◌, ap}
 use mathlib.Core.Bool.{true, false}
 use mathlib.Core.List.{List}
 use Prim.Native.Nat.{ℕ, zero, suc, ◌<◌}
@@ -11,6 +11,8 @@ use borrow.Author.Tests.{ne_eqb}
 use Rattle.std.proofs.Common.{Result, Ok, Err}
 use Rattle.laws.specs.Choice.{pick, when, first_of}
 use Rattle.paper_refusals.specs.declared.Fault as PF
+use Rattle.paper_refusals.specs.declared.Refusal.{Refusal}
+use Rattle.paper_refusals.specs.declared.Refusal.TheVariants as R
 use Rattle.paper_refusals.specs.Numbers.{number_of}
 use Rattle.paper_order.specs.Verdicts.{mark_of}
 use Rattle.paper_texts.specs.PlacementTexts.{key_text}
@@ -23,7 +25,7 @@ use Rattle.desk.specs.Desks.{Desk, desk_in, state_fault, plan_fault, Fault, faul
 use Rattle.desk.specs.Says.{PlanSays, MarkSays, WriteSays, mark_in, read_in, place_fault, write_fault, Mark, given, refused}
 use Rattle.desk.proofs.Made.{refused_keeps, plan_keeps}
 use Rattle.call_moves.specs.Says.{put_fault, lift_fault, back_fault, after_put, after_lift, after_back, MoveSays}
-use Rattle.pages.specs.Demands.{Step, OutOfTurn}
+use Rattle.pages.specs.Demands.{Step, OutOfTurn, number_told}
 
 pub move_kept
     : (number : ℕ) (after : Desk) (d : DD.Desk) (r : DS.Moved) → MoveSays number after d r → (r.number ≡ 0 → ⊥)
@@ -52,20 +54,44 @@ pub turn_state : (d : DD.Desk) (n : ℕ) → OutOfTurn d n → (state_fault true
 turn_state d n (OutOfTurn.no_nest z) = (rw z, omega arith)
 turn_state d n (OutOfTurn.no_key y z) = (rw (y, z), omega arith)
 
+-- the page's number of a refusal is the one that callers are told
+pub numbered : (r : Refusal) → number_of r ≡ number_told r
+numbered R.NoFrame = refl
+numbered R.WrongKind = refl
+numbered R.LatePoint = refl
+numbered R.Misplaced = refl
+numbered R.TooMany = refl
+numbered R.WrongPoint = refl
+numbered R.WrongOrder = refl
+numbered R.WrongGap = refl
+numbered R.ShortBuffer = refl
+numbered R.NoNest = refl
+numbered R.NoKey = refl
+numbered R.NothingMoved = refl
+numbered R.NoMoveLeft = refl
+numbered R.NotOneLoop = refl
+numbered R.Blocked = refl
+numbered R.BarredGap = refl
+numbered R.WrongTurns = refl
+numbered R.TooLarge = refl
+numbered R.WrongSize = refl
+numbered R.WrongSet = refl
+numbered R.Unheld = refl
+
 abbrev pub fault_in : Mark → Fault
 fault_in (refused f) = f
 fault_in (given v) = fault 0 0
 
 refused_is
     : (m : Result DV.Verdict PF.Fault) (n : ℕ) → mark_in m ≡ refused (fault n 0)
-    → (f : PF.Fault) × ((m ≡ Err f) × (number_of f.refusal ≡ n) × (f.line ≡ 0))
+    → (f : PF.Fault) × ((m ≡ Err f) × (number_told f.refusal ≡ n) × (f.line ≡ 0))
 refused_is (Ok v) n e = let q : ◌≡◌ {A = ℕ} 0 1 = cc e in absurd (omega arith)
 refused_is (Err f) n e =
-    (f, (refl, ap (λ (x : Mark). (fault_in x).number) e, ap (λ (x : Mark). (fault_in x).place) e))
+    (f, (refl, sym (numbered f.refusal) ∙ ap (λ (x : Mark). (fault_in x).number) e, ap (λ (x : Mark). (fault_in x).place) e))
 
 pub mark_early
     : (d : DD.Desk) (t : List ℕ) (m : Result DV.Verdict PF.Fault) (n : ℕ) → MarkSays d t m → OutOfTurn d n
-    → (f : PF.Fault) × ((m ≡ Err f) × (number_of f.refusal ≡ n) × (f.line ≡ 0))
+    → (f : PF.Fault) × ((m ≡ Err f) × (number_told f.refusal ≡ n) × (f.line ≡ 0))
 mark_early d t m n h o =
     let e = turn_state d n o in
     refused_is m n (h ∙ refusing (place_fault (desk_in d) t) n (by (state_fault true (desk_in d)) n e.0 e.1) e.1)

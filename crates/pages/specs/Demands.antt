@@ -1,9 +1,8 @@
 -- The three demands on one page, from nothing: in the words of 01 and of Darte and Schreiber (001), to be read in half
 -- an hour. `demands_kept` (proofs/Kept) proves the record `Demands` at the end.
 --
--- Of the project the page uses the structs and enums as the source declares them, `number_of`, the number of a refusal
--- as callers are told it, and the names of the contracts that the source attaches to the calls. No contract need be
--- read: whatever keeps it keeps what stands here.
+-- Of the project the page uses the structs and enums as the source declares them, and the names of the contracts that
+-- the source attaches to the calls. No contract need be read: whatever keeps it keeps what stands here.
 --
 --   EmptySays  Desk::empty, reset     MarkSays   mark_placement     PutSays   put_gap
 --   LoadSays   load_nest              WriteSays  write_key          LiftSays  lift_gap
@@ -23,7 +22,8 @@
 -- Points are 1 DO, 2 ENDDO, 3 statement. Frames are 17 s t (hexadecimal 11), 18 d s t (12), 19 g (13) and 33 g (21).
 use Rattle.std.specs.Prelude.{◌≡◌, true, false, List, [], ◌∷◌, ◌++◌, ◌⊎◌, ◌↔◌, ℕ, zero, suc, ◌+◌, ◌*◌, ◌/◌, ◌%◌, ◌^◌, ◌≤◌, ◌<◌, length, take, drop, get_or, Result, Ok, Err}
 use Rattle.paper_refusals.specs.declared.Fault.{Fault}
-use Rattle.paper_refusals.specs.Numbers.{number_of}
+use Rattle.paper_refusals.specs.declared.Refusal.{Refusal}
+use Rattle.paper_refusals.specs.declared.Refusal.TheVariants as R
 use Rattle.paper_nests.specs.declared.Dependence.{Dependence}
 use Rattle.paper_nests.specs.declared.Nest.{Nest}
 use Rattle.paper_placements.specs.declared.Counts.{Counts}
@@ -37,6 +37,32 @@ use Rattle.call_moves.specs.declared.Moved.{Moved}
 use Rattle.desk.specs.Desks.{IsMade, IsMadePlain}
 use Rattle.desk.specs.Says.{EmptySays, LoadSays, PlanSays, MarkSays, WriteSays, OverSays}
 use Rattle.call_moves.specs.Says.{PutSays, LiftSays, BackSays}
+
+-- ==== numbers of refusals
+
+-- the number of a refusal, as callers are told it
+abbrev pub number_told : Refusal → ℕ
+number_told R.NoFrame = 1
+number_told R.WrongKind = 2
+number_told R.LatePoint = 3
+number_told R.Misplaced = 4
+number_told R.TooMany = 5
+number_told R.WrongPoint = 6
+number_told R.WrongOrder = 7
+number_told R.WrongGap = 8
+number_told R.ShortBuffer = 9
+number_told R.NoNest = 10
+number_told R.NoKey = 11
+number_told R.NothingMoved = 12
+number_told R.NoMoveLeft = 13
+number_told R.NotOneLoop = 14
+number_told R.Blocked = 15
+number_told R.BarredGap = 16
+number_told R.WrongTurns = 17
+number_told R.TooLarge = 18
+number_told R.WrongSize = 19
+number_told R.WrongSet = 20
+number_told R.Unheld = 21
 
 -- ==== lists
 
@@ -345,7 +371,7 @@ pub record Demands : Type 0 where
   pub plan_turn : (d : Desk) (r : Reply) → PlanSays d r → d.loaded ≡ false → (r.number ≡ 10) × (r.line ≡ 0)
   pub mark_turn
       : (d : Desk) (t : List ℕ) (m : Result DV.Verdict Fault) (n : ℕ) → MarkSays d t m → OutOfTurn d n
-      → (f : Fault) × ((m ≡ Err f) × (number_of f.refusal ≡ n) × (f.line ≡ 0))
+      → (f : Fault) × ((m ≡ Err f) × (number_told f.refusal ≡ n) × (f.line ≡ 0))
   pub write_turn
       : (d : Desk) (out out' : List ℕ) (a : Answer) (n : ℕ) → WriteSays d out out' a → OutOfTurn d n
       → (a.number ≡ n) × (a.line ≡ 0)

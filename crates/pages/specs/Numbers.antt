@@ -10,7 +10,6 @@
 -- its number; Lowest takes the least of them. Numbers from the state come first. A number without a line has line 0.
 use Rattle.std.specs.Prelude.{◌≡◌, true, false, List, [], ◌∷◌, ◌++◌, ◌⊎◌, ℕ, suc, ◌*◌, ◌≤◌, ◌<◌, length, Err}
 use Rattle.paper_refusals.specs.declared.Fault.{Fault}
-use Rattle.paper_refusals.specs.Numbers.{number_of}
 use Rattle.paper_nests.specs.declared.Dependence.{Dependence}
 use Rattle.desk.specs.declared.Desk.{Desk}
 use Rattle.desk.specs.declared.PlainDesk.{PlainDesk}
@@ -21,7 +20,7 @@ use Rattle.desk.specs.Says.{EmptySays, LoadSays, PlanSays, CountSays, MarkSays, 
 use Rattle.call_moves.specs.Says.{PutSays, LiftSays, BackSays}
 use Rattle.call_list.specs.Lists.{all_deps}
 use Rattle.pages.specs.Demands.{At, In, HowMany, Loop, Own, OneLoop, GapOf, Paper, paper_in, Cut}
-use Rattle.pages.specs.Demands.{Line, Told, Means, Spells, Places, Reached, SetIn, KeyOn, OutOfTurn}
+use Rattle.pages.specs.Demands.{Line, Told, Means, Spells, Places, Reached, SetIn, KeyOn, OutOfTurn, number_told}
 
 -- 01, "Numbers from the input": on a line the lowest number decides
 pub record Lowest (Wrong : ℕ → Type 0) (n : ℕ) : Type 0 where
@@ -244,7 +243,7 @@ pub record Numbers : Type 0 where
   pub one_load : (t : List ℕ) (m i n k : ℕ) → LoadNumber t m i → LoadNumber t n k → (m ≡ n) × (i ≡ k)
   pub mark
       : (d : Desk) (t : List ℕ) (f : Fault) → Reached d → InTurn d → MarkSays d t (Err f)
-      → PlaceNumber (paper_in d.nest) t (number_of f.refusal) f.line
+      → PlaceNumber (paper_in d.nest) t (number_told f.refusal) f.line
   pub one_place
       : (p : Paper) (t : List ℕ) (m i n k : ℕ) → PlaceNumber p t m i → PlaceNumber p t n k → (m ≡ n) × (i ≡ k)
   -- the list: number and place; where it is accepted, the first that the key doesn't cut

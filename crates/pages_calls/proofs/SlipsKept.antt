@@ -14,7 +14,6 @@ use Rattle.std.proofs.Common.{Ok, Err}
 use Rattle.laws.specs.Choice.{when}
 use Rattle.laws.proofs.Tests.{eq_or}
 use Rattle.paper_refusals.specs.declared.Fault as PF
-use Rattle.paper_refusals.specs.Numbers.{number_of}
 use Rattle.paper_nests.specs.Nests.{Nest}
 use Rattle.paper_nests.specs.Stored.{nest_in}
 use Rattle.paper_lines.specs.Writing.{over}
@@ -32,11 +31,12 @@ use Rattle.call_slips.specs.Says.{SlipSays, slip_fault, candidate_slip, candidat
 use Rattle.call_slips.specs.Says.{examiner_fault, ExaminerSays}
 use Rattle.call_slips.proofs.Alike.{slip_alike}
 use Rattle.pages.specs.Demands as P
-use Rattle.pages.specs.Demands.{Paper, Frames, Lines, Places, Reached, KeyOn}
+use Rattle.pages.specs.Demands.{Paper, Frames, Lines, Places, Reached, KeyOn, number_told}
 use Rattle.pages.proofs.Placements.{nest_of, nest_of_paper}
 use Rattle.pages.proofs.Keys.{best-of}
 use Rattle.pages.proofs.Spelling.{lines_made}
 use Rattle.pages.proofs.Desks.{reached_made}
+use Rattle.pages.proofs.Turns.{numbered}
 use Rattle.pages.proofs.Kept.{paper_on, flags_of, key_same, key_key, right, demands_kept}
 use Rattle.pages_requests.proofs.Papers.{page_valid, key_loaded, key_state, nest_state, no_nest_state, turn_state}
 use Rattle.pages_calls.specs.Slips.{CandidateSlip, ExaminerSlip, Written, Refuses, Slips}
@@ -113,8 +113,8 @@ room-fault b d s slip room e x =
 
 -- Mark's refusal is that of the reading
 record Misread (d : DD.Desk) (s : List ℕ) (f : PF.Fault) : Type 0 where
-  bad : number_of f.refusal ≡ 0 → ⊥
-  number_is : (read_in (desk_in d) s).number ≡ number_of f.refusal
+  bad : number_told f.refusal ≡ 0 → ⊥
+  number_is : (read_in (desk_in d) s).number ≡ number_told f.refusal
   place_is : (read_in (desk_in d) s).place ≡ f.line
 
 misread
@@ -131,7 +131,8 @@ misread d key s f m k h =
     let e : marked (desk_in d) s ≡ refused (fault (read_in (desk_in d) s).number (read_in (desk_in d) s).place) =
     rw (eq-eqb (state_fault true (desk_in d)) 0 (key_state d m key k), ne_eqb (read_in (desk_in d) s).number 0 z) in
     let q = sym (h ∙ e) in
-    let number : (read_in (desk_in d) s).number ≡ number_of f.refusal = ap (λ (x : Mark). (fault_in x).number) q in
+    let number : (read_in (desk_in d) s).number ≡ number_told f.refusal =
+    ap (λ (x : Mark). (fault_in x).number) q ∙ numbered f.refusal in
     record { bad = λ y. z (number ∙ y); number_is = number; place_is = ap (λ (x : Mark). (fault_in x).place) q })
     (eq_or (read_in (desk_in d) s).number 0)
   where
@@ -254,8 +255,8 @@ slips_kept =
           let m = reached_made d q in
           let b = misread d key s f m k w in
           refuses_by (candidate_fault (desk_in d) s (length out)) (candidate_slip (desk_in d) s) out out' a
-          (number_of f.refusal) f.line h
-          (read_fault false d s (candidate_slip (desk_in d) s) (length out) (number_of f.refusal) f.line
+          (number_told f.refusal) f.line h
+          (read_fault false d s (candidate_slip (desk_in d) s) (length out) (number_told f.refusal) f.line
           (nest_state d (key_loaded d m k.planned)) b.number_is b.place_is b.bad)
           b.bad;
       examiner_faults =
@@ -263,8 +264,8 @@ slips_kept =
           let m = reached_made d q in
           let b = misread d key s f m k w in
           refuses_by (examiner_fault (desk_in d) s (length out)) (examiner_slip (desk_in d) s) out out' a
-          (number_of f.refusal) f.line h
-          (read_fault true d s (examiner_slip (desk_in d) s) (length out) (number_of f.refusal) f.line
+          (number_told f.refusal) f.line h
+          (read_fault true d s (examiner_slip (desk_in d) s) (length out) (number_told f.refusal) f.line
           (key_state d m key k) b.number_is b.place_is b.bad)
           b.bad;
       candidate = λ d s gs out out' a q l p h. candidate d q s gs out out' a p l h;

@@ -4,7 +4,6 @@
 -- cut.
 use Rattle.std.specs.Prelude.{◌≡◌, true, false, List, [], ◌∷◌, ◌++◌, ℕ, suc, ◌/◌, ◌%◌, ◌≤◌, ◌<◌, length, take, drop, Err}
 use Rattle.paper_refusals.specs.declared.Fault.{Fault}
-use Rattle.paper_refusals.specs.Numbers.{number_of}
 use Rattle.paper_nests.specs.declared.Dependence.{Dependence}
 use Rattle.paper_placements.specs.declared.Counts.{Counts}
 use Rattle.desk.specs.declared.Desk.{Desk}
@@ -12,7 +11,7 @@ use Rattle.desk.specs.declared.Answer.{Answer}
 use Rattle.desk.specs.Says.{MarkSays}
 use Rattle.call_slips.specs.Says.{CandidateSays, ExaminerSays}
 use Rattle.pages.specs.Demands.{In, HowMany, Loop, Own, GapOf, Paper, paper_in, Cut, Best, Frames, Lines, Places}
-use Rattle.pages.specs.Demands.{Reached, KeyOn, Uncut, Dearer, OutOfTurn}
+use Rattle.pages.specs.Demands.{Reached, KeyOn, Uncut, Dearer, OutOfTurn, number_told}
 use Rattle.pages_calls.specs.MissingRuns.{flags_in}
 
 -- the first uncut dependence in two bytes, high first; ffff for none
@@ -88,11 +87,11 @@ pub record Slips : Type 0 where
   pub candidate_faults
       : (d : Desk) (key s out out' : List ℕ) (a : Answer) (f : Fault) → Reached d → KeyOn d key
       → CandidateSays d s out out' a
-      → MarkSays d s (Err f) → Refuses (number_of f.refusal) f.line out out' a
+      → MarkSays d s (Err f) → Refuses (number_told f.refusal) f.line out out' a
   pub examiner_faults
       : (d : Desk) (key s out out' : List ℕ) (a : Answer) (f : Fault) → Reached d → KeyOn d key
       → ExaminerSays d s out out' a
-      → MarkSays d s (Err f) → Refuses (number_of f.refusal) f.line out out' a
+      → MarkSays d s (Err f) → Refuses (number_told f.refusal) f.line out out' a
   -- the slips; the candidate's needs no key
   pub candidate
       : (d : Desk) (s gs out out' : List ℕ) (a : Answer) → Reached d → d.loaded ≡ true

@@ -12,7 +12,6 @@ use Rattle.std.proofs.Common.{Result, Ok, Err}
 use Rattle.laws.specs.Choice.{pick, when, first_of}
 use Rattle.laws.proofs.Tests.{never_both, false_by}
 use Rattle.paper_refusals.specs.declared.Fault as PF
-use Rattle.paper_refusals.specs.Numbers.{number_of}
 use Rattle.paper_nests.specs.Nests.{Nest}
 use Rattle.paper_nests.specs.Valid.{is_valid}
 use Rattle.paper_nests.specs.Stored.{nest_in}
@@ -30,11 +29,12 @@ use Rattle.desk.specs.declared.Reply as DR
 use Rattle.desk.specs.declared.Verdict as DV
 use Rattle.desk.specs.Desks.{desk_in, IsMade, state_fault, Fault, fault}
 use Rattle.desk.specs.Says.{PlanSays, MarkSays, Mark, given, refused, mark_in, read_in}
-use Rattle.pages.specs.Demands.{OneLoop, Paper, Correct, Key, Planned, Since, KeyOn}
+use Rattle.pages.specs.Demands.{OneLoop, Paper, Correct, Key, Planned, Since, KeyOn, number_told}
 use Rattle.pages.proofs.Lists.{in_is, is-in}
 use Rattle.pages.proofs.Placements.{nest_of, nest_of_paper, correct_is}
 use Rattle.pages.proofs.Keys.{shaped, best-of, key-of}
 use Rattle.pages.proofs.Desks.{reached_made, since_made}
+use Rattle.pages.proofs.Turns.{numbered}
 use Rattle.pages.proofs.Kept.{paper_on, flags_of, key_same, key_key, right, demands_kept}
 use Rattle.pages_requests.specs.Barred.{Blocked, PlanNumber, Barred}
 use Rattle.pages_requests.specs.FirstKey.{Before}
@@ -110,16 +110,16 @@ fault_in (given v) = fault 0 0
 
 IsRefused-as
     : (m : Result DV.Verdict PF.Fault) (k l : ℕ) → mark_in m ≡ refused (fault k l)
-    → (f : PF.Fault) × ((m ≡ Err f) × (number_of f.refusal ≡ k) × (f.line ≡ l))
+    → (f : PF.Fault) × ((m ≡ Err f) × (number_told f.refusal ≡ k) × (f.line ≡ l))
 IsRefused-as (Ok v) k l e = let q : ◌≡◌ {A = ℕ} 0 1 = cc e in absurd (omega arith)
 IsRefused-as (Err f) k l e =
-    (f, (refl, ap (λ (x : Mark). (fault_in x).number) e, ap (λ (x : Mark). (fault_in x).place) e))
+    (f, (refl, sym (numbered f.refusal) ∙ ap (λ (x : Mark). (fault_in x).number) e, ap (λ (x : Mark). (fault_in x).place) e))
 
 module _ (d : DD.Desk) (m : IsMade d) (key : List ℕ) (k : KeyOn d key) where
   mark_refused
       : (t : List ℕ) (x : Result DV.Verdict PF.Fault) (e l : ℕ) → (read_in (desk_in d) t).number ≡ suc e
       → (read_in (desk_in d) t).place ≡ l
-      → MarkSays d t x → (f : PF.Fault) × ((x ≡ Err f) × (number_of f.refusal ≡ suc e) × (f.line ≡ l))
+      → MarkSays d t x → (f : PF.Fault) × ((x ≡ Err f) × (number_told f.refusal ≡ suc e) × (f.line ≡ l))
   mark_refused t x e l a b h =
       IsRefused-as x (suc e) l
       (h ∙

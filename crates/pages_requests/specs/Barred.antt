@@ -4,7 +4,6 @@
 -- `barred_kept` (proofs/BarredKept) proves it.
 use Rattle.std.specs.Prelude.{◌≡◌, Bool, true, false, List, [], ◌∷◌, ◌++◌, ℕ, suc, ◌≤◌, ◌<◌, length, Result, Err}
 use Rattle.paper_refusals.specs.declared.Fault.{Fault}
-use Rattle.paper_refusals.specs.Numbers.{number_of}
 use Rattle.paper_nests.specs.declared.Dependence.{Dependence}
 use Rattle.desk.specs.declared.Desk.{Desk}
 use Rattle.desk.specs.declared.Reply.{Reply}
@@ -12,7 +11,7 @@ use Rattle.desk.specs.declared.Verdict.{Verdict}
 use Rattle.desk.specs.Says.{LoadSays, PlanSays, MarkSays}
 use Rattle.pages.specs.Demands.{At, In, Rising, OneLoop, GapOf, Paper, paper_in, Correct, Key, Frames, Lines, Spells}
 use Rattle.pages.specs.Demands.{barriers}
-use Rattle.pages.specs.Demands.{Reached, Since, KeyOn}
+use Rattle.pages.specs.Demands.{Reached, Since, KeyOn, number_told}
 use Rattle.pages_requests.specs.FirstKey.{Before}
 
 -- some dependence has all its gaps barred
@@ -52,4 +51,4 @@ pub record Barred : Type 0 where
       : (d : Desk) (key t xs ys : List ℕ) (g : ℕ) (m : Result Verdict Fault) → Reached d → KeyOn d key
       → Lines t (barriers (xs ++ (g ∷ ys))) → Rising (length (paper_in d.nest).points) 0 (xs ++ (g ∷ []))
       → ((x : ℕ) → In x xs → In x (paper_in d.nest).barred → ⊥) → In g (paper_in d.nest).barred → MarkSays d t m
-      → (f : Fault) × ((m ≡ Err f) × (number_of f.refusal ≡ 16) × (f.line ≡ suc (length xs)))
+      → (f : Fault) × ((m ≡ Err f) × (number_told f.refusal ≡ 16) × (f.line ≡ suc (length xs)))
