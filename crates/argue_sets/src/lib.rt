@@ -88,9 +88,15 @@ fn number_line(chart: &Chart, reach: &[u16], sets: &mut [u16], e: Dependence, se
 fn later(last: Start, e: Dependence, i: usize, d: usize, f: usize) -> Start
     ensures { LaterSays d f last.at last.num (dep_in e) i result.at result.num }
 {
-    let carried = e.kind != paper_nests::INDEPENDENT && e.d as usize == d;
+    // One test after the other: every dependence passes here, and most are let go by the first.
+    if e.kind == paper_nests::INDEPENDENT {
+        return last;
+    }
+    if e.d as usize != d {
+        return last;
+    }
     let s = e.s as usize;
-    if carried && (e.t as usize) < f && last.at <= s {
+    if (e.t as usize) < f && last.at <= s {
         Start { at: s + 1, num: i }
     } else {
         last

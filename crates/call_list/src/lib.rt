@@ -83,7 +83,9 @@ pub fn step(desk: Desk, ends: Ends, found: Answer, e: Dependence, i: usize) -> A
         return found;
     }
     let end = ends.of[e.d as usize] as usize;
-    if let Err(refusal) = record_fault(desk.nest.points(), end, e) {
+    // The points in an array of their own: lent out of the desk, they would have the nest copied for each record.
+    let points = desk.nest.points;
+    if let Err(refusal) = record_fault(&points[..desk.nest.count], end, e) {
         return Answer {
             number: u8::from(refusal),
             line: i + 1,

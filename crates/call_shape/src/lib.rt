@@ -34,7 +34,9 @@ pub fn nest_shape(desk: Desk) -> Shape
     if !desk.loaded {
         return blank(Refusal::NoNest);
     }
-    shape_of(desk.nest.points())
+    // The points in an array of their own: lent out of the desk, they would have the nest copied.
+    let points = desk.nest.points;
+    shape_of(&points[..desk.nest.count])
 }
 
 // The shape of the points, in one pass over them and the tables of their loops.

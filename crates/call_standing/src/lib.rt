@@ -37,7 +37,9 @@ pub fn sitting_stands(desk: Desk) -> Standing
     }
     let sitting = desk.sitting;
     let placement = sitting.placement;
-    let table = paper_counts::counts_of(desk.nest.points(), placement);
+    // The points in an array of their own: lent out of the desk, they would have the nest copied.
+    let points = desk.nest.points;
+    let table = paper_counts::counts_of(&points[..desk.nest.count], placement);
     let counts = in_bytes(&table);
     let cuts = sitting.counts;
     Standing {

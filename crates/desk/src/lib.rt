@@ -186,7 +186,9 @@ pub fn loop_count(desk: Desk, point: usize) -> Answer
     if let Err(refusal) = key_fault(desk.loaded, desk.planned) {
         return refused(refusal);
     }
-    let points = desk.nest.points();
+    // The points in an array of their own: lent out of the desk, they would have the nest copied.
+    let points = desk.nest.points;
+    let points = &points[..desk.nest.count];
     if !paper_nests::is_do(points, point) {
         return refused(Refusal::WrongPoint);
     }

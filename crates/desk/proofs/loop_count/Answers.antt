@@ -7,7 +7,7 @@ pub count_of-requires : goal.count_of-requires
 count_of-requires c =
     let r = ready c.args.desk c.requires (sym c.in_default.ensures) in
     record {
-      points_value = rw c.points-points.ensures (r.shape, r.few);
+      points_value = (r.shape, r.few);
       d_value = sym c.is_do.ensures ∙ c.if-not-is_do.false;
-      words_value = rw c.points-points.ensures r.key-gaps;
+      words_value = r.key-gaps;
     }
