@@ -71,7 +71,7 @@ module _
     low : 0 < at heights d
     low = height_low ps w.charts.shape d (at heights d) is-do height
 
-    high : at heights d ≤ 8
+    pub high : at heights d ≤ 8
     high = height_high ps d (at heights d) height
 
     e_is : at ends d ≡ end_of ps d

@@ -29,7 +29,7 @@ module _ {table : List ℕ} {lo g r : ℕ} (l : LeastIn table lo g r) where
       (λ (z : g < i). let y : i ≡ g + 1 = omega arith in rw y q)
       (le_or i g)
 
-  least_less : get_or table (g + 1) 0 < r → LeastIn table lo (g + 1) (get_or table (g + 1) 0)
+  pub least_less : get_or table (g + 1) 0 < r → LeastIn table lo (g + 1) (get_or table (g + 1) 0)
   least_less h =
       record {
         at = g + 1;
@@ -39,7 +39,7 @@ module _ {table : List ℕ} {lo g r : ℕ} (l : LeastIn table lo g r) where
         least = up_to (get_or table (g + 1) 0) (omega arith) (omega arith);
       }
 
-  least_same : r ≤ get_or table (g + 1) 0 → LeastIn table lo (g + 1) r
+  pub least_same : r ≤ get_or table (g + 1) 0 → LeastIn table lo (g + 1) r
   least_same h =
       record {
         at = l.at;

@@ -143,7 +143,7 @@ among_next (x ∷ es) (suc i) next = inr (among_next es i next)
 
 -- an independent dependence: its frame, its line
 module _ (e : Dep) (kind : e.kind ≡ INDEPENDENT) where
-  line_frame : INDEPENDENT ∷ (e.s ∷ (e.t ∷ [])) ≡ dep_frame e
+  pub line_frame : INDEPENDENT ∷ (e.s ∷ (e.t ∷ [])) ≡ dep_frame e
   line_frame = rw kind
 
   pub line_length : length (line_text (dep_frame e)) ≡ 7
@@ -151,7 +151,7 @@ module _ (e : Dep) (kind : e.kind ≡ INDEPENDENT) where
 
 -- the same of a carried one
 module _ (e : Dep) (kind : e.kind ≡ INDEPENDENT → ⊥) where
-  ring_frame : CARRIED ∷ (e.d ∷ (e.s ∷ (e.t ∷ []))) ≡ dep_frame e
+  pub ring_frame : CARRIED ∷ (e.d ∷ (e.s ∷ (e.t ∷ []))) ≡ dep_frame e
   ring_frame = rw (ne_eqb e.kind INDEPENDENT kind)
 
   pub ring_length : length (line_text (dep_frame e)) ≡ 9

@@ -1,5 +1,5 @@
 -- What each way through the calls says of the reply.
--- Main statements: `calls_counted`; `placement_unread`, `placement_counted`.
+-- Main statements: `fault_turns`; `calls_counted`; `placement_unread`, `placement_counted`.
 use mathlib.Core.Path.{◌≡◌, refl, sym, ◌∙◌, ap, subst}
 use mathlib.Core.Bool.{Bool, true, false, not}
 use mathlib.Core.List.{List}
@@ -19,7 +19,7 @@ use Rattle.call_runs.specs.Says.{can_count, calls_fault, refusal, counted, calls
 use Rattle.call_runs.specs.Says.{Says, CallsSays, placement_fault, PlacementSays}
 
 -- 17, or none
-fault_turns
+pub fault_turns
     : (inner : ℕ) (x : Desk) (ts : List ℕ) → state_fault true x ≡ 0 → (t : Bool) → can_count inner x.nest_is ts ≡ t
     → calls_fault inner x ts ≡ when (not t) 17
 fault_turns inner x ts none t e =

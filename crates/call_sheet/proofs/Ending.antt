@@ -21,7 +21,7 @@ use Rattle.call_sheet.proofs.Latest.{latest_bound, latest_same, latest_plus}
 use Rattle.call_sheet.proofs.Sets.{Sized}
 
 -- a phase lies in the list
-row_in : (k n m : ℕ) → k < n → k * m + m ≤ n * m
+pub row_in : (k n m : ℕ) → k < n → k * m + m ≤ n * m
 row_in k n m h =
     let z : suc k * m ≤ n * m = mul-le-mul_right m h in
     omega (arith, suc-mul k m)

@@ -9,7 +9,7 @@ use Rattle.call_sheet.specs.Says.{ends_of, barriers_to}
 use Rattle.call_sheet.proofs.Sets.{sized_is}
 use Rattle.call_sheet.proofs.Ending.{barriers_end}
 
-abbrev reply : ℕ → ℕ → DE.RunEnds
+abbrev pub reply : ℕ → ℕ → DE.RunEnds
 reply w b = record { number = 0; line = 0; waiting = w; barriers = b }
 
 pub reply_ends :

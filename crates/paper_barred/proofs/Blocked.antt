@@ -1,9 +1,9 @@
 -- A nest is blocked, some dependence has all its gaps barred, exactly if it has no correct placement: where it is not,
 -- the placement of all unbarred gaps is correct.
 -- Main definition: `free_gaps`. Main statements: `free_correct`, `correct_open`, `blocked_iff`, `unbarred_open`,
--- `several_open`.
+-- `several_open`, `blocked_alike`.
 use mathlib.Core.Path.{◌≡◌, refl, sym, ◌∙◌}
-use mathlib.Core.Bool.{true, false}
+use mathlib.Core.Bool.{true, false, ◌&&◌}
 use mathlib.Core.List.{List, [], ◌∷◌}
 use mathlib.Core.Logic.{inl, inr, ◌↔◌}
 use Prim.Native.Nat.{ℕ, suc, ◌-◌, ◌<◌}
@@ -13,6 +13,7 @@ use Rattle.laws.specs.Choice.{is_in}
 use Rattle.laws.specs.Members.{Among}
 use Rattle.laws.proofs.Tests.{never_both, true_by}
 use Rattle.paper_nests.specs.Nests.{Dep, Nest}
+use Rattle.paper_nests.specs.Gaps.{has_gap}
 use Rattle.paper_nests.specs.Ring.{one_loop}
 use Rattle.paper_nests.specs.Valid.{is_shape, is_valid}
 use Rattle.paper_nests.proofs.Bars.{bars_alone}
@@ -22,8 +23,8 @@ use Rattle.paper_placements.specs.Placements.{cuts, are_gaps, is_free, avoids, i
 use Rattle.paper_placements.specs.Words.{gaps_of}
 use Rattle.paper_placements.proofs.Cuts.{gap_cuts, avoids_by, correct_by, correct_gaps, correct_avoids, correct_cuts}
 use Rattle.paper_placements.proofs.Rising.{rising_in, rising_wider}
-use Rattle.paper_placements.proofs.Words.{gaps_of_in, gaps_of_rising}
-use Rattle.paper_barred.specs.Reduced.{some_shut, is_blocked}
+use Rattle.paper_placements.proofs.Words.{gaps_of_same, gaps_of_in, gaps_of_rising}
+use Rattle.paper_barred.specs.Reduced.{open_gaps, some_shut, is_blocked}
 use Rattle.paper_barred.proofs.Reduced.{Open, open_by, cut_open}
 use Rattle.paper_barred.proofs.ReducedNest.{none_shut}
 
@@ -116,3 +117,15 @@ module _ (n : Nest) where
     -- so a nest of several loops is not blocked
     pub several_open : one_loop n.points ≡ false → is_blocked n ≡ false
     several_open several = unbarred_open (bars_alone n.points n.barred (valid_is n valid).all_bars several)
+
+-- which gaps are barred decides, not how they are listed
+pub blocked_alike
+    : (ps xs ys : List ℕ) (ds : List Dep)
+    → ((i : ℕ) → is_in i xs ≡ is_in i ys)
+    → some_shut ps xs ds ≡ some_shut ps ys ds
+blocked_alike ps xs ys [] same = refl
+blocked_alike ps xs ys (e ∷ es) same =
+    let gaps : open_gaps ps xs e ≡ open_gaps ps ys e =
+    gaps_of_same (λ g. has_gap ps e g && is_free xs g) (λ g. has_gap ps e g && is_free ys g) (length ps - 1) 1
+    (λ i a b. rw (same i)) in
+    rw (gaps, blocked_alike ps xs ys es same)

@@ -1,16 +1,19 @@
--- Rising lists of gaps: they are sets.
--- Main statements: `rising_in`, `rising_equal`.
-use mathlib.Core.Path.{◌≡◌, refl, sym, ◌∙◌}
-use mathlib.Core.Bool.{true, false, ◌&&◌}
+-- Rising lists of gaps: they are sets, and each is the list of some words.
+-- Main statements: `rising_in`, `rising_equal`, `words_of`, `words_hold`.
+use mathlib.Core.Path.{◌≡◌, refl, sym, ap, ◌∙◌}
+use mathlib.Core.Bool.{Bool, true, false, ◌&&◌, ◌||◌}
 use mathlib.Core.List.{List, [], ◌∷◌}
 use mathlib.Core.Logic.{◌⊎◌, inl, inr, ⊎_elim}
 use Prim.Native.Nat.{ℕ, ◌≤◌, ◌<◌}
 use native.Mathlib.Omega.{arith}
 use lib.Dec.{eqb, ltb}
+use lib.ListN.{length, length-set}
 use borrow.Author.Tests.{eqb-true, eq-eqb, ne_eqb, lt-ltb, ltb-true}
 use Rattle.laws.specs.Choice.{is_in}
 use Rattle.laws.proofs.Tests.{eq_or, or-true, and_true, false_by, never}
 use Rattle.paper_placements.specs.Placements.{are_gaps_from}
+use Rattle.paper_placements.specs.Words.{GAPS, holds}
+use Rattle.paper_placements.proofs.Words.{holds_empty, holds_put, put_in}
 
 -- the parts of a rising list
 pub record Rises (last n g : ℕ) (gs : List ℕ) : Type 0 where
@@ -93,6 +96,29 @@ rising_equal last n (u ∷ us) (v ∷ vs) p q h = go (rises last n u us p) (rise
             let x : is_in i (v ∷ vs) ≡ is_in i vs = rw (ne_eqb i v (λ w. z (w ∙ sym e))) in
             sym y ∙ h i ∙ x)
             (eq_or i u)
+
+-- the words of a list of gaps
+unfoldable pub words_of : List ℕ → List ℕ
+words_of [] = 0 ∷ (0 ∷ (0 ∷ (0 ∷ [])))
+words_of (g ∷ gs) = put_in (words_of gs) g
+
+pub words_length : (gs : List ℕ) → length (words_of gs) ≡ 4
+unfolding words_of put_in
+words_length [] = refl
+words_length (g ∷ gs) = simp length-set (words_length gs)
+
+pub words_hold : (last : ℕ) (gs : List ℕ) → are_gaps_from last GAPS gs ≡ true → (i : ℕ) → holds (words_of gs) i ≡ is_in i gs
+unfolding words_of
+words_hold last [] h i = holds_empty i
+words_hold last (g ∷ gs) h i = go (rises last GAPS g gs h) (words_hold g gs)
+  where
+    go
+        : Rises last GAPS g gs
+        → (are_gaps_from g GAPS gs ≡ true → (i : ℕ) → holds (words_of gs) i ≡ is_in i gs)
+        → holds (put_in (words_of gs) g) i ≡ (eqb i g || is_in i gs)
+    go r rest =
+        holds_put (words_of gs) g i (omega (arith, words_length gs, r.below)) ∙
+        ap (λ (b : Bool). eqb i g || b) (rest r.rest i)
 
 -- a bound may be raised
 pub rising_wider : (last m n : ℕ) (gs : List ℕ) → m ≤ n → are_gaps_from last m gs ≡ true → are_gaps_from last n gs ≡ true

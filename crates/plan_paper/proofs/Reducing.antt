@@ -1,6 +1,6 @@
 -- The dependences renumbered one by one, from the last to the first.
 -- Main definitions: `DepsFrom`, what a turn keeps; `Turn`, what it has. Main statements: `deps_start`, `reduce_done`,
--- `reduce_kept`, `reduce_stretch`, `reduce_shut`.
+-- `source_fits`, `target_fits`, `reduce_kept`, `reduce_stretch`, `reduce_shut`.
 use mathlib.Core.Path.{◌≡◌, refl, sym, ap, subst, ◌∙◌}
 use mathlib.Core.Bool.{Bool, true, false, ◌||◌}
 use mathlib.Core.List.{List, [], ◌∷◌}
@@ -243,10 +243,10 @@ module _ {n : DN.Nest} {ranks : List ℕ} {ys : List DE.Dependence} {i : ℕ} (w
   few : length (nest_in n).points ≤ POINTS
   few = (valid_is (nest_in n) w.valid).few_points
 
-  source_fits : (dep_at n.deps (i - 1)).s < POINTS
+  pub source_fits : (dep_at n.deps (i - 1)).s < POINTS
   source_fits = omega (arith, points_within.0, few)
 
-  target_fits : (dep_at n.deps (i - 1)).t < POINTS
+  pub target_fits : (dep_at n.deps (i - 1)).t < POINTS
   target_fits = omega (arith, points_within.1, few)
 
   abbrev from : ℕ

@@ -231,7 +231,8 @@ module _
         → ValuesRoom limit base d e first xs ys
         → Valuing limit base d e first xs ys cs₀ fs₀ m₀ p₀
         → e ≤ p
-        → ClosedSays limit base d e first xs ys cs fs e m
-    late_all {xs} {ys} room w all t tc tf =
+        → ClosedSays limit base d e first xs ys cs fs e m × FrontsIn d e fs e
+    late_all {xs} {ys} room w all =
+        let v = s.valuing xs ys room w in
         let z : p ≡ e = omega (arith, s.high) in
-        rw z at ((s.valuing xs ys room w).closed t tc tf)
+        (λ t tc tf. rw z at (v.closed t tc tf), rw z at v.fronts)

@@ -1,5 +1,5 @@
 -- A list of turns tested: the loops counted, the bounds held one by one.
--- Main statements: `dos_on`, `dos_skip`, `dos_counted`; `Tested`, what a turn keeps.
+-- Main statements: `dos_on`, `dos_skip`, `dos_few`, `dos_counted`; `Tested`, what a turn keeps.
 use mathlib.Core.Path.{◌≡◌, refl}
 use mathlib.Core.Bool.{Bool, true, false}
 use mathlib.Core.List.{List}
@@ -23,6 +23,16 @@ dos_on ps n d e h = rw (add-one d, h) (omega arith)
 pub dos_skip : (ps : List ℕ) (n d : ℕ) → n ≡ dos_before ps d → (get_or ps d 0 ≡ DO → ⊥) → n ≡ dos_before ps (d + 1)
 unfolding dos_before
 dos_skip ps n d e h = rw (add-one d, ne_eqb (get_or ps d 0) DO h) (omega arith)
+
+-- no more DOs than points
+pub dos_few : (ps : List ℕ) (k : ℕ) → dos_before ps k ≤ k
+unfolding dos_before
+dos_few ps zero = omega arith
+dos_few ps (suc k) = go (is_do ps k) (dos_few ps k)
+  where
+    go : (t : Bool) → dos_before ps k ≤ k → when t 1 + dos_before ps k ≤ suc k
+    go true h = omega arith
+    go false h = omega arith
 
 -- those before a point are the ones that a count of the points before it finds
 pub dos_counted : (ps : List ℕ) (k : ℕ) → k ≤ length ps → count_by (λ x. x == DO) (take k ps) ≡ dos_before ps k

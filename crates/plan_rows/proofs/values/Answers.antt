@@ -29,4 +29,4 @@ loop-q-2-preserved c =
 pub returns-clause-closed_says : goal.returns-clause-closed_says
 returns-clause-closed_says c =
     let y : c.loop-q.q ≡ c.max-late.result = omega arith in
-    late_all c.loop-q-2.invariant c.requires (rw y at c.loop-q.invariant.valuing) (omega arith)
+    (late_all c.loop-q-2.invariant c.requires (rw y at c.loop-q.invariant.valuing) (omega arith)).0
