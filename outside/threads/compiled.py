@@ -174,13 +174,14 @@ def sanitized(tally: Tally, programs: Programs, start: list[str]) -> None:
         desk = Desk()
         desk.load(text)
         wanted = uncut_of(desk, [int(gap) for gap in gaps.split(',') if gap])
-        source = programs.written(text, gaps)
+        source, told = programs.written(text, gaps), True
         for _ in range(TRIES):
             seen = programs.ran(source, *SANITIZED, start=(*start,))
             raced = {int(number) for number in re.findall("global 'dependence_([0-9]+)'", seen.err)}
+            told = told and said(seen, NOT_CUT) == wanted
             if not raced < {*wanted}:
                 break
-        well = sorted(raced) == wanted == said(seen, NOT_CUT) and seen.status == (66 if wanted else 0)
+        well = told and sorted(raced) == wanted and seen.status == (66 if wanted else 0)
         tally.check(f'sanitized, {gaps}', well, (text, wanted, raced, seen.status, seen.err[:200]))
 
 
